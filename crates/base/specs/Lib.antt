@@ -1,0 +1,5 @@
+pub mod Lists
+pub mod Search
+pub mod Below
+pub mod Words
+pub mod Bits

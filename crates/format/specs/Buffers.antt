@@ -1,0 +1,38 @@
+-- What an answer leaves in the lent buffers, and its values (document 01, "Buffers").
+use Prim.Native.Nat.{ℕ, _*_}
+use mathlib.Core.List.{List, [], _∷_, _++_}
+use lib.ListN.{length, drop, replicate}
+use Rattle.lgs.specs.Rule.{Interview}
+use Rattle.format.specs.Engine.{Answer, placed, next, refused}
+
+-- "used as student, workshop in the order visited"
+unfoldable pub flat : List Interview → List ℕ
+flat [] = []
+flat (v ∷ vs) = v .0 ∷ v .1 ∷ flat vs
+
+-- the list with its head replaced; "entries past the needed ones stay"
+abbrev pub withHead : List ℕ → List ℕ → List ℕ
+withHead new old = new ++ drop (length new) old
+
+-- "A placement fills places"; a next visit "leaves the places", and a refusal too
+unfoldable pub placesAfter : Answer → List ℕ → List ℕ
+placesAfter (placed places vs) old = withHead places old
+placesAfter (next s w vs) old = old
+placesAfter (refused k i) old = old
+
+-- a placement fills "the used head of the visits", and so does a next visit; a refusal leaves them
+unfoldable pub visitsAfter : Answer → List ℕ → List ℕ
+visitsAfter (placed places vs) old = withHead (flat vs) old
+visitsAfter (next s w vs) old = withHead (flat vs) old
+visitsAfter (refused k i) old = old
+
+-- "After each answer all scratch is zero, over its whole lent length", whatever it held; `nothing` is the zero entry
+abbrev pub scratchAfter : {A : Type 0} → A → List A → List A
+scratchAfter nothing old = replicate (length old) nothing
+
+-- The values of an answer: of a placement "the visit count", of a next visit "the pair and the count of visits already done", of a refusal
+-- its number and place.
+unfoldable pub values : Answer → List ℕ
+values (placed places vs) = length vs ∷ []
+values (next s w vs) = s ∷ w ∷ length vs ∷ []
+values (refused k i) = k ∷ i ∷ []

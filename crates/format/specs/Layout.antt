@@ -1,0 +1,128 @@
+-- The case and the book as bytes, and the market and the results that they hold (document 01, "The case and the book").
+use Prim.Native.Nat.{ℕ, zero, suc, _+_, _*_, _/_}
+use mathlib.Core.Bool.{Bool, _&&_}
+use mathlib.Core.List.{List}
+use lib.ListN.{length, getD}
+use lib.Dec.{eqb}
+use Rattle.base.specs.Lists.{tabulate, any, tally, find}
+use Rattle.base.specs.Words.{word, signed}
+use Rattle.lgs.specs.Market.{Market, Results}
+
+-- ---- The case: "records of 16 bytes, no header".
+
+-- "Byte 0 is the kind, byte 1 is zero, then 16-bit fields from byte 2."
+--   kind 1, student:  first = number,   second = stage,    third = line group
+--   kind 2, workshop: first = number,   second = quota,    third = line group
+--   kind 3, pair:     first = student,  second = workshop, third = the student's group for the workshop, fourth = the workshop's for the student
+pub record Row : Type 0 where
+  pub kind : ℕ
+  pub pad : ℕ  -- byte 1
+  pub first : ℕ  -- bytes 2 and 3
+  pub second : ℕ  -- bytes 4 and 5
+  pub third : ℕ  -- bytes 6 and 7
+  pub fourth : ℕ  -- bytes 8 and 9
+  pub rest : ℕ  -- bytes 10 to 15, as the sum of their three fields
+
+unfoldable pub rowAt : List ℕ → ℕ → Row
+rowAt bytes i =
+    let at = 16 * i in
+    record {
+      kind = getD bytes at 0;
+      pad = getD bytes (at + 1) 0;
+      first = word bytes (at + 2);
+      second = word bytes (at + 4);
+      third = word bytes (at + 6);
+      fourth = word bytes (at + 8);
+      rest = word bytes (at + 10) + word bytes (at + 12) + word bytes (at + 14);
+    }
+
+-- how many whole records the case has
+abbrev pub rowCount : List ℕ → ℕ
+rowCount case = length case / 16
+
+unfoldable pub rows : List ℕ → List Row
+rows case = tabulate (rowAt case) (rowCount case)
+
+-- what stands for a record that is not there
+abbrev pub noRow : Row
+noRow = record { kind = 0; pad = 0; first = 0; second = 0; third = 0; fourth = 0; rest = 0 }
+
+abbrev pub ofKind : ℕ → Row → Bool
+ofKind k r = eqb (r .kind) k
+
+-- the record of student s
+abbrev pub isStudent : ℕ → Row → Bool
+isStudent s r = eqb (r .kind) 1 && eqb (r .first) s
+
+-- the record of workshop w
+abbrev pub isWorkshop : ℕ → Row → Bool
+isWorkshop w r = eqb (r .kind) 2 && eqb (r .first) w
+
+-- the record of the pair of student s and workshop w
+abbrev pub isPair : ℕ → ℕ → Row → Bool
+isPair s w r = eqb (r .kind) 3 && (eqb (r .first) s && eqb (r .second) w)
+
+-- a for the outside option (0), and else what f gives
+abbrev pub outsideElse : ℕ → (ℕ → ℕ) → ℕ → ℕ
+outsideElse a f zero = a
+outsideElse a f (suc x) = f (suc x)
+
+-- The market: each person and pair by its record, and 0 where there is none.
+unfoldable pub marketOf : List Row → Market
+marketOf rs =
+    record {
+      students = tally (ofKind 1) rs;
+      workshops = tally (ofKind 2) rs;
+      stage = λ s. find (isStudent s) noRow rs .second;
+      quota = λ w. find (isWorkshop w) noRow rs .second;
+      paired = λ s w. any (isPair s w) rs;
+      studentTier = λ s. outsideElse (find (isStudent s) noRow rs .third) (λ w. find (isPair s w) noRow rs .third);
+      workshopTier = λ w. outsideElse (find (isWorkshop w) noRow rs .third) (λ s. find (isPair s w) noRow rs .fourth);
+    }
+
+-- ---- The book: "records of 8 bytes, no header, in any order".
+
+-- "student, workshop, the student's mark, the workshop's mark. Marks are signed 16-bit numbers"
+pub record Entry : Type 0 where
+  pub student : ℕ
+  pub workshop : ℕ
+  pub studentScore : ℕ  -- 32768 above its value, and so the next
+  pub workshopScore : ℕ
+
+unfoldable pub entryAt : List ℕ → ℕ → Entry
+entryAt bytes i =
+    let at = 8 * i in
+    record {
+      student = word bytes at;
+      workshop = word bytes (at + 2);
+      studentScore = signed bytes (at + 4);
+      workshopScore = signed bytes (at + 6);
+    }
+
+-- how many whole records the book has
+abbrev pub entryCount : List ℕ → ℕ
+entryCount book = length book / 8
+
+unfoldable pub entries : List ℕ → List Entry
+entries book = tabulate (entryAt book) (entryCount book)
+
+-- "none counts as 0"
+abbrev pub outsideScore : ℕ
+outsideScore = 32768
+
+-- what stands for a record that is not there
+abbrev pub noEntry : Entry
+noEntry = record { student = 0; workshop = 0; studentScore = 0; workshopScore = 0 }
+
+-- the record of the interview of student s with workshop w
+abbrev pub isInterview : ℕ → ℕ → Entry → Bool
+isInterview s w e = eqb (e .student) s && eqb (e .workshop) w
+
+-- The results: each interview by its first record.
+unfoldable pub resultsOf : List Entry → Results
+resultsOf es =
+    record {
+      met = λ s w. any (isInterview s w) es;
+      studentScore = λ s. outsideElse outsideScore (λ w. find (isInterview s w) noEntry es .studentScore);
+      workshopScore = λ w. outsideElse outsideScore (λ s. find (isInterview s w) noEntry es .workshopScore);
+    }

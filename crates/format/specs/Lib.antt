@@ -1,0 +1,7 @@
+pub mod Layout
+pub mod Refusals
+pub mod Engine
+pub mod Buffers
+pub mod Printed
+pub mod Promises
+pub mod Table

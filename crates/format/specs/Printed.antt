@@ -1,0 +1,68 @@
+-- What the program prints, as bytes of ASCII (document 01, "What the program prints").
+use Prim.Native.Nat.{ℕ, zero, suc, _+_, _/_, _%_}
+use mathlib.Core.Bool.{cond}
+use mathlib.Core.List.{List, [], _∷_, _++_}
+use lib.ListN.{length}
+use lib.Dec.{ltb}
+use Rattle.lgs.specs.Rule.{Interview}
+use Rattle.format.specs.Engine.{Answer, placed, next, refused}
+
+-- the decimal digits of n, in at most k places
+unfoldable pub digitsWithin : ℕ → ℕ → List ℕ
+digitsWithin zero n = []
+digitsWithin (suc k) n = cond (ltb n 10) ((48 + n) ∷ []) (digitsWithin k (n / 10) ++ ((48 + n % 10) ∷ []))
+
+-- the number n; n + 1 places hold it
+unfoldable pub decimal : ℕ → List ℕ
+decimal n = digitsWithin (suc n) n
+
+-- `place`, `visits`, `visit`, `next`, `refused`, `unread`
+abbrev pub placeWord : List ℕ
+placeWord = 112 ∷ 108 ∷ 97 ∷ 99 ∷ 101 ∷ []
+
+abbrev pub visitsWord : List ℕ
+visitsWord = 118 ∷ 105 ∷ 115 ∷ 105 ∷ 116 ∷ 115 ∷ []
+
+abbrev pub visitWord : List ℕ
+visitWord = 118 ∷ 105 ∷ 115 ∷ 105 ∷ 116 ∷ []
+
+abbrev pub nextWord : List ℕ
+nextWord = 110 ∷ 101 ∷ 120 ∷ 116 ∷ []
+
+abbrev pub refusedWord : List ℕ
+refusedWord = 114 ∷ 101 ∷ 102 ∷ 117 ∷ 115 ∷ 101 ∷ 100 ∷ []
+
+abbrev pub unreadWord : List ℕ
+unreadWord = 117 ∷ 110 ∷ 114 ∷ 101 ∷ 97 ∷ 100 ∷ []
+
+-- "one item a line": a word, then each number after a space, then a line feed
+unfoldable pub numbers : List ℕ → List ℕ
+numbers [] = 10 ∷ []
+numbers (n ∷ ns) = 32 ∷ (decimal n ++ numbers ns)
+
+abbrev pub lineOf : List ℕ → List ℕ → List ℕ
+lineOf word ns = word ++ numbers ns
+
+-- "a place line is student and workshop": the places of the students from s on
+unfoldable pub placeLines : ℕ → List ℕ → List ℕ
+placeLines s [] = []
+placeLines s (p ∷ ps) = lineOf placeWord (s ∷ p ∷ []) ++ placeLines (suc s) ps
+
+-- "a visit line likewise"
+unfoldable pub visitLines : List Interview → List ℕ
+visitLines [] = []
+visitLines (v ∷ vs) = lineOf visitWord (v .0 ∷ v .1 ∷ []) ++ visitLines vs
+
+-- the line with the count, and then a line for each visit
+unfoldable pub visitsText : List Interview → List ℕ
+visitsText vs = lineOf visitsWord (length vs ∷ []) ++ visitLines vs
+
+-- "A stopped run prints `next` with the pair, then the visits lines. A refusal prints `refused` with number and place."
+unfoldable pub printed : Answer → List ℕ
+printed (placed places vs) = placeLines 1 places ++ visitsText vs
+printed (next s w vs) = lineOf nextWord (s ∷ w ∷ []) ++ visitsText vs
+printed (refused k i) = lineOf refusedWord (k ∷ i ∷ [])
+
+-- "if one is missing or longer it prints only `unread`"
+unfoldable pub unread : List ℕ
+unread = lineOf unreadWord []

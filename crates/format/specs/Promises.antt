@@ -1,0 +1,182 @@
+-- The three demands, for every case and book in bytes and every room lent, and what shows that they are not empty. The proofs are in
+-- proofs/Promises.antt.
+use Prim.Native.Nat.{ℕ, _*_, _%_, _≤_, _<_}
+use mathlib.Core.Bool.{Bool, true, false}
+use mathlib.Core.Path.{_≡_}
+use mathlib.Core.Logic.{_⊎_}
+use mathlib.Core.Option.{none}
+use mathlib.Core.List.{List, [], _∷_, _++_, map}
+use mathlib.Core.List.{List·Memᴰ as Mem}
+use lib.ListN.{length}
+use Rattle.base.specs.Lists.{upto, any}
+use Rattle.lgs.specs.Market.{ConsistentStages}
+use Rattle.lgs.specs.Profiles.{Profile, StrictProfile, RespectsTiers, Fits, StudentOptimal}
+use Rattle.lgs.specs.Rule.{Interview, interviewed, State, going, stopped, finished, lazyGaleShapley}
+use Rattle.lgs.specs.Promises.{Listed, OptimalWhateverUnseen, MinimalInterviews, NextInterview, Begins, matchingOf}
+use Rattle.format.specs.Layout.{Entry, rows, entries, rowCount, entryCount, isInterview}
+use Rattle.format.specs.Refusals.{Room, badForm, badOrder, badCounts, badRange, badRoom, badPair, badScores, badRepeat, badTie, needed}
+use Rattle.format.specs.Engine.{Answer, placed, next, refused, engine, marketIn, resultsIn}
+
+-- ---- Demand 1: "every case and book in the layouts of document 01, with buffers of at least the stated lengths, gets the next visit or a
+-- finished placement, and the run ends. All other input gets one of eleven refusals with its record".
+
+-- i is the first of the places 0 to n - 1 that is bad
+pub record First (bad : ℕ → Bool) (n i : ℕ) : Type 0 where
+  pub within : i < n
+  pub found : bad i ≡ true
+  pub earlier : (k : ℕ) → k < i → bad k ≡ false
+
+module _ (case book : List ℕ) (room : Room) where
+  -- the table of causes: the cause with this number finds this place
+  pub data Cause : ℕ → ℕ → Type 0 where
+    caseLength : (length case % 16 ≡ 0 → ⊥) → Cause 1 0
+    form : (i : ℕ) → First (badForm (rows case)) (rowCount case) i → Cause 2 i
+    order : (i : ℕ) → First (badOrder (rows case)) (rowCount case) i → Cause 3 i
+    counts : badCounts (rows case) ≡ true → Cause 4 0
+    range : (i : ℕ) → First (badRange (rows case)) (rowCount case) i → Cause 5 i
+    short : badRoom (rows case) room ≡ true → Cause 6 0
+    bookLength : (length book % 8 ≡ 0 → ⊥) → Cause 7 0
+    pair : (i : ℕ) → First (badPair (rows case) (entries book)) (entryCount book) i → Cause 8 i
+    score : (i : ℕ) → First (badScores (rows case) (entries book)) (entryCount book) i → Cause 9 i
+    repeated : (i : ℕ) → First (badRepeat (rows case) (entries book)) (entryCount book) i → Cause 10 i
+    tie : (i : ℕ) → First (badTie (rows case) (entries book)) (entryCount book) i → Cause 11 i
+
+  -- no cause finds anything
+  abbrev pub Valid : Type 0
+  Valid = (k i : ℕ) → Cause k i → ⊥
+
+  -- the cause k finds the place i, and no earlier cause finds anything
+  pub record Refused (k i : ℕ) : Type 0 where
+    pub cause : Cause k i
+    pub earlier : (j l : ℕ) → j < k → Cause j l → ⊥
+
+-- the answer is a placement or a next interview
+pub data Answered : Answer → Type 0 where
+  withPlaces : (places : List ℕ) (vs : List Interview) → Answered (placed places vs)
+  withNext : (s w : ℕ) (vs : List Interview) → Answered (next s w vs)
+
+-- the rule's steps do not run out
+abbrev pub RunEnds : Type 0
+RunEnds =
+    (case book : List ℕ) (room : Room)
+    → Valid case book room
+    → (σ : State)
+    → lazyGaleShapley (marketIn case) (resultsIn book) ≡ going σ
+    → ⊥
+
+abbrev pub Demand1 : Type 0
+Demand1 =
+    (case book : List ℕ) (room : Room)
+    → (Valid case book room × Answered (engine case book room))
+    ⊎ ((k : ℕ) × (i : ℕ) × Refused case book room k i × (engine case book room ≡ refused k i))
+
+-- ---- Demand 2.
+
+-- "every strict order that fits the groups and the book"
+abbrev pub FitsBook : List ℕ → List ℕ → Profile → Type 0
+FitsBook case book O = Fits (marketIn case) (resultsIn book) (resultsIn book .met) O
+
+-- every record of the book is among those of the other
+abbrev pub ExtendsBook : List ℕ → List ℕ → Type 0
+ExtendsBook book book′ = (e : Entry) → Mem e (entries book) → Mem e (entries book′)
+
+-- the interviews that an answer lists
+abbrev pub interviewsOf : Answer → List Interview
+interviewsOf (placed places vs) = vs
+interviewsOf (next s w vs) = vs
+interviewsOf (refused k i) = []
+
+-- a finished placement
+pub record Demand2Placed (case book : List ℕ) (room : Room) (places : List ℕ) (vs : List Interview) : Type 0 where
+  pub whole : length places ≡ marketIn case .students
+  -- "stable, and no student does better in any other stable placement, under every strict order that fits the groups and the book"
+  pub optimal : (O : Profile) → FitsBook case book O → StudentOptimal (marketIn case) O (matchingOf places)
+  -- and under every one that fits the groups and the marks of the listed interviews
+  pub unseen : OptimalWhateverUnseen (marketIn case) (resultsIn book) places vs
+  -- "the visits listed .. are those of the staged rule"
+  pub rule : (p : ℕ → ℕ) × (lazyGaleShapley (marketIn case) (resultsIn book) ≡ finished p vs) × (places ≡ map p (upto (marketIn case .students)))
+  pub listed : Listed (marketIn case) (resultsIn book) vs
+
+-- a next interview
+pub record Demand2Next (case book : List ℕ) (room : Room) (s w : ℕ) (vs : List Interview) : Type 0 where
+  -- "the next visit named" is that of the staged rule
+  pub rule : lazyGaleShapley (marketIn case) (resultsIn book) ≡ stopped s w vs
+  pub stops : NextInterview (marketIn case) (resultsIn book) s w vs
+  -- it is the rule's first unanswered interview: with any valid book that extends this one and answers it, the interviews are the listed ones,
+  -- then this one
+  pub first : (book′ : List ℕ)
+      → Valid case book′ room
+      → ExtendsBook book book′
+      → any (isInterview s w) (entries book′) ≡ true
+      → Begins (vs ++ ((s, w) ∷ [])) (interviewsOf (engine case book′ room))
+
+pub record Demand2 : Type 0 where
+  pub placed : (case book : List ℕ) (room : Room) (places : List ℕ) (vs : List Interview)
+      → engine case book room ≡ placed places vs
+      → Demand2Placed case book room places vs
+  pub next : (case book : List ℕ) (room : Room) (s w : ℕ) (vs : List Interview)
+      → engine case book room ≡ next s w vs
+      → Demand2Next case book room s w vs
+
+-- ---- Demand 3: of "every finished run"; the smallest list where the stages agree.
+abbrev pub Demand3 : Type 0
+Demand3 =
+    (case book : List ℕ) (room : Room) (places : List ℕ) (vs : List Interview)
+    → engine case book room ≡ placed places vs
+    → MinimalInterviews (marketIn case) (resultsIn book) places vs
+
+-- ---- That these say something.
+
+-- a valid book has a full order that fits the groups and the book
+abbrev pub FitExists : Type 0
+FitExists = (case book : List ℕ) (room : Room) → Valid case book room → (O : Profile) × FitsBook case book O
+
+-- every full order that keeps the groups has a student-best placement, and only one
+abbrev pub OptimalExists : Type 0
+OptimalExists =
+    (case book : List ℕ) (room : Room)
+    → Valid case book room
+    → (O : Profile)
+    → StrictProfile (marketIn case) O
+    → RespectsTiers (marketIn case) O
+    → (μ : ℕ → ℕ)
+    × StudentOptimal (marketIn case) O μ
+    × ((ν : ℕ → ℕ) → StudentOptimal (marketIn case) O ν → (s : ℕ) → ν s ≡ μ s)
+
+-- "records for pairs that the run never visits are checked and otherwise unused": two valid books with the same records of the listed pairs,
+-- and both without the next one, have the same answer
+abbrev pub SameListed : List Interview → List ℕ → List ℕ → Type 0
+SameListed vs book book′ =
+    (e : Entry)
+    → interviewed vs (e .student) (e .workshop) ≡ true
+    → Mem e (entries book)
+    → Mem e (entries book′)
+
+pub record UnlistedUnused : Type 0 where
+  pub placed : (case book book′ : List ℕ) (room : Room) (places : List ℕ) (vs : List Interview)
+      → engine case book room ≡ placed places vs
+      → Valid case book′ room
+      → SameListed vs book book′
+      → engine case book′ room ≡ placed places vs
+  pub next : (case book book′ : List ℕ) (room : Room) (s w : ℕ) (vs : List Interview)
+      → engine case book room ≡ next s w vs
+      → Valid case book′ room
+      → SameListed vs book book′
+      → any (isInterview s w) (entries book′) ≡ false
+      → engine case book′ room ≡ next s w vs
+
+-- what an answer puts into the buffers fits the needed lengths
+pub record HeadsFit : Type 0 where
+  pub places : (case book : List ℕ) (room : Room) (places : List ℕ) (vs : List Interview)
+      → engine case book room ≡ placed places vs
+      → length places ≤ needed (rows case) .places
+  pub visits : (case book : List ℕ) (room : Room)
+      → 2 * length (interviewsOf (engine case book room)) ≤ needed (rows case) .visits
+
+-- a case and a book with agreeing stages and a finished run that lists more than the placed pairs
+pub record Example (case book : List ℕ) (room : Room) : Type 0 where
+  pub places : List ℕ
+  pub interviews : List Interview
+  pub answer : engine case book room ≡ placed places interviews
+  pub consistent : ConsistentStages (marketIn case)
+  pub unplaced : (s : ℕ) × (w : ℕ) × (interviewed interviews s w ≡ true) × (matchingOf places s ≡ w → ⊥)

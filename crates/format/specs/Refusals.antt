@@ -1,0 +1,163 @@
+-- The eleven refusals (document 01, "When the desk says no"). Each cause is a test on one record, given by its place, or on a whole file.
+use Prim.Native.Nat.{ℕ, suc, _+_, _-_, _*_, _%_}
+use mathlib.Core.Bool.{Bool, not, _&&_, _||_}
+use mathlib.Core.List.{List, [], _∷_}
+use mathlib.Core.Option.{Option, some, none}
+use lib.ListN.{length, getD, take}
+use lib.Dec.{ltb, eqb}
+use Rattle.base.specs.Lists.{total, any, tally}
+use Rattle.base.specs.Search.{firstBad, someIf}
+use Rattle.lgs.specs.Market.{Market}
+use Rattle.format.specs.Layout.{Row, Entry, noRow, noEntry, rows, entries, rowCount, entryCount, ofKind, isStudent, isWorkshop, isPair, isInterview, marketOf, outsideScore}
+
+-- the number is not from low to high
+abbrev pub notWithin : ℕ → ℕ → ℕ → Bool
+notWithin low high x = ltb x low || ltb high x
+
+-- the score is 0 or outside -1000 to 1000
+abbrev pub badScore : ℕ → Bool
+badScore x = eqb x outsideScore || notWithin 31768 33768 x
+
+-- the lengths of the lent buffers, in entries
+pub record Room : Type 0 where
+  pub places : ℕ
+  pub visits : ℕ
+  pub seats : ℕ
+  pub index : ℕ
+  pub states : ℕ
+
+module _ (rs : List Row) where
+  abbrev pub row : ℕ → Row
+  row i = getD rs i noRow
+
+  -- 2: "kind not 1 to 3, or a byte that should be zero": byte 1, bytes 8 and 9 of a student or workshop, and bytes 10 to 15
+  unfoldable pub badForm : ℕ → Bool
+  badForm i =
+      let r = row i in
+      notWithin 1 3 (r .kind)
+      || (not (eqb (r .pad) 0) || (not (eqb (r .rest) 0) || (not (eqb (r .kind) 3) && not (eqb (r .fourth) 0))))
+
+  -- 3: "kinds fall" from the record before; the first record has none before it and is compared with itself
+  unfoldable pub kindFalls : ℕ → Bool
+  kindFalls i = ltb (row i .kind) (row (i - 1) .kind)
+
+  -- 3: "a number out of sequence": a student or a workshop is one more than how many of its kind stand before
+  unfoldable pub badNumber : ℕ → Bool
+  badNumber i = not (eqb (row i .kind) 3) && not (eqb (row i .first) (suc (tally (ofKind (row i .kind)) (take i rs))))
+
+  -- 3: "pairs not rising", strictly "by student and then workshop"; a pair that is the first record also names nobody
+  unfoldable pub notRising : ℕ → Bool
+  notRising i =
+      let prev = row (i - 1) in
+      (eqb (row i .kind) 3 && eqb (prev .kind) 3)
+      && not
+      (ltb (prev .first) (row i .first) || (eqb (prev .first) (row i .first) && ltb (prev .second) (row i .second)))
+
+  -- 3: "a pair names nobody in an earlier record": its student or its workshop has no record before
+  unfoldable pub namesNobody : ℕ → Bool
+  namesNobody i =
+      eqb (row i .kind) 3
+      && (not (any (isStudent (row i .first)) (take i rs)) || not (any (isWorkshop (row i .second)) (take i rs)))
+
+  unfoldable pub badOrder : ℕ → Bool
+  badOrder i = (kindFalls i || badNumber i) || (notRising i || namesNobody i)
+
+  -- 4: "no student, over 512, no workshop, over 64"
+  unfoldable pub badCounts : Bool
+  badCounts = notWithin 1 512 (tally (ofKind 1) rs) || notWithin 1 64 (tally (ofKind 2) rs)
+
+  -- 5: "stage, quota, group or line out of range"
+  unfoldable pub badStudent : ℕ → Bool
+  badStudent i = eqb (row i .kind) 1 && (notWithin 1 512 (row i .second) || notWithin 1 65 (row i .third))
+
+  unfoldable pub badWorkshop : ℕ → Bool
+  badWorkshop i = eqb (row i .kind) 2 && (notWithin 0 512 (row i .second) || notWithin 1 513 (row i .third))
+
+  unfoldable pub badTiers : ℕ → Bool
+  badTiers i = eqb (row i .kind) 3 && (notWithin 1 65 (row i .third) || notWithin 1 513 (row i .fourth))
+
+  unfoldable pub badRange : ℕ → Bool
+  badRange i = badStudent i || (badWorkshop i || badTiers i)
+
+  -- the lengths needed (document 01, "Buffers"): places and states "one for each student", visits "two 16-bit entries per pair record",
+  -- seats "one 16-bit entry per seat of all quotas", index "one 16-bit entry per pair record"
+  unfoldable pub needed : Room
+  needed =
+      let M = marketOf rs in
+      let pairs = tally (ofKind 3) rs in
+      record {
+        places = M .students;
+        visits = 2 * pairs;
+        seats = total (M .quota) (M .workshops);
+        index = pairs;
+        states = M .students;
+      }
+
+  -- 6: "a lent buffer shorter than above"
+  unfoldable pub badRoom : Room → Bool
+  badRoom room =
+      ltb (room .places) (needed .places)
+      || (ltb (room .visits) (needed .visits)
+      || (ltb (room .seats) (needed .seats)
+      || (ltb (room .index) (needed .index) || ltb (room .states) (needed .states))))
+
+  module _ (es : List Entry) where
+    abbrev pub entry : ℕ → Entry
+    entry i = getD es i noEntry
+
+    -- 8: "book record without its pair"
+    unfoldable pub badPair : ℕ → Bool
+    badPair i = not (any (isPair (entry i .student) (entry i .workshop)) rs)
+
+    -- 9: "mark 0 or outside the range"
+    unfoldable pub badScores : ℕ → Bool
+    badScores i = badScore (entry i .studentScore) || badScore (entry i .workshopScore)
+
+    -- 10: "pair already in the book"
+    unfoldable pub badRepeat : ℕ → Bool
+    badRepeat i = any (isInterview (entry i .student) (entry i .workshop)) (take i es)
+
+    -- 11: "one person gave an equal mark earlier in the same group": the student of both records
+    unfoldable pub studentTies : Entry → Entry → Bool
+    studentTies e f =
+        let tier = marketOf rs .studentTier (e .student) in
+        eqb (f .student) (e .student)
+        && (eqb (tier (f .workshop)) (tier (e .workshop)) && eqb (f .studentScore) (e .studentScore))
+
+    -- 11: or the workshop of both records
+    unfoldable pub workshopTies : Entry → Entry → Bool
+    workshopTies e f =
+        let tier = marketOf rs .workshopTier (e .workshop) in
+        eqb (f .workshop) (e .workshop)
+        && (eqb (tier (f .student)) (tier (e .student)) && eqb (f .workshopScore) (e .workshopScore))
+
+    unfoldable pub badTie : ℕ → Bool
+    badTie i = any (λ f. studentTies (entry i) f || workshopTies (entry i) f) (take i es)
+
+-- ---- the causes, in the table's order, each with its number and the place that it found: the first bad record, or 0 for a whole file
+
+unfoldable pub causes : List ℕ → List ℕ → Room → List (ℕ × Option ℕ)
+causes case book room =
+    let rs = rows case in
+    let es = entries book in
+    (1, someIf (not (eqb (length case % 16) 0)) 0)
+    ∷ (2, firstBad (badForm rs) (rowCount case))
+    ∷ (3, firstBad (badOrder rs) (rowCount case))
+    ∷ (4, someIf (badCounts rs) 0)
+    ∷ (5, firstBad (badRange rs) (rowCount case))
+    ∷ (6, someIf (badRoom rs room) 0)
+    ∷ (7, someIf (not (eqb (length book % 8) 0)) 0)
+    ∷ (8, firstBad (badPair rs es) (entryCount book))
+    ∷ (9, firstBad (badScores rs es) (entryCount book))
+    ∷ (10, firstBad (badRepeat rs es) (entryCount book))
+    ∷ (11, firstBad (badTie rs es) (entryCount book))
+    ∷ []
+
+-- the first cause that found a place: its number and that place
+abbrev pub firstCause : List (ℕ × Option ℕ) → Option (ℕ × ℕ)
+firstCause [] = none
+firstCause (c ∷ cs) = elim (c .1) [ none ↦ firstCause cs | some i ↦ some (c .0, i) ]
+
+-- "Each cause is tested over its whole file before the next one, in this order."
+unfoldable pub refusal : List ℕ → List ℕ → Room → Option (ℕ × ℕ)
+refusal case book room = firstCause (causes case book room)

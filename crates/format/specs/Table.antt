@@ -1,0 +1,185 @@
+-- The table of proved cases (document 01), and a list of our own for the slips that it does not catch. proofs/Table.antt has the one proof that
+-- the definitions give them.
+use Prim.Native.Nat.{ℕ, _-_, _/_, _%_}
+use mathlib.Core.List.{List, [], _∷_, _++_, map}
+use lib.ListN.{length, take, replicate}
+use Rattle.lgs.specs.Rule.{Interview}
+use Rattle.format.specs.Refusals.{Room}
+use Rattle.format.specs.Engine.{Answer, placed, next, refused, engine}
+
+-- ---- bytes from fields
+
+-- 16-bit fields, low byte first
+unfoldable pub words : List ℕ → List ℕ
+words [] = []
+words (x ∷ xs) = x % 256 ∷ x / 256 ∷ words xs
+
+-- a record of the case: kind and fields, filled up with zeros to 16 bytes
+unfoldable pub caseRecord : ℕ → List ℕ → List ℕ
+caseRecord kind fields = kind ∷ 0 ∷ words fields ++ replicate (14 - length (words fields)) 0
+
+unfoldable pub concat : List (List ℕ) → List ℕ
+concat [] = []
+concat (x ∷ xs) = x ++ concat xs
+
+-- a case by the fields of its students, workshops and pairs
+unfoldable pub caseOf : List (List ℕ) → List (List ℕ) → List (List ℕ) → List ℕ
+caseOf students workshops pairs = concat (map (caseRecord 1) students ++ map (caseRecord 2) workshops ++ map (caseRecord 3) pairs)
+
+-- a book by the fields of its records
+unfoldable pub bookOf : List (List ℕ) → List ℕ
+bookOf records = concat (map words records)
+
+-- the field of the mark -x
+abbrev pub neg : ℕ → ℕ
+neg x = 65536 - x
+
+-- fields
+abbrev pub f3 : ℕ → ℕ → ℕ → List ℕ
+f3 a b c = a ∷ b ∷ c ∷ []
+
+abbrev pub f4 : ℕ → ℕ → ℕ → ℕ → List ℕ
+f4 a b c d = a ∷ b ∷ c ∷ d ∷ []
+
+-- ---- example K, with what its variants change: the quotas, and the line group of workshop 2
+
+unfoldable pub studentsK : List (List ℕ)
+studentsK = f3 1 1 2 ∷ f3 2 2 2 ∷ f3 3 2 2 ∷ []
+
+unfoldable pub workshopsK : ℕ → ℕ → ℕ → List (List ℕ)
+workshopsK q1 q2 line2 = f3 1 q1 3 ∷ f3 2 q2 line2 ∷ []
+
+unfoldable pub pairsK : List (List ℕ)
+pairsK = f4 1 1 1 1 ∷ f4 1 2 1 1 ∷ f4 2 1 1 2 ∷ f4 2 2 1 2 ∷ f4 3 1 1 2 ∷ f4 3 2 2 2 ∷ []
+
+unfoldable pub caseWith : ℕ → ℕ → ℕ → List ℕ
+caseWith q1 q2 line2 = caseOf studentsK (workshopsK q1 q2 line2) pairsK
+
+-- student 1's mark for workshop 1, workshop 2's marks for 1 and 2, student 3's mark for workshop 2, and workshop 2's mark for 3
+unfoldable pub bookWith : ℕ → ℕ → ℕ → ℕ → ℕ → List ℕ
+bookWith m11 w21 w22 m32 w23 = bookOf (f4 1 1 m11 3 ∷ f4 1 2 2 w21 ∷ f4 2 2 (neg 1) w22 ∷ f4 3 2 m32 w23 ∷ [])
+
+unfoldable pub K : List ℕ
+K = caseWith 1 1 3
+
+unfoldable pub bookK : List ℕ
+bookK = bookWith 5 4 1 4 6
+
+unfoldable pub visitsK : List Interview
+visitsK = (1, 1) ∷ (1, 2) ∷ (2, 2) ∷ (3, 2) ∷ []
+
+unfoldable pub answerK : Answer
+answerK = placed (1 ∷ 0 ∷ 2 ∷ []) visitsK
+
+-- the lines that the program prints for K
+unfoldable pub printedK : List ℕ
+printedK =
+    112 ∷ 108 ∷ 97 ∷ 99 ∷ 101 ∷ 32 ∷ 49 ∷ 32 ∷ 49 ∷ 10  -- place 1 1
+    ∷ 112 ∷ 108 ∷ 97 ∷ 99 ∷ 101 ∷ 32 ∷ 50 ∷ 32 ∷ 48 ∷ 10  -- place 2 0
+    ∷ 112 ∷ 108 ∷ 97 ∷ 99 ∷ 101 ∷ 32 ∷ 51 ∷ 32 ∷ 50 ∷ 10  -- place 3 2
+    ∷ 118 ∷ 105 ∷ 115 ∷ 105 ∷ 116 ∷ 115 ∷ 32 ∷ 52 ∷ 10  -- visits 4
+    ∷ 118 ∷ 105 ∷ 115 ∷ 105 ∷ 116 ∷ 32 ∷ 49 ∷ 32 ∷ 49 ∷ 10  -- visit 1 1
+    ∷ 118 ∷ 105 ∷ 115 ∷ 105 ∷ 116 ∷ 32 ∷ 49 ∷ 32 ∷ 50 ∷ 10  -- visit 1 2
+    ∷ 118 ∷ 105 ∷ 115 ∷ 105 ∷ 116 ∷ 32 ∷ 50 ∷ 32 ∷ 50 ∷ 10  -- visit 2 2
+    ∷ 118 ∷ 105 ∷ 115 ∷ 105 ∷ 116 ∷ 32 ∷ 51 ∷ 32 ∷ 50 ∷ 10  -- visit 3 2
+    ∷ []
+
+-- a case, a book, and the answer to them
+pub record Line : Type 0 where
+  pub case : List ℕ
+  pub book : List ℕ
+  pub answer : Answer
+
+abbrev pub line : List ℕ → List ℕ → Answer → Line
+line case book answer = record { case = case; book = book; answer = answer }
+
+-- ---- document 01's fifteen
+
+unfoldable pub table : List Line
+table =
+    line K bookK answerK
+    ∷ line K [] (next 1 1 [])
+    ∷ line K (take 16 bookK) (next 2 2 ((1, 1) ∷ (1, 2) ∷ []))
+    ∷ line K (bookWith 5 4 7 4 6) (placed (1 ∷ 2 ∷ 0 ∷ []) visitsK)
+    ∷ line K (bookWith 5 4 1 (neg 4) 6) (placed (1 ∷ 2 ∷ 0 ∷ []) visitsK)
+    ∷ line (caseWith 0 1 3) bookK (placed (2 ∷ 0 ∷ 0 ∷ []) ((1, 2) ∷ []))
+    ∷ line (caseWith 1 2 3) bookK (placed (1 ∷ 2 ∷ 2 ∷ []) visitsK)
+    ∷ line (caseOf studentsK (workshopsK 1 1 3) []) [] (placed (0 ∷ 0 ∷ 0 ∷ []) [])
+    ∷ line (caseWith 1 1 2) (bookWith 5 4 1 4 (neg 6)) (placed (1 ∷ 2 ∷ 0 ∷ []) visitsK)
+    ∷ line K (bookWith 5 1 1 4 6) answerK
+    ∷ line K (bookWith 5 4 1 4 1) (refused 11 3)
+    ∷ line K (bookWith 1000 4 1 4 6) answerK
+    ∷ line K (bookWith 1001 4 1 4 6) (refused 9 0)
+    ∷ line [] [] (refused 4 0)
+    ∷ line (take 15 K) [] (refused 1 0)
+    ∷ []
+
+-- ---- our own: a slip for each, that the fifteen do not catch
+
+-- one student and one workshop, one seat
+abbrev pub two : List ℕ → List ℕ → List (List ℕ) → List ℕ
+two s w pairs = caseOf (s ∷ []) (w ∷ []) pairs
+
+unfoldable pub ownTable : List Line
+ownTable =
+    -- a negative mark outside the line group is no refusal
+    line (two (f3 1 1 1) (f3 1 1 2) (f4 1 1 1 1 ∷ [])) (bookOf (f4 1 1 1 (neg 1) ∷ [])) (placed (1 ∷ []) ((1, 1) ∷ []))
+    -- a workshop with a free seat is deleted for nobody
+    ∷ line (caseOf (f3 1 1 1 ∷ f3 2 1 1 ∷ []) (f3 1 2 2 ∷ []) (f4 1 1 1 1 ∷ f4 2 1 1 2 ∷ [])) (bookOf (f4 1 1 1 1 ∷ []))
+    (next 2 1 ((1, 1) ∷ []))
+    -- marks of two groups are not compared
+    ∷ line (caseOf (f3 1 1 2 ∷ f3 2 1 2 ∷ []) (f3 1 1 3 ∷ []) (f4 1 1 1 2 ∷ f4 2 1 1 1 ∷ [])) (bookOf (f4 1 1 1 5 ∷ f4 2 1 1 1 ∷ []))
+    (placed (0 ∷ 1 ∷ []) ((1, 1) ∷ (2, 1) ∷ []))
+    -- the next group is opened only when nothing is open; groups may have gaps
+    ∷ line (caseOf (f3 1 1 9 ∷ []) (f3 1 1 2 ∷ f3 2 1 2 ∷ []) (f4 1 1 3 1 ∷ f4 1 2 7 1 ∷ [])) (bookOf (f4 1 1 (neg 5) 1 ∷ []))
+    (placed (1 ∷ []) ((1, 1) ∷ []))
+    -- stages come before numbers
+    ∷ line (caseOf (f3 1 2 2 ∷ f3 2 1 2 ∷ []) (f3 1 2 3 ∷ []) (f4 1 1 1 1 ∷ f4 2 1 1 1 ∷ [])) [] (next 2 1 [])
+    -- a mark below 0 of the student in her line group leaves her without a place, and the visit stays on the list
+    ∷ line (two (f3 1 1 1) (f3 1 1 1) (f4 1 1 1 1 ∷ [])) (bookOf (f4 1 1 (neg 1) 1 ∷ [])) (placed (0 ∷ []) ((1, 1) ∷ []))
+    -- a workshop's mark below 0 in its line group is a no
+    ∷ line (two (f3 1 1 1) (f3 1 1 1) (f4 1 1 1 1 ∷ [])) (bookOf (f4 1 1 1 (neg 1) ∷ [])) (placed (0 ∷ []) ((1, 1) ∷ []))
+    -- a workshop beyond the student's line is never visited, nor a student beyond the workshop's line
+    ∷ line (two (f3 1 1 1) (f3 1 1 1) (f4 1 1 2 1 ∷ [])) [] (placed (0 ∷ []) [])
+    ∷ line (two (f3 1 1 1) (f3 1 1 1) (f4 1 1 1 2 ∷ [])) [] (placed (0 ∷ []) [])
+    -- each refusal that the fifteen lack, at its first record
+    ∷ line (two (f3 1 1 1) (1 ∷ 1 ∷ 1 ∷ 7 ∷ []) []) [] (refused 2 1)
+    ∷ line (caseRecord 4 (f3 1 1 1)) [] (refused 2 0)
+    ∷ line (two (f3 1 1 1) (f3 2 1 1) []) [] (refused 3 1)
+    ∷ line (caseOf (f3 1 1 1 ∷ []) [] (f4 1 1 1 1 ∷ [])) [] (refused 3 1)
+    ∷ line (two (f3 1 1 1) (f3 1 1 1) (f4 1 1 1 1 ∷ f4 1 1 1 1 ∷ [])) [] (refused 3 3)
+    ∷ line (caseOf (f3 1 1 1 ∷ []) [] []) [] (refused 4 0)
+    ∷ line (two (f3 1 513 1) (f3 1 1 1) []) [] (refused 5 0)
+    ∷ line (two (f3 1 1 1) (f3 1 513 1) []) [] (refused 5 1)
+    ∷ line (two (f3 1 1 1) (f3 1 1 1) (f4 1 1 66 1 ∷ [])) [] (refused 5 2)
+    ∷ line (two (f3 1 1 1) (f3 1 1 1) []) (1 ∷ []) (refused 7 0)
+    ∷ line (two (f3 1 1 1) (f3 1 1 1) []) (bookOf (f4 1 1 1 1 ∷ [])) (refused 8 0)
+    ∷ line K (bookOf (f4 1 1 5 3 ∷ f4 1 2 2 0 ∷ [])) (refused 9 1)
+    ∷ line K (bookOf (f4 1 1 5 3 ∷ f4 1 1 4 2 ∷ [])) (refused 10 1)
+    -- causes in order: a book record without its pair comes before a bad mark in an earlier record
+    ∷ line K (bookOf (f4 1 1 0 3 ∷ f4 1 9 2 2 ∷ [])) (refused 8 1)
+    ∷ []
+
+-- room enough for each of these
+unfoldable pub ample : Room
+ample = record { places = 3; visits = 12; seats = 3; index = 6; states = 3 }
+
+-- K needs three places, twelve visits, two seats, six index entries and three states; each buffer one short
+unfoldable pub exact : Room
+exact = record { places = 3; visits = 12; seats = 2; index = 6; states = 3 }
+
+unfoldable pub shortRooms : List Room
+shortRooms =
+    record { places = 2; visits = 12; seats = 2; index = 6; states = 3 }
+    ∷ record { places = 3; visits = 11; seats = 2; index = 6; states = 3 }
+    ∷ record { places = 3; visits = 12; seats = 1; index = 6; states = 3 }
+    ∷ record { places = 3; visits = 12; seats = 2; index = 5; states = 3 }
+    ∷ record { places = 3; visits = 12; seats = 2; index = 6; states = 2 }
+    ∷ []
+
+-- what the engine answers to the lines, and what it should
+unfoldable pub given : List Line → List Answer
+given ls = map (λ (l : Line). engine (l .case) (l .book) ample) ls
+
+unfoldable pub expected : List Line → List Answer
+expected ls = map (λ (l : Line). l .answer) ls

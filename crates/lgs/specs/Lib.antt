@@ -1,0 +1,4 @@
+pub mod Market
+pub mod Rule
+pub mod Profiles
+pub mod Promises

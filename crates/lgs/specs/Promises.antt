@@ -1,0 +1,88 @@
+-- What the answers of the staged rule promise, for a market and the results of interviews: the statements of demands 2 and 3.
+use Prim.Native.Nat.{ℕ, zero, suc, _≤_, _<_}
+use mathlib.Core.Bool.{Bool, true, false, _&&_}
+use mathlib.Core.Path.{_≡_}
+use mathlib.Core.List.{List, [], _∷_, _++_}
+use lib.ListN.{length, getD}
+use Rattle.base.specs.Lists.{count, total}
+use Rattle.lgs.specs.Market.{Market, Results, ConsistentStages}
+use Rattle.lgs.specs.Profiles.{Profile, Fits, StudentOptimal, Determined}
+use Rattle.lgs.specs.Rule.{Interview, interviewed, Step, going, stopped, finished, lazyGaleShapley}
+
+-- the matching that a list of places stands for: student s has entry s - 1, and nobody else has a place
+abbrev pub matchingOf : List ℕ → ℕ → ℕ
+matchingOf places zero = 0
+matchingOf places (suc s) = getD places s 0
+
+-- no interview is listed twice
+abbrev pub NoRepeats : List Interview → Type 0
+NoRepeats [] = Unit {0}
+NoRepeats (v ∷ vs) = (interviewed vs (v .0) (v .1) ≡ false) × NoRepeats vs
+
+-- how many pairs with a pair record the set has
+unfoldable pub pairsIn : Market → (ℕ → ℕ → Bool) → ℕ
+pairsIn M Vs = total (λ s. count (λ w. M .paired s w && Vs s w) (M .workshops)) (M .students)
+
+-- the second list begins with the first
+abbrev pub Begins : List Interview → List Interview → Type 0
+Begins us vs = (rest : List Interview) × (vs ≡ us ++ rest)
+
+module _ (M : Market) (B : Results) where
+  -- the listed interviews have a pair record and a book record, and none is listed twice
+  pub record Listed (vs : List Interview) : Type 0 where
+    pub pair : (s w : ℕ) → interviewed vs s w ≡ true → M .paired s w ≡ true
+    pub answered : (s w : ℕ) → interviewed vs s w ≡ true → B .met s w ≡ true
+    pub once : NoRepeats vs
+
+  -- Demand 2: the placement is "stable, and no student does better in any other stable placement, under every strict order that fits the
+  -- groups and the book". More than that: under every order that fits the groups and the marks of the listed interviews alone.
+  pub record OptimalWhateverUnseen (places : List ℕ) (vs : List Interview) : Type 0 where
+    pub optimal : (O : Profile) → Fits M B (interviewed vs) O → StudentOptimal M O (matchingOf places)
+
+  -- Demand 3. "Let the results come from any full order that fits the groups and the book."
+  pub record MinimalInterviews (places : List ℕ) (vs : List Interview) : Type 0 where
+    -- "Our list is itself such a set": it makes its holder sure of this placement, and it holds every placed pair
+    pub determined : (O : Profile) → Fits M B (B .met) O → Determined M (interviewed vs) O (matchingOf places)
+    pub placed : (s : ℕ) → 0 < matchingOf places s → interviewed vs s (matchingOf places s) ≡ true
+    -- "every set of visits that makes its holder sure of the student-best placement, and that holds every placed pair, holds every visit on
+    -- our list", and so "has at least as many visits as the count we return"
+    pub minimal : ConsistentStages M
+        → (O : Profile)
+        → Fits M B (B .met) O
+        → (Vs : ℕ → ℕ → Bool) (μ : ℕ → ℕ)
+        → Determined M Vs O μ
+        → ((s : ℕ) → 0 < matchingOf places s → Vs s (matchingOf places s) ≡ true)
+        → ((s w : ℕ) → interviewed vs s w ≡ true → Vs s w ≡ true) × (length vs ≤ pairsIn M Vs)
+
+  -- an answer with a placement
+  pub record Placed (places : List ℕ) (vs : List Interview) : Type 0 where
+    pub whole : length places ≡ M .students
+    pub optimal : OptimalWhateverUnseen places vs
+    pub listed : Listed vs
+    pub minimal : MinimalInterviews places vs
+
+  -- the interviews that a run has held
+  abbrev pub interviewsIn : Step → List Interview
+  interviewsIn (going σ) = σ .interviews
+  interviewsIn (stopped s w vs) = vs
+  interviewsIn (finished p vs) = vs
+
+-- B′ has every record of B
+pub record Extends (B B′ : Results) : Type 0 where
+  pub met : (s w : ℕ) → B .met s w ≡ true → B′ .met s w ≡ true
+  pub student : (s w : ℕ) → B .met s w ≡ true → B′ .studentScore s w ≡ B .studentScore s w
+  pub workshop : (s w : ℕ) → B .met s w ≡ true → B′ .workshopScore w s ≡ B .workshopScore w s
+  pub studentOutside : (s : ℕ) → B′ .studentScore s 0 ≡ B .studentScore s 0
+  pub workshopOutside : (w : ℕ) → B′ .workshopScore w 0 ≡ B .workshopScore w 0
+
+-- an answer with a next interview
+pub record NextInterview (M : Market) (B : Results) (s w : ℕ) (vs : List Interview) : Type 0 where
+  pub pair : M .paired s w ≡ true
+  pub unanswered : B .met s w ≡ false
+  pub listed : Listed M B vs
+  pub unlisted : interviewed vs s w ≡ false
+  -- it is the first unanswered interview of the rule: with any fuller results that answer it, the rule holds the listed interviews, then it
+  pub first : (B′ : Results)
+      → Extends B B′
+      → B′ .met s w ≡ true
+      → Begins (vs ++ ((s, w) ∷ [])) (interviewsIn M B′ (lazyGaleShapley M B′))
