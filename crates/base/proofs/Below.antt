@@ -1,21 +1,29 @@
 -- From the definitions' lists of records to the code's numbers: `getD`, `take`, `any`, `tally` and a first match of `tabulate f n`, by `f`.
 use Prim.Native.Nat.{ℕ, zero, suc, _+_, _≤_, _<_}
-use mathlib.Core.Path.{_≡_, refl, sym, ap, _∙_}
+use mathlib.Core.Path.{_≡_, refl, sym, _∙_}
 use mathlib.Core.Logic.{⊎-elim}
 use mathlib.Core.Bool.{Bool, true, false, cond, _||_}
-use mathlib.Core.List.{List, [], _∷_, _++_, append-nil}
+use mathlib.Core.List.{List, [], _∷_, _++_}
+use mathlib.Core.List.{List·Memᴰ as Mem, List·Memᴰ·head as here, List·Memᴰ·not-nil as not-nil, List·Memᴰ·append-cases as append-cases}
+use mathlib.Core.List.{Memᴰ·append-left as in-left, Memᴰ·append-right as in-right, List·Memᴰ·eq-of-singleton as eq-of-singleton}
 use native.Mathlib.Omega.{arith}
 use native.Mathlib.Numerals.{add-one}
-use lib.ListN.{length, getD, take, length-append, List·getD-append}
-use lib.Seq.{getD-at, take-append-le, take-all}
+use lib.ListN.{length, getD, take, set, replicate, length-append, length-set, List·getD-append}
+use lib.Seq.{getD-at, getD-set-same, getD-set-other, take-append-le, take-all, ext-getD}
 use Rattle.base.specs.Lists.{one, any, tabulate, tally, find}
 use Rattle.base.specs.Below.{anyBelow, countBelow}
-use Rattle.base.proofs.Tests.{less?, bool-cases, never, or-true}
+use Rattle.base.proofs.Tests.{less?, eq?, bool-cases, never}
 
 -- ---- a loop's turn
 pub count-on : (p : ℕ → Bool) (i : ℕ) → countBelow p (i + 1) ≡ countBelow p i + one (p i)
 unfolding countBelow
 count-on p i = rw (add-one i)
+
+pub count-grows : (p : ℕ → Bool) (i n : ℕ) → i ≤ n → countBelow p i ≤ countBelow p n
+unfolding countBelow
+count-grows p i zero l = let e : i ≡ 0 = omega arith in rw e (omega arith)
+count-grows p i (suc n) l =
+    ⊎-elim (λ (q : i < suc n). omega (arith, count-grows p i n (omega arith))) (λ (q : suc n ≤ i). let e : i ≡ suc n = omega arith in rw e (omega arith)) (less? i (suc n))
 
 pub any-on : (p : ℕ → Bool) (i : ℕ) → anyBelow p (i + 1) ≡ (anyBelow p i || p i)
 unfolding anyBelow
@@ -74,6 +82,21 @@ module _ {A : Type 0} (f : ℕ → A) where
       ⊎-elim (λ (q : i < suc n). take-append-le i (tabulate f n) (f n ∷ []) (omega (arith, tabulate-length n)) ∙ tabulate-take n i (omega arith))
       (λ (q : suc n ≤ i). let e : i ≡ suc n = omega arith in rw e (take-all (suc n) (tabulate f n ++ (f n ∷ [])) (omega (arith, tabulate-length (suc n)))))
       (less? i (suc n))
+
+  -- the members are f 0 to f (n - 1)
+  pub tabulate-in : (n : ℕ) (x : A) → Mem x (tabulate f n) → (i : ℕ) × (i < n) × (x ≡ f i)
+  unfolding tabulate
+  tabulate-in zero x m = absurd (not-nil m)
+  tabulate-in (suc n) x m =
+      ⊎-elim (λ k. let r : (i : ℕ) × (i < n) × (x ≡ f i) = tabulate-in n x k in (r .0, omega (arith, r .1), r .2))
+      (λ k. (n, omega arith, eq-of-singleton k))
+      (append-cases (tabulate f n) m)
+
+  pub in-tabulate : (n i : ℕ) → i < n → Mem (f i) (tabulate f n)
+  unfolding tabulate
+  in-tabulate zero i l = absurd (omega arith)
+  in-tabulate (suc n) i l =
+      ⊎-elim (λ (q : i < n). in-left (f n ∷ []) (in-tabulate n i q)) (λ (q : n ≤ i). let e : i ≡ n = omega arith in rw e (in-right (tabulate f n) (here refl))) (less? i n)
 
   module _ (p : A → Bool) where
     tally-snoc : (xs : List A) (y : A) → tally p (xs ++ (y ∷ [])) ≡ tally p xs + one (p y)
@@ -134,3 +157,41 @@ module _ {A : Type 0} (f : ℕ → A) where
 
     pub any-at : (n i : ℕ) → i < n → p (f i) ≡ true → any p (tabulate f n) ≡ true
     any-at n i l b = any-below n ∙ any-found (λ k. p (f k)) i n l b
+
+-- ---- a list that a loop fills, an element at a time
+
+-- to set one element is to change the table at that place
+pub tabulate-set : (f g : ℕ → ℕ) (n k v : ℕ) → k < n → g k ≡ v → ((j : ℕ) → j < n → (j ≡ k → ⊥) → g j ≡ f j) → set (tabulate f n) k v ≡ tabulate g n
+tabulate-set f g n k v l e same =
+    ext-getD 0 (set (tabulate f n) k v) (tabulate g n) (length-set (tabulate f n) k v ∙ tabulate-length f n ∙ sym (tabulate-length g n)) at
+  where
+    at : (j : ℕ) → j < length (set (tabulate f n) k v) → getD (set (tabulate f n) k v) j 0 ≡ getD (tabulate g n) j 0
+    at j h =
+        let m : j < n = omega (arith, length-set (tabulate f n) k v, tabulate-length f n) in
+        ⊎-elim
+        (λ (q : j ≡ k). rw q (getD-set-same (tabulate f n) k v 0 (omega (arith, tabulate-length f n)) ∙ sym (tabulate-at g n k 0 l ∙ e)))
+        (λ (q : j ≡ k → ⊥). getD-set-other (tabulate f n) k j v 0 q ∙ tabulate-at f n j 0 m ∙ sym (tabulate-at g n j 0 m ∙ same j m q))
+        (eq? j k)
+
+module _ {A : Type 0} (p : A → Bool) where
+  pub tally-le : (xs : List A) → tally p xs ≤ length xs
+  unfolding tally
+  tally-le [] = omega arith
+  tally-le (x ∷ xs) = ⊎-elim (λ (e : p x ≡ true). rw e (omega (arith, tally-le xs))) (λ (e : p x ≡ false). rw e (omega (arith, tally-le xs))) (bool-cases (p x))
+
+  pub tally-append : (xs ys : List A) → tally p (xs ++ ys) ≡ tally p xs + tally p ys
+  unfolding tally
+  tally-append [] ys = omega arith
+  tally-append (x ∷ xs) ys = omega (arith, tally-append xs ys)
+
+  pub tally-none : (x : A) (n : ℕ) → p x ≡ false → tally p (replicate n x) ≡ 0
+  unfolding tally
+  tally-none x zero e = refl
+  tally-none x (suc n) e = rw e (omega (arith, tally-none x n e))
+
+  -- one more passes where one that fails gives way to one that passes
+  pub tally-set : (d : A) (xs : List A) (k : ℕ) (v : A) → k < length xs → p (getD xs k d) ≡ false → p v ≡ true → tally p (set xs k v) ≡ suc (tally p xs)
+  unfolding tally
+  tally-set d [] k v l e b = absurd (omega arith)
+  tally-set d (x ∷ xs) zero v l e b = rw (e, b) (omega arith)
+  tally-set d (x ∷ xs) (suc k) v l e b = omega (arith, tally-set d xs k v (omega arith) e b)

@@ -121,3 +121,9 @@ unfolding total
 total-part f zero k l u = absurd (omega arith)
 total-part f (suc n) k l u =
     ⊎-elim (λ (e : k ≡ suc n). rw e (omega arith)) (λ (less : k < suc n). omega (arith, total-part f n k l (omega arith))) (eq-or-lt-of-le u)
+
+pub total-grows : (f : ℕ → ℕ) (i j : ℕ) → i ≤ j → total f i ≤ total f j
+unfolding total
+total-grows f i zero l = let e : i ≡ 0 = omega arith in omega (arith, ap (total f) e)
+total-grows f i (suc j) l =
+    ⊎-elim (λ (e : i ≡ suc j). omega (arith, ap (total f) e)) (λ (less : i < suc j). omega (arith, total-grows f i j (omega arith))) (eq-or-lt-of-le l)

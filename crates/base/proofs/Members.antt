@@ -7,10 +7,11 @@ use mathlib.Core.List.{List, [], _∷_, _++_, map}
 use mathlib.Core.List.{List·Memᴰ as Mem, List·Memᴰ·head as here, List·Memᴰ·tail as later, List·Memᴰ·not-nil as not-nil, List·Memᴰ·cases-cons as cases-cons}
 use mathlib.Core.List.{Memᴰ·append-left as in-left, Memᴰ·append-right as in-right, List·Memᴰ·append-cases as append-cases, List·Memᴰ·eq-of-singleton as eq-of-singleton, Memᴰ·cast as same-in}
 use native.Mathlib.Omega.{arith}
+use borrow.Author.Tests.{eq-eqb, ne-eqb}
 use lib.ListN.{length, getD, length-append, length-map, List·getD-append}
 use lib.Seq.{getD-at}
 use native.Mathlib.Nat.{eq-or-lt-of-le}
-use Rattle.base.specs.Lists.{upto, keep, consIf, pick, any}
+use Rattle.base.specs.Lists.{upto, keep, consIf, pick, any, update}
 use Rattle.base.proofs.Tests.{bool-cases, never, or-true, or-left, or-right}
 
 pub in-upto : (n x : ℕ) → 1 ≤ x → x ≤ n → Mem x (upto n)
@@ -95,6 +96,10 @@ pick-same p q x (y ∷ ys) h =
     skip : (z : ℕ) → Mem z (x ∷ ys) → Mem z (x ∷ y ∷ ys)
     skip z m = ⊎-elim here (λ k. later (later k)) (cases-cons m)
 
+-- the first of a list is in it
+pub in-first : {l xs : List ℕ} {x : ℕ} → l ≡ x ∷ xs → Mem x l
+in-first e = rw e (here refl)
+
 -- ---- no element twice
 
 abbrev pub NoDup : List ℕ → Type 0
@@ -151,3 +156,13 @@ map-upto-at f (suc n) k l = ap (λ xs. getD xs k 0) (map-append f (upto n) (suc 
 
     before : suc k < suc n → (k < n → getD (map f (upto n)) k 0 ≡ f (suc k)) → getD (map f (upto n) ++ (f (suc n) ∷ [])) k 0 ≡ f (suc k)
     before less more = List·getD-append (map f (upto n)) (f (suc n) ∷ []) 0 k (omega (arith, size)) ∙ more (omega arith)
+
+-- ---- a function changed at one place
+
+pub update-at : (f : ℕ → ℕ) (k v x : ℕ) → x ≡ k → update f k v x ≡ v
+unfolding update
+update-at f k v x e = rw (eq-eqb x k e)
+
+pub update-off : (f : ℕ → ℕ) (k v x : ℕ) → (x ≡ k → ⊥) → update f k v x ≡ f x
+unfolding update
+update-off f k v x ne = rw (ne-eqb x k ne)

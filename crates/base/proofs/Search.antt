@@ -7,15 +7,26 @@ use mathlib.Core.Option.{Option, some, none}
 use native.Mathlib.Omega.{arith}
 use native.Mathlib.Numerals.{add-one}
 use Rattle.base.specs.Search.{firstBad, someIf, orElse, orEnd, NotFalling}
+use Rattle.base.specs.Below.{anyBelow}
 use Rattle.base.proofs.Tests.{less?, is-false}
-use lib.Dec.{eqb}
-use borrow.Author.Tests.{eq-eqb, ne-eqb}
+use Rattle.base.proofs.Below.{any-found, any-none}
+use lib.Dec.{eqb, ltb}
+use borrow.Author.Tests.{eq-eqb, ne-eqb, lt-ltb, le-ltb}
 
 module _ (bad : ℕ → Bool) where
   -- none below i, and none at i
   pub scan-on : (i : ℕ) → firstBad bad i ≡ none → bad i ≡ false → firstBad bad (i + 1) ≡ none
   unfolding firstBad
   scan-on i e b = rw (add-one, e, b)
+
+  -- none at i: what is found below i
+  pub scan-skip : (i : ℕ) → bad i ≡ false → firstBad bad (i + 1) ≡ firstBad bad i
+  unfolding firstBad
+  scan-skip i b = rw (add-one, b) (stays (firstBad bad i))
+    where
+      stays : (o : Option ℕ) → orElse o none ≡ o
+      stays none = refl
+      stays (some k) = refl
 
   -- none below i, and one at i
   pub scan-found : (i n : ℕ) → firstBad bad i ≡ none → bad i ≡ true → i < n → firstBad bad n ≡ some i
@@ -151,3 +162,10 @@ module _ (p : ℕ → Bool) (n : ℕ) where
 
   pub none-by : (r : ℕ) → r ≡ orEnd n (firstBad p n) → n ≤ r → firstBad p n ≡ none
   none-by r e l = end-none (omega arith)
+
+  -- some place passes where one is found
+  pub end-any : anyBelow p n ≡ ltb (orEnd n (firstBad p n)) n
+  end-any =
+      ⊎-elim (λ (q : firstBad p n ≡ none). any-none p n (none-fails p n q) ∙ sym (rw q (le-ltb n n (omega arith))))
+      (λ q. any-found p (q .0) n (first-below p n (q .0) (q .1)) (first-passes p n (q .0) (q .1)) ∙ sym (rw (q .1) (lt-ltb (q .0) n (first-below p n (q .0) (q .1)))))
+      (option-cases (firstBad p n))
