@@ -110,7 +110,10 @@ option-cases (some i) = inr (i, refl)
 pub first-below : (p : ℕ → Bool) (n i : ℕ) → firstBad p n ≡ some i → i < n
 unfolding firstBad
 first-below p zero i e = let z : _≡_ {A = ℕ} 0 1 = cc in absurd (omega arith)
-first-below p (suc n) i e = ⊎-elim (λ (q : firstBad p n ≡ none). last (p n) (rw q at e)) (λ q. let s : some (q .0) ≡ some i = rw (q .1) at e in let t : q .0 ≡ i = cc in omega (arith, first-below p n (q .0) (q .1))) (option-cases (firstBad p n))
+first-below p (suc n) i e =
+    ⊎-elim (λ (q : firstBad p n ≡ none). last (p n) (rw q at e))
+    (λ q. let s : some (q .0) ≡ some i = rw (q .1) at e in let t : q .0 ≡ i = cc in omega (arith, first-below p n (q .0) (q .1)))
+    (option-cases (firstBad p n))
   where
     last : (b : Bool) → someIf b n ≡ some i → i < suc n
     last true s = let t : n ≡ i = cc in omega arith

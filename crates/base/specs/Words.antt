@@ -8,7 +8,7 @@ use lib.IntN.{ℤ, pos, negsuc}
 unfoldable pub word : List ℕ → ℕ → ℕ
 word bytes at = getD bytes at 0 + 256 * getD bytes (suc at) 0
 
--- a signed 16-bit field, 32768 above its value, so that the order is that of natural numbers
+-- a signed 16-bit field, 32768 above its value, so that the order is that of natural numbers: -1 is stored as 65535 and gives 32767
 unfoldable pub signed : List ℕ → ℕ → ℕ
 signed bytes at = (word bytes at + 32768) % 65536
 

@@ -1,1 +1,11 @@
+pub mod Sorted
+pub mod Positions
+pub mod Reading
+pub mod Causes
+pub mod PairCount
+pub mod Books
+pub mod Runs
+pub mod Promises
+pub mod Buffers
+pub mod Example
 pub mod Table

@@ -1,5 +1,5 @@
 -- The table of proved cases: the definitions give document 01's fifteen answers, and those of our own list.
--- Shown by computation, from the bytes to the answer.
+-- Shown by computation, from the bytes to the answer. Also: exact and short buffers, and the printed text of K.
 use mathlib.Core.Path.{_≡_, refl}
 use mathlib.Core.List.{List, [], _∷_, map}
 use Rattle.base.specs.Lists.{count, total, upto, tabulate, keep, any, tally, find, pick, update}
@@ -8,23 +8,18 @@ use Rattle.base.specs.Words.{word, signed}
 use Rattle.lgs.specs.Rule.{interviewed, insert, byStage, start, declined, open?, choices, due, holders, below, lowestOf, best, interviewAll, close, settle, apply, turn, step, run, fuel, lazyGaleShapley}
 use Rattle.format.specs.Layout.{rowAt, rows, marketOf, entryAt, entries, resultsOf}
 use Rattle.format.specs.Refusals.{badForm, kindFalls, badNumber, notRising, namesNobody, badOrder, badCounts, badStudent, badWorkshop, badTiers, badRange, needed, badRoom, badPair, badScores, badRepeat, studentTies, workshopTies, badTie, causes, refusal, Room}
-use Rattle.format.specs.Engine.{Answer, refused, answerOf, answerUnless, engine}
-use Rattle.format.specs.Buffers.{flat, placesAfter, visitsAfter, values}
-use Rattle.format.specs.Printed.{digitsWithin, decimal, numbers, placeLines, visitLines, visitsText, printed, unread}
+use Rattle.format.specs.Engine.{refused, answerOf, answerUnless, engine}
+use Rattle.format.specs.Printed.{digitsWithin, decimal, numbers, placeLines, visitLines, visitsText, printed}
 use Rattle.format.specs.Table.{words, caseRecord, concat, caseOf, bookOf, studentsK, workshopsK, pairsK, caseWith, bookWith, K, bookK, visitsK, answerK, printedK, table, ownTable, ample, exact, shortRooms, given, expected}
 
-pub table-holds : (given table ≡ expected table) × (given ownTable ≡ expected ownTable)
-unfolding given expected table ownTable ample words caseRecord concat caseOf bookOf studentsK workshopsK pairsK caseWith bookWith K bookK visitsK answerK engine answerUnless answerOf refusal causes badTie workshopTies studentTies badRepeat badScores badPair badRoom needed badRange badTiers badWorkshop badStudent badCounts badOrder namesNobody notRising badNumber kindFalls badForm resultsOf entries entryAt marketOf rows rowAt signed word firstBad update pick find tally any keep tabulate upto total count lazyGaleShapley fuel run step turn apply settle close interviewAll best lowestOf below holders due choices open? declined start byStage insert interviewed
-table-holds = (refl, refl)
+-- all of it but the agreeing stages, which Example.antt shows
+pub record Computed : Type 0 where
+  pub answers : given table ≡ expected table
+  pub own : given ownTable ≡ expected ownTable
+  pub exactly : engine K bookK exact ≡ answerK
+  pub shortly : map (λ (room : Room). engine K (0 ∷ []) room) shortRooms ≡ map (λ (room : Room). refused 6 0) shortRooms
+  pub text : printed answerK ≡ printedK
 
--- a buffer one entry short is cause 6, and exact lengths are enough
-pub rooms-hold : (engine K bookK exact ≡ answerK)
-    × (map (λ (room : Room). engine K bookK room) shortRooms
-    ≡ map (λ (room : Room). refused 6 0) shortRooms)
-unfolding exact shortRooms words caseRecord concat caseOf bookOf studentsK workshopsK pairsK caseWith bookWith K bookK visitsK answerK engine answerUnless answerOf refusal causes badTie workshopTies studentTies badRepeat badScores badPair badRoom needed badRange badTiers badWorkshop badStudent badCounts badOrder namesNobody notRising badNumber kindFalls badForm resultsOf entries entryAt marketOf rows rowAt signed word firstBad update pick find tally any keep tabulate upto total count lazyGaleShapley fuel run step turn apply settle close interviewAll best lowestOf below holders due choices open? declined start byStage insert interviewed
-rooms-hold = (refl, refl)
-
--- what the program prints for K
-pub printed-holds : printed answerK ≡ printedK
-unfolding answerK visitsK printedK printed visitsText visitLines placeLines numbers decimal digitsWithin
-printed-holds = refl
+pub computed : Computed
+unfolding given expected table ownTable ample exact shortRooms words caseRecord concat caseOf bookOf studentsK workshopsK pairsK caseWith bookWith K bookK visitsK answerK printedK engine answerUnless answerOf refusal causes badTie workshopTies studentTies badRepeat badScores badPair badRoom needed badRange badTiers badWorkshop badStudent badCounts badOrder namesNobody notRising badNumber kindFalls badForm resultsOf entries entryAt marketOf rows rowAt signed word firstBad update pick find tally any keep tabulate upto total count lazyGaleShapley fuel run step turn apply settle close interviewAll best lowestOf below holders due choices open? declined start byStage insert interviewed printed visitsText visitLines placeLines numbers decimal digitsWithin
+computed = record { answers = refl; own = refl; exactly = refl; shortly = refl; text = refl }

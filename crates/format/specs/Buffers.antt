@@ -26,9 +26,9 @@ visitsAfter (placed places vs) old = withHead (flat vs) old
 visitsAfter (next s w vs) old = withHead (flat vs) old
 visitsAfter (refused k i) old = old
 
--- "After each answer all scratch is zero, over its whole lent length", whatever it held; `nothing` is the zero entry
+-- "After each answer all scratch is zero, over its whole lent length", whatever it held; `zeroEntry` is the entry that is all zero
 abbrev pub scratchAfter : {A : Type 0} → A → List A → List A
-scratchAfter nothing old = replicate (length old) nothing
+scratchAfter zeroEntry old = replicate (length old) zeroEntry
 
 -- The values of an answer: of a placement "the visit count", of a next visit "the pair and the count of visits already done", of a refusal
 -- its number and place.

@@ -1,4 +1,4 @@
--- The case and the book as bytes, and the market and the results that they hold (document 01, "The case and the book").
+-- The case and the book as lists of bytes, numbers below 256, and the market and the results that they hold (document 01, "The case and the book").
 use Prim.Native.Nat.{ℕ, zero, suc, _+_, _*_, _/_}
 use mathlib.Core.Bool.{Bool, _&&_}
 use mathlib.Core.List.{List}
@@ -21,7 +21,7 @@ pub record Row : Type 0 where
   pub second : ℕ  -- bytes 4 and 5
   pub third : ℕ  -- bytes 6 and 7
   pub fourth : ℕ  -- bytes 8 and 9
-  pub rest : ℕ  -- bytes 10 to 15, as the sum of their three fields
+  pub rest : ℕ  -- bytes 10 to 15, as the sum of their three fields: 0 exactly when all six are 0
 
 unfoldable pub rowAt : List ℕ → ℕ → Row
 rowAt bytes i =
@@ -67,7 +67,7 @@ abbrev pub outsideElse : ℕ → (ℕ → ℕ) → ℕ → ℕ
 outsideElse a f zero = a
 outsideElse a f (suc x) = f (suc x)
 
--- The market: each person and pair by its record, and 0 where there is none.
+-- The market: each person and pair by its record, and 0 where there is none. (A pair without a record has tier 0; the rule asks for the record.)
 unfoldable pub marketOf : List Row → Market
 marketOf rs =
     record {

@@ -2,10 +2,12 @@
 use Prim.Native.Nat.{ℕ, zero, suc, _+_, _/_, _%_}
 use mathlib.Core.Bool.{cond}
 use mathlib.Core.List.{List, [], _∷_, _++_}
+use mathlib.Core.Option.{Option, some, none}
 use lib.ListN.{length}
 use lib.Dec.{ltb}
 use Rattle.lgs.specs.Rule.{Interview}
-use Rattle.format.specs.Engine.{Answer, placed, next, refused}
+use Rattle.format.specs.Refusals.{Room}
+use Rattle.format.specs.Engine.{Answer, placed, next, refused, engine}
 
 -- the decimal digits of n, in at most k places
 unfoldable pub digitsWithin : ℕ → ℕ → List ℕ
@@ -66,3 +68,21 @@ printed (refused k i) = lineOf refusedWord (k ∷ i ∷ [])
 -- "if one is missing or longer it prints only `unread`"
 unfoldable pub unread : List ℕ
 unread = lineOf unreadWord []
+
+-- the buffers that the program lends: enough for every case of at most 65,536 bytes (4,096 records), so it prints no refusal 6 for a valid case
+abbrev pub programRoom : Room
+programRoom = record { places = 512; visits = 8192; seats = 32768; index = 4096; states = 512 }
+
+-- "It reads case.dat and book.dat, each up to 65,536 bytes": a file's bytes, unless it is missing, longer or cannot be read
+abbrev pub readable : Option (List ℕ) → Option (List ℕ)
+readable none = none
+readable (some bytes) = cond (ltb 65536 (length bytes)) none (some bytes)
+
+-- what the program prints for the two files
+abbrev pub programText : Option (List ℕ) → Option (List ℕ) → List ℕ
+programText none book = unread
+programText (some case) none = unread
+programText (some case) (some book) = printed (engine case book programRoom)
+
+unfoldable pub programPrints : Option (List ℕ) → Option (List ℕ) → List ℕ
+programPrints case book = programText (readable case) (readable book)

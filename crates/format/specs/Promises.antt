@@ -7,7 +7,7 @@ use mathlib.Core.Logic.{_⊎_}
 use mathlib.Core.Option.{none}
 use mathlib.Core.List.{List, [], _∷_, _++_, map}
 use mathlib.Core.List.{List·Memᴰ as Mem}
-use lib.ListN.{length}
+use lib.ListN.{length, getD}
 use Rattle.base.specs.Lists.{upto, any}
 use Rattle.lgs.specs.Market.{ConsistentStages}
 use Rattle.lgs.specs.Profiles.{Profile, StrictProfile, RespectsTiers, Fits, StudentOptimal}
@@ -16,8 +16,9 @@ use Rattle.lgs.specs.Promises.{Listed, OptimalWhateverUnseen, MinimalInterviews
 use Rattle.format.specs.Layout.{Entry, rows, entries, rowCount, entryCount, isInterview}
 use Rattle.format.specs.Refusals.{Room, badForm, badOrder, badCounts, badRange, badRoom, badPair, badScores, badRepeat, badTie, needed}
 use Rattle.format.specs.Engine.{Answer, placed, next, refused, engine, marketIn, resultsIn}
+use Rattle.format.specs.Buffers.{placesAfter, visitsAfter}
 
--- ---- Demand 1: "every case and book in the layouts of document 01, with buffers of at least the stated lengths, gets the next visit or a
+-- ---- Demand 1 (with crate format's Buffers for what stays and what is zero): "every case and book in the layouts of document 01, with buffers of at least the stated lengths, gets the next visit or a
 -- finished placement, and the run ends. All other input gets one of eleven refusals with its record".
 
 -- i is the first of the places 0 to n - 1 that is bad
@@ -50,10 +51,14 @@ module _ (case book : List ℕ) (room : Room) where
     pub cause : Cause k i
     pub earlier : (j l : ℕ) → j < k → Cause j l → ⊥
 
--- the answer is a placement or a next interview
-pub data Answered : Answer → Type 0 where
-  withPlaces : (places : List ℕ) (vs : List Interview) → Answered (placed places vs)
-  withNext : (s w : ℕ) (vs : List Interview) → Answered (next s w vs)
+-- the answer is the placement with which the rule finishes, or the next interview at which it stops
+pub data Answered (case book : List ℕ) : Answer → Type 0 where
+  withPlaces : (p : ℕ → ℕ) (vs : List Interview)
+      → lazyGaleShapley (marketIn case) (resultsIn book) ≡ finished p vs
+      → Answered case book (placed (map p (upto (marketIn case .students))) vs)
+  withNext : (s w : ℕ) (vs : List Interview)
+      → lazyGaleShapley (marketIn case) (resultsIn book) ≡ stopped s w vs
+      → Answered case book (next s w vs)
 
 -- the rule's steps do not run out
 abbrev pub RunEnds : Type 0
@@ -67,7 +72,7 @@ RunEnds =
 abbrev pub Demand1 : Type 0
 Demand1 =
     (case book : List ℕ) (room : Room)
-    → (Valid case book room × Answered (engine case book room))
+    → (Valid case book room × Answered case book (engine case book room))
     ⊎ ((k : ℕ) × (i : ℕ) × Refused case book room k i × (engine case book room ≡ refused k i))
 
 -- ---- Demand 2.
@@ -87,7 +92,7 @@ interviewsOf (next s w vs) = vs
 interviewsOf (refused k i) = []
 
 -- a finished placement
-pub record Demand2Placed (case book : List ℕ) (room : Room) (places : List ℕ) (vs : List Interview) : Type 0 where
+pub record Demand2Placed (case book : List ℕ) (places : List ℕ) (vs : List Interview) : Type 0 where
   pub whole : length places ≡ marketIn case .students
   -- "stable, and no student does better in any other stable placement, under every strict order that fits the groups and the book"
   pub optimal : (O : Profile) → FitsBook case book O → StudentOptimal (marketIn case) O (matchingOf places)
@@ -111,10 +116,10 @@ pub record Demand2Next (case book : List ℕ) (room : Room) (s w : ℕ) (vs : Li
       → Begins (vs ++ ((s, w) ∷ [])) (interviewsOf (engine case book′ room))
 
 pub record Demand2 : Type 0 where
-  pub placed : (case book : List ℕ) (room : Room) (places : List ℕ) (vs : List Interview)
+  pub whenPlaced : (case book : List ℕ) (room : Room) (places : List ℕ) (vs : List Interview)
       → engine case book room ≡ placed places vs
-      → Demand2Placed case book room places vs
-  pub next : (case book : List ℕ) (room : Room) (s w : ℕ) (vs : List Interview)
+      → Demand2Placed case book places vs
+  pub whenNext : (case book : List ℕ) (room : Room) (s w : ℕ) (vs : List Interview)
       → engine case book room ≡ next s w vs
       → Demand2Next case book room s w vs
 
@@ -153,12 +158,12 @@ SameListed vs book book′ =
     → Mem e (entries book′)
 
 pub record UnlistedUnused : Type 0 where
-  pub placed : (case book book′ : List ℕ) (room : Room) (places : List ℕ) (vs : List Interview)
+  pub whenPlaced : (case book book′ : List ℕ) (room : Room) (places : List ℕ) (vs : List Interview)
       → engine case book room ≡ placed places vs
       → Valid case book′ room
       → SameListed vs book book′
       → engine case book′ room ≡ placed places vs
-  pub next : (case book book′ : List ℕ) (room : Room) (s w : ℕ) (vs : List Interview)
+  pub whenNext : (case book book′ : List ℕ) (room : Room) (s w : ℕ) (vs : List Interview)
       → engine case book room ≡ next s w vs
       → Valid case book′ room
       → SameListed vs book book′
@@ -167,11 +172,32 @@ pub record UnlistedUnused : Type 0 where
 
 -- what an answer puts into the buffers fits the needed lengths
 pub record HeadsFit : Type 0 where
-  pub places : (case book : List ℕ) (room : Room) (places : List ℕ) (vs : List Interview)
+  pub whenPlaced : (case book : List ℕ) (room : Room) (places : List ℕ) (vs : List Interview)
       → engine case book room ≡ placed places vs
       → length places ≤ needed (rows case) .places
-  pub visits : (case book : List ℕ) (room : Room)
+  pub anyway : (case book : List ℕ) (room : Room)
       → 2 * length (interviewsOf (engine case book room)) ≤ needed (rows case) .visits
+
+-- with an answer, buffers of the lent lengths keep these; "entries past the needed ones stay", and so do those past the listed interviews
+pub record Kept (a : Answer) (n : ℕ) (places visits : List ℕ) : Type 0 where
+  pub placesLength : length (placesAfter a places) ≡ length places
+  pub placesPast : (i : ℕ) → n ≤ i → getD (placesAfter a places) i 0 ≡ getD places i 0
+  pub visitsLength : length (visitsAfter a visits) ≡ length visits
+  pub visitsPast : (i : ℕ) → 2 * length (interviewsOf a) ≤ i → getD (visitsAfter a visits) i 0 ≡ getD visits i 0
+
+abbrev pub BuffersKept : Type 0
+BuffersKept =
+    (case book : List ℕ) (room : Room) (places visits : List ℕ)
+    → length places ≡ room .places
+    → length visits ≡ room .visits
+    → Kept (engine case book room) (needed (rows case) .places) places visits
+
+-- ---- The demands of one answer, for a contract: what holds of it, whichever it is.
+abbrev pub Promised : List ℕ → List ℕ → Room → Answer → Type 0
+Promised case book room (placed places vs) =
+    Demand2Placed case book places vs × MinimalInterviews (marketIn case) (resultsIn book) places vs
+Promised case book room (next s w vs) = Demand2Next case book room s w vs
+Promised case book room (refused k i) = Refused case book room k i
 
 -- a case and a book with agreeing stages and a finished run that lists more than the placed pairs
 pub record Example (case book : List ℕ) (room : Room) : Type 0 where
@@ -179,4 +205,4 @@ pub record Example (case book : List ℕ) (room : Room) : Type 0 where
   pub interviews : List Interview
   pub answer : engine case book room ≡ placed places interviews
   pub consistent : ConsistentStages (marketIn case)
-  pub unplaced : (s : ℕ) × (w : ℕ) × (interviewed interviews s w ≡ true) × (matchingOf places s ≡ w → ⊥)
+  pub listedUnplaced : (s : ℕ) × (w : ℕ) × (interviewed interviews s w ≡ true) × (matchingOf places s ≡ w → ⊥)

@@ -14,7 +14,7 @@ use Rattle.format.specs.Layout.{Row, Entry, noRow, noEntry, rows, entrie
 abbrev pub notWithin : ℕ → ℕ → ℕ → Bool
 notWithin low high x = ltb x low || ltb high x
 
--- the score is 0 or outside -1000 to 1000
+-- the score is 0 or outside -1000 to 1000 (31768 to 33768, as scores are kept)
 abbrev pub badScore : ℕ → Bool
 badScore x = eqb x outsideScore || notWithin 31768 33768 x
 
@@ -37,7 +37,7 @@ module _ (rs : List Row) where
       notWithin 1 3 (r .kind)
       || (not (eqb (r .pad) 0) || (not (eqb (r .rest) 0) || (not (eqb (r .kind) 3) && not (eqb (r .fourth) 0))))
 
-  -- 3: "kinds fall" from the record before; the first record has none before it and is compared with itself
+  -- 3: "kinds fall" from the record before; the first record has none before it and is compared with itself (0 - 1 is 0)
   unfoldable pub kindFalls : ℕ → Bool
   kindFalls i = ltb (row i .kind) (row (i - 1) .kind)
 

@@ -1,11 +1,14 @@
 -- The table of proved cases (document 01), and a list of our own for the slips that it does not catch. proofs/Table.antt has the one proof that
 -- the definitions give them.
 use Prim.Native.Nat.{ℕ, _-_, _/_, _%_}
+use mathlib.Core.Path.{_≡_}
 use mathlib.Core.List.{List, [], _∷_, _++_, map}
 use lib.ListN.{length, take, replicate}
 use Rattle.lgs.specs.Rule.{Interview}
 use Rattle.format.specs.Refusals.{Room}
 use Rattle.format.specs.Engine.{Answer, placed, next, refused, engine}
+use Rattle.format.specs.Printed.{printed}
+use Rattle.format.specs.Promises.{Example}
 
 -- ---- bytes from fields
 
@@ -85,84 +88,117 @@ printedK =
     ∷ []
 
 -- a case, a book, and the answer to them
-pub record Line : Type 0 where
+pub record Sample : Type 0 where
   pub case : List ℕ
   pub book : List ℕ
   pub answer : Answer
 
-abbrev pub line : List ℕ → List ℕ → Answer → Line
-line case book answer = record { case = case; book = book; answer = answer }
+abbrev pub sample : List ℕ → List ℕ → Answer → Sample
+sample case book answer = record { case = case; book = book; answer = answer }
 
 -- ---- document 01's fifteen
 
-unfoldable pub table : List Line
+unfoldable pub table : List Sample
 table =
-    line K bookK answerK
-    ∷ line K [] (next 1 1 [])
-    ∷ line K (take 16 bookK) (next 2 2 ((1, 1) ∷ (1, 2) ∷ []))
-    ∷ line K (bookWith 5 4 7 4 6) (placed (1 ∷ 2 ∷ 0 ∷ []) visitsK)
-    ∷ line K (bookWith 5 4 1 (neg 4) 6) (placed (1 ∷ 2 ∷ 0 ∷ []) visitsK)
-    ∷ line (caseWith 0 1 3) bookK (placed (2 ∷ 0 ∷ 0 ∷ []) ((1, 2) ∷ []))
-    ∷ line (caseWith 1 2 3) bookK (placed (1 ∷ 2 ∷ 2 ∷ []) visitsK)
-    ∷ line (caseOf studentsK (workshopsK 1 1 3) []) [] (placed (0 ∷ 0 ∷ 0 ∷ []) [])
-    ∷ line (caseWith 1 1 2) (bookWith 5 4 1 4 (neg 6)) (placed (1 ∷ 2 ∷ 0 ∷ []) visitsK)
-    ∷ line K (bookWith 5 1 1 4 6) answerK
-    ∷ line K (bookWith 5 4 1 4 1) (refused 11 3)
-    ∷ line K (bookWith 1000 4 1 4 6) answerK
-    ∷ line K (bookWith 1001 4 1 4 6) (refused 9 0)
-    ∷ line [] [] (refused 4 0)
-    ∷ line (take 15 K) [] (refused 1 0)
+    sample K bookK answerK
+    ∷ sample K [] (next 1 1 [])
+    ∷ sample K (take 16 bookK) (next 2 2 ((1, 1) ∷ (1, 2) ∷ []))
+    ∷ sample K (bookWith 5 4 7 4 6) (placed (1 ∷ 2 ∷ 0 ∷ []) visitsK)
+    ∷ sample K (bookWith 5 4 1 (neg 4) 6) (placed (1 ∷ 2 ∷ 0 ∷ []) visitsK)
+    ∷ sample (caseWith 0 1 3) bookK (placed (2 ∷ 0 ∷ 0 ∷ []) ((1, 2) ∷ []))
+    ∷ sample (caseWith 1 2 3) bookK (placed (1 ∷ 2 ∷ 2 ∷ []) visitsK)
+    ∷ sample (caseOf studentsK (workshopsK 1 1 3) []) [] (placed (0 ∷ 0 ∷ 0 ∷ []) [])
+    ∷ sample (caseWith 1 1 2) (bookWith 5 4 1 4 (neg 6)) (placed (1 ∷ 2 ∷ 0 ∷ []) visitsK)
+    ∷ sample K (bookWith 5 1 1 4 6) answerK
+    ∷ sample K (bookWith 5 4 1 4 1) (refused 11 3)
+    ∷ sample K (bookWith 1000 4 1 4 6) answerK
+    ∷ sample K (bookWith 1001 4 1 4 6) (refused 9 0)
+    ∷ sample [] [] (refused 4 0)
+    ∷ sample (take 15 K) [] (refused 1 0)
     ∷ []
 
 -- ---- our own: a slip for each, that the fifteen do not catch
 
--- one student and one workshop, one seat
-abbrev pub two : List ℕ → List ℕ → List (List ℕ) → List ℕ
-two s w pairs = caseOf (s ∷ []) (w ∷ []) pairs
+-- one student and one workshop
+abbrev pub oneEach : List ℕ → List ℕ → List (List ℕ) → List ℕ
+oneEach s w pairs = caseOf (s ∷ []) (w ∷ []) pairs
 
-unfoldable pub ownTable : List Line
+unfoldable pub ownTable : List Sample
 ownTable =
-    -- a negative mark outside the line group is no refusal
-    line (two (f3 1 1 1) (f3 1 1 2) (f4 1 1 1 1 ∷ [])) (bookOf (f4 1 1 1 (neg 1) ∷ [])) (placed (1 ∷ []) ((1, 1) ∷ []))
+    -- a negative mark outside the line group closes nothing
+    sample (oneEach (f3 1 1 1) (f3 1 1 2) (f4 1 1 1 1 ∷ [])) (bookOf (f4 1 1 1 (neg 1) ∷ [])) (placed (1 ∷ []) ((1, 1) ∷ []))
     -- a workshop with a free seat is deleted for nobody
-    ∷ line (caseOf (f3 1 1 1 ∷ f3 2 1 1 ∷ []) (f3 1 2 2 ∷ []) (f4 1 1 1 1 ∷ f4 2 1 1 2 ∷ [])) (bookOf (f4 1 1 1 1 ∷ []))
+    ∷ sample (caseOf (f3 1 1 1 ∷ f3 2 1 1 ∷ []) (f3 1 2 2 ∷ []) (f4 1 1 1 1 ∷ f4 2 1 1 2 ∷ [])) (bookOf (f4 1 1 1 1 ∷ []))
     (next 2 1 ((1, 1) ∷ []))
     -- marks of two groups are not compared
-    ∷ line (caseOf (f3 1 1 2 ∷ f3 2 1 2 ∷ []) (f3 1 1 3 ∷ []) (f4 1 1 1 2 ∷ f4 2 1 1 1 ∷ [])) (bookOf (f4 1 1 1 5 ∷ f4 2 1 1 1 ∷ []))
+    ∷ sample (caseOf (f3 1 1 2 ∷ f3 2 1 2 ∷ []) (f3 1 1 3 ∷ []) (f4 1 1 1 2 ∷ f4 2 1 1 1 ∷ [])) (bookOf (f4 1 1 1 5 ∷ f4 2 1 1 1 ∷ []))
     (placed (0 ∷ 1 ∷ []) ((1, 1) ∷ (2, 1) ∷ []))
     -- the next group is opened only when nothing is open; groups may have gaps
-    ∷ line (caseOf (f3 1 1 9 ∷ []) (f3 1 1 2 ∷ f3 2 1 2 ∷ []) (f4 1 1 3 1 ∷ f4 1 2 7 1 ∷ [])) (bookOf (f4 1 1 (neg 5) 1 ∷ []))
+    ∷ sample (caseOf (f3 1 1 9 ∷ []) (f3 1 1 2 ∷ f3 2 1 2 ∷ []) (f4 1 1 3 1 ∷ f4 1 2 7 1 ∷ [])) (bookOf (f4 1 1 (neg 5) 1 ∷ []))
     (placed (1 ∷ []) ((1, 1) ∷ []))
     -- stages come before numbers
-    ∷ line (caseOf (f3 1 2 2 ∷ f3 2 1 2 ∷ []) (f3 1 2 3 ∷ []) (f4 1 1 1 1 ∷ f4 2 1 1 1 ∷ [])) [] (next 2 1 [])
+    ∷ sample (caseOf (f3 1 2 2 ∷ f3 2 1 2 ∷ []) (f3 1 2 3 ∷ []) (f4 1 1 1 1 ∷ f4 2 1 1 1 ∷ [])) [] (next 2 1 [])
     -- a mark below 0 of the student in her line group leaves her without a place, and the visit stays on the list
-    ∷ line (two (f3 1 1 1) (f3 1 1 1) (f4 1 1 1 1 ∷ [])) (bookOf (f4 1 1 (neg 1) 1 ∷ [])) (placed (0 ∷ []) ((1, 1) ∷ []))
+    ∷ sample (oneEach (f3 1 1 1) (f3 1 1 1) (f4 1 1 1 1 ∷ [])) (bookOf (f4 1 1 (neg 1) 1 ∷ [])) (placed (0 ∷ []) ((1, 1) ∷ []))
     -- a workshop's mark below 0 in its line group is a no
-    ∷ line (two (f3 1 1 1) (f3 1 1 1) (f4 1 1 1 1 ∷ [])) (bookOf (f4 1 1 1 (neg 1) ∷ [])) (placed (0 ∷ []) ((1, 1) ∷ []))
+    ∷ sample (oneEach (f3 1 1 1) (f3 1 1 1) (f4 1 1 1 1 ∷ [])) (bookOf (f4 1 1 1 (neg 1) ∷ [])) (placed (0 ∷ []) ((1, 1) ∷ []))
     -- a workshop beyond the student's line is never visited, nor a student beyond the workshop's line
-    ∷ line (two (f3 1 1 1) (f3 1 1 1) (f4 1 1 2 1 ∷ [])) [] (placed (0 ∷ []) [])
-    ∷ line (two (f3 1 1 1) (f3 1 1 1) (f4 1 1 1 2 ∷ [])) [] (placed (0 ∷ []) [])
+    ∷ sample (oneEach (f3 1 1 1) (f3 1 1 1) (f4 1 1 2 1 ∷ [])) [] (placed (0 ∷ []) [])
+    ∷ sample (oneEach (f3 1 1 1) (f3 1 1 1) (f4 1 1 1 2 ∷ [])) [] (placed (0 ∷ []) [])
+    -- a dropped student is in hand next
+    ∷ sample
+    (caseOf (f3 1 1 3 ∷ f3 2 1 3 ∷ f3 3 1 3 ∷ []) (f3 1 1 2 ∷ f3 2 1 2 ∷ []) (f4 1 1 1 1 ∷ f4 1 2 2 1 ∷ f4 2 1 1 1 ∷ f4 3 2 1 1 ∷ []))
+    (bookOf (f4 1 1 1 1 ∷ f4 1 2 1 1 ∷ f4 2 1 1 2 ∷ f4 3 2 1 2 ∷ []))
+    (placed (0 ∷ 1 ∷ 2 ∷ []) ((1, 1) ∷ (2, 1) ∷ (1, 2) ∷ (3, 2) ∷ []))
+    -- a stop inside a group keeps its visits
+    ∷ sample K (take 8 bookK) (next 1 2 ((1, 1) ∷ []))
+    -- a student's equal marks in two groups are fine
+    ∷ sample K (bookOf (f4 1 1 5 3 ∷ f4 1 2 2 4 ∷ f4 2 2 (neg 1) 1 ∷ f4 3 1 4 9 ∷ f4 3 2 4 6 ∷ [])) answerK
+    -- the ends of the ranges are allowed
+    ∷ sample (oneEach (f3 1 512 65) (f3 1 512 513) (f4 1 1 65 513 ∷ [])) (bookOf (f4 1 1 (neg 1000) (neg 1000) ∷ []))
+    (placed (0 ∷ []) ((1, 1) ∷ []))
     -- each refusal that the fifteen lack, at its first record
-    ∷ line (two (f3 1 1 1) (1 ∷ 1 ∷ 1 ∷ 7 ∷ []) []) [] (refused 2 1)
-    ∷ line (caseRecord 4 (f3 1 1 1)) [] (refused 2 0)
-    ∷ line (two (f3 1 1 1) (f3 2 1 1) []) [] (refused 3 1)
-    ∷ line (caseOf (f3 1 1 1 ∷ []) [] (f4 1 1 1 1 ∷ [])) [] (refused 3 1)
-    ∷ line (two (f3 1 1 1) (f3 1 1 1) (f4 1 1 1 1 ∷ f4 1 1 1 1 ∷ [])) [] (refused 3 3)
-    ∷ line (caseOf (f3 1 1 1 ∷ []) [] []) [] (refused 4 0)
-    ∷ line (two (f3 1 513 1) (f3 1 1 1) []) [] (refused 5 0)
-    ∷ line (two (f3 1 1 1) (f3 1 513 1) []) [] (refused 5 1)
-    ∷ line (two (f3 1 1 1) (f3 1 1 1) (f4 1 1 66 1 ∷ [])) [] (refused 5 2)
-    ∷ line (two (f3 1 1 1) (f3 1 1 1) []) (1 ∷ []) (refused 7 0)
-    ∷ line (two (f3 1 1 1) (f3 1 1 1) []) (bookOf (f4 1 1 1 1 ∷ [])) (refused 8 0)
-    ∷ line K (bookOf (f4 1 1 5 3 ∷ f4 1 2 2 0 ∷ [])) (refused 9 1)
-    ∷ line K (bookOf (f4 1 1 5 3 ∷ f4 1 1 4 2 ∷ [])) (refused 10 1)
+    ∷ sample (oneEach (f3 1 1 1) (1 ∷ 1 ∷ 1 ∷ 7 ∷ []) []) [] (refused 2 1)
+    ∷ sample (caseRecord 4 (f3 1 1 1)) [] (refused 2 0)
+    ∷ sample (oneEach (f3 1 1 1) (f3 2 1 1) []) [] (refused 3 1)
+    ∷ sample (caseOf (f3 1 1 1 ∷ []) [] (f4 1 1 1 1 ∷ [])) [] (refused 3 1)
+    ∷ sample (oneEach (f3 1 1 1) (f3 1 1 1) (f4 1 1 1 1 ∷ f4 1 1 1 1 ∷ [])) [] (refused 3 3)
+    ∷ sample (caseOf (f3 1 1 1 ∷ []) [] []) [] (refused 4 0)
+    ∷ sample (oneEach (f3 1 513 1) (f3 1 1 1) []) [] (refused 5 0)
+    ∷ sample (oneEach (f3 1 1 1) (f3 1 513 1) []) [] (refused 5 1)
+    ∷ sample (oneEach (f3 1 1 1) (f3 1 1 1) (f4 1 1 66 1 ∷ [])) [] (refused 5 2)
+    ∷ sample (oneEach (f3 1 1 1) (f3 1 1 1) []) (1 ∷ []) (refused 7 0)
+    ∷ sample (oneEach (f3 1 1 1) (f3 1 1 1) []) (bookOf (f4 1 1 1 1 ∷ [])) (refused 8 0)
+    ∷ sample K (bookOf (f4 1 1 5 3 ∷ f4 1 2 2 0 ∷ [])) (refused 9 1)
+    ∷ sample K (bookOf (f4 1 1 5 3 ∷ f4 1 1 4 2 ∷ [])) (refused 10 1)
+    -- byte 1, and bytes 10 to 15
+    ∷ sample (1 ∷ 1 ∷ words (f3 1 1 1) ++ replicate 8 0) [] (refused 2 0)
+    ∷ sample (caseRecord 1 (1 ∷ 1 ∷ 1 ∷ 0 ∷ 0 ∷ 0 ∷ 256 ∷ [])) [] (refused 2 0)
+    ∷ sample (caseRecord 0 (f3 1 1 1)) [] (refused 2 0)
+    -- a pair before its workshop, kinds that fall, a pair with nobody, pairs not rising by workshop and by student
+    ∷ sample (concat (caseRecord 1 (f3 1 1 1) ∷ caseRecord 3 (f4 1 1 1 1) ∷ caseRecord 2 (f3 1 1 1) ∷ [])) [] (refused 3 1)
+    ∷ sample (concat (caseRecord 2 (f3 1 1 1) ∷ caseRecord 1 (f3 1 1 1) ∷ [])) [] (refused 3 1)
+    ∷ sample (oneEach (f3 1 1 1) (f3 1 1 1) (f4 2 1 1 1 ∷ [])) [] (refused 3 2)
+    ∷ sample (caseOf (f3 1 1 1 ∷ []) (f3 1 1 1 ∷ f3 2 1 1 ∷ []) (f4 1 2 1 1 ∷ f4 1 1 1 1 ∷ [])) [] (refused 3 4)
+    ∷ sample (caseOf (f3 1 1 1 ∷ f3 2 1 1 ∷ []) (f3 1 1 1 ∷ []) (f4 2 1 1 1 ∷ f4 1 1 1 1 ∷ [])) [] (refused 3 4)
+    ∷ sample (caseOf [] (f3 1 1 1 ∷ []) []) [] (refused 4 0)
+    -- the first numbers out of range
+    ∷ sample (oneEach (f3 1 0 1) (f3 1 1 1) []) [] (refused 5 0)
+    ∷ sample (oneEach (f3 1 1 66) (f3 1 1 1) []) [] (refused 5 0)
+    ∷ sample (oneEach (f3 1 1 1) (f3 1 1 514) []) [] (refused 5 1)
+    ∷ sample (oneEach (f3 1 1 1) (f3 1 1 1) (f4 1 1 0 1 ∷ [])) [] (refused 5 2)
+    ∷ sample (oneEach (f3 1 1 1) (f3 1 1 1) (f4 1 1 1 514 ∷ [])) [] (refused 5 2)
+    ∷ sample K (bookWith (neg 1001) 4 1 4 6) (refused 9 0)
+    ∷ sample K (bookOf (f4 1 1 5 3 ∷ f4 1 2 0 4 ∷ [])) (refused 9 1)
+    -- a student's equal marks in one group, at the later record
+    ∷ sample K (bookOf (f4 1 1 5 3 ∷ f4 1 2 5 4 ∷ [])) (refused 11 1)
     -- causes in order: a book record without its pair comes before a bad mark in an earlier record
-    ∷ line K (bookOf (f4 1 1 0 3 ∷ f4 1 9 2 2 ∷ [])) (refused 8 1)
+    ∷ sample K (bookOf (f4 1 1 0 3 ∷ f4 1 9 2 2 ∷ [])) (refused 8 1)
     ∷ []
 
 -- room enough for each of these
 unfoldable pub ample : Room
-ample = record { places = 3; visits = 12; seats = 3; index = 6; states = 3 }
+ample = record { places = 3; visits = 12; seats = 512; index = 6; states = 3 }
 
 -- K needs three places, twelve visits, two seats, six index entries and three states; each buffer one short
 unfoldable pub exact : Room
@@ -177,9 +213,18 @@ shortRooms =
     ∷ record { places = 3; visits = 12; seats = 2; index = 6; states = 2 }
     ∷ []
 
--- what the engine answers to the lines, and what it should
-unfoldable pub given : List Line → List Answer
-given ls = map (λ (l : Line). engine (l .case) (l .book) ample) ls
+-- what the engine answers to the samples, and what it should
+unfoldable pub given : List Sample → List Answer
+given ls = map (λ (l : Sample). engine (l .case) (l .book) ample) ls
 
-unfoldable pub expected : List Line → List Answer
-expected ls = map (λ (l : Line). l .answer) ls
+unfoldable pub expected : List Sample → List Answer
+expected ls = map (λ (l : Sample). l .answer) ls
+
+-- the tables hold: answers, exact and short buffers (cause 6, before a bad book length), the printed text, and a run with agreeing stages
+pub record TablesHold : Type 0 where
+  pub answers : given table ≡ expected table
+  pub own : given ownTable ≡ expected ownTable
+  pub exactly : engine K bookK exact ≡ answerK
+  pub shortly : map (λ (room : Room). engine K (0 ∷ []) room) shortRooms ≡ map (λ (room : Room). refused 6 0) shortRooms
+  pub text : printed answerK ≡ printedK
+  pub agreeing : Example K bookK exact

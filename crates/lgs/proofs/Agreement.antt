@@ -29,7 +29,7 @@ begins-then : (us vs ws : List Interview) → Begins us vs → Begins vs ws → 
 begins-then us vs ws (a, p) (b, q) = (a ++ b, q ∙ (ap (λ l. l ++ b) p ∙ append-assoc us a b))
 
 module _ (M : Market) (B : Results) where
-  interviews-grow : (s : ℕ) (ws : List ℕ) (σ : State) → Begins (σ .interviews) (interviewsIn M B (interviewAll M B s ws σ))
+  interviews-grow : (s : ℕ) (ws : List ℕ) (σ : State) → Begins (σ .interviews) (interviewsIn (interviewAll M B s ws σ))
   unfolding interviewAll
   interviews-grow s [] σ = begins-self (σ .interviews)
   interviews-grow s (w ∷ ws) σ =
@@ -44,25 +44,25 @@ module _ (M : Market) (B : Results) where
   settle-interviews σ c rest true = refl
   settle-interviews σ c rest false = refl
 
-  apply-interviews : (σ : State) (s : ℕ) (rest : List ℕ) (b : ℕ) → interviewsIn M B (apply M B σ s rest b) ≡ σ .interviews
+  apply-interviews : (σ : State) (s : ℕ) (rest : List ℕ) (b : ℕ) → interviewsIn (apply M B σ s rest b) ≡ σ .interviews
   unfolding apply close
   apply-interviews σ s rest zero = refl
   apply-interviews σ s rest (suc c) = settle-interviews (handOn M B σ rest (update (σ .held) s (suc c))) (suc c) rest _
 
-  turn-grows : (σ : State) (s : ℕ) (rest l : List ℕ) → Begins (σ .interviews) (interviewsIn M B (turn M B σ s rest l))
+  turn-grows : (σ : State) (s : ℕ) (rest l : List ℕ) → Begins (σ .interviews) (interviewsIn (turn M B σ s rest l))
   unfolding turn
   turn-grows σ s rest [] = interviews-grow s (due M B σ s) (advance M B σ s)
   turn-grows σ s rest (x ∷ xs) =
       subst (λ us. Begins (σ .interviews) us) (sym (apply-interviews σ s rest (best M B σ s x xs))) (begins-self (σ .interviews))
 
-  step-grows : (σ : State) (l : List ℕ) → Begins (σ .interviews) (interviewsIn M B (step M B σ l))
+  step-grows : (σ : State) (l : List ℕ) → Begins (σ .interviews) (interviewsIn (step M B σ l))
   unfolding step
   step-grows σ [] = begins-self (σ .interviews)
   step-grows σ (s ∷ rest) = turn-grows σ s rest (choices M B σ s)
 
-  run-grows : (k : ℕ) (x : Step) → Begins (interviewsIn M B x) (interviewsIn M B (run M B k x))
+  run-grows : (k : ℕ) (x : Step) → Begins (interviewsIn x) (interviewsIn (run M B k x))
   unfolding run
-  run-grows zero x = begins-self (interviewsIn M B x)
+  run-grows zero x = begins-self (interviewsIn x)
   run-grows (suc k) (going σ) = begins-then (σ .interviews) _ _ (step-grows σ (σ .waiting)) (run-grows k (step M B σ (σ .waiting)))
   run-grows (suc k) (stopped s w vs) = begins-self vs
   run-grows (suc k) (finished p vs) = begins-self vs
@@ -272,15 +272,15 @@ module _ (M : Market) (B B′ : Results) where
             a .run ∙ (ap (run M B′ (a .steps)) g ∙ run-answer M B′ (a .steps) (stopped s w vs) (stopped-not-going s w vs))
 
     -- and once it has one, it is held next
-    pub next-held : B′ .met s w ≡ true → Begins (vs ++ ((s, w) ∷ [])) (interviewsIn M B′ (lazyGaleShapley M B′))
+    pub next-held : B′ .met s w ≡ true → Begins (vs ++ ((s, w) ∷ [])) (interviewsIn (lazyGaleShapley M B′))
     unfolding interviewAll
     next-held met = by-arrival arrives
       where
-        by-arrival : Arrives → Begins (vs ++ ((s, w) ∷ [])) (interviewsIn M B′ (lazyGaleShapley M B′))
+        by-arrival : Arrives → Begins (vs ++ ((s, w) ∷ [])) (interviewsIn (lazyGaleShapley M B′))
         by-arrival a =
             let τ : State = addInterview M B′ (a .state) s w in
             let g : interviewAll M B′ s (w ∷ a .after) (a .state) ≡ interviewAll M B′ s (a .after) τ = rw met in
-            let b : Begins (τ .interviews) (interviewsIn M B′ (run M B′ (a .steps) (interviewAll M B′ s (a .after) τ))) =
+            let b : Begins (τ .interviews) (interviewsIn (run M B′ (a .steps) (interviewAll M B′ s (a .after) τ))) =
             begins-then (τ .interviews) _ _ (interviews-grow M B′ s (a .after) τ) (run-grows M B′ (a .steps) (interviewAll M B′ s (a .after) τ)) in
-            subst (λ us. Begins (us ++ ((s, w) ∷ [])) (interviewsIn M B′ (lazyGaleShapley M B′))) (a .interviews)
-            (subst (λ x. Begins (τ .interviews) (interviewsIn M B′ x)) (sym (a .run ∙ ap (run M B′ (a .steps)) g)) b)
+            subst (λ us. Begins (us ++ ((s, w) ∷ [])) (interviewsIn (lazyGaleShapley M B′))) (a .interviews)
+            (subst (λ x. Begins (τ .interviews) (interviewsIn x)) (sym (a .run ∙ ap (run M B′ (a .steps)) g)) b)

@@ -87,6 +87,7 @@ module _ (M : Market) (wf : WellFormed M) (B : Results) (distinct : Distinct M B
     minimal : MinimalInterviews M B places vs
     minimal =
         record {
+          listed = listed;
           determined = λ O fits. rw same-matching (listed-determined M wf B distinct p vs run O fits);
           placed = λ s l.
               rw (same-place s)
@@ -103,7 +104,6 @@ module _ (M : Market) (wf : WellFormed M) (B : Results) (distinct : Distinct M B
         record {
           whole = length-map (upto (M .students)) p ∙ upto-length (M .students);
           optimal = record { optimal = λ O fits. rw same-matching (listed-optimal M wf B distinct p vs run O fits) };
-          listed = listed;
           minimal = minimal;
         }
 
@@ -147,10 +147,10 @@ module _ (M : Market) (B : Results) (places : List ℕ) (vs : List Interview) (P
       }
     where
       student : (s x : ℕ) → outsideOr (interviewed vs s) x ≡ true → outsideOr (B .met s) x ≡ true
-      student s = wider (interviewed vs s) (B .met s) (P .listed .answered s)
+      student s = wider (interviewed vs s) (B .met s) (P .minimal .listed .answered s)
 
       workshop : (w x : ℕ) → outsideOr (flip (interviewed vs) w) x ≡ true → outsideOr (flip (B .met) w) x ≡ true
-      workshop w = wider (flip (interviewed vs) w) (flip (B .met) w) (λ s. P .listed .answered s w)
+      workshop w = wider (flip (interviewed vs) w) (flip (B .met) w) (λ s. P .minimal .listed .answered s w)
 
   -- demand 2 in the words of document 01: under every profile that fits the tiers and the book
   pub placed-optimal : StudentOptimal M O (matchingOf places)

@@ -107,7 +107,7 @@ module _ (M : Market) where
       pub workshop : O .workshopRank w s < O .workshopRank w 0
 
     -- A matching (document 01: placement) "gives each student one workshop or none" (0), "no workshop more than its quota, and every placed
-    -- pair is acceptable to both".
+    -- pair is acceptable to both". (Pair records name only students of the market, so nobody else has a place.)
     pub record Matching (μ : ℕ → ℕ) : Type 0 where
       pub acceptable : (s : ℕ) → 0 < μ s → Acceptable s (μ s)
       pub within : (w : ℕ) → 0 < w → seated μ w ≤ M .quota w

@@ -27,6 +27,12 @@ pairsIn M Vs = total (λ s. count (λ w. M .paired s w && Vs s w) (M .workshops)
 abbrev pub Begins : List Interview → List Interview → Type 0
 Begins us vs = (rest : List Interview) × (vs ≡ us ++ rest)
 
+-- the interviews that a run has held
+abbrev pub interviewsIn : Step → List Interview
+interviewsIn (going σ) = σ .interviews
+interviewsIn (stopped s w vs) = vs
+interviewsIn (finished p vs) = vs
+
 module _ (M : Market) (B : Results) where
   -- the listed interviews have a pair record and a book record, and none is listed twice
   pub record Listed (vs : List Interview) : Type 0 where
@@ -41,7 +47,9 @@ module _ (M : Market) (B : Results) where
 
   -- Demand 3. "Let the results come from any full order that fits the groups and the book."
   pub record MinimalInterviews (places : List ℕ) (vs : List Interview) : Type 0 where
-    -- "Our list is itself such a set": it makes its holder sure of this placement, and it holds every placed pair
+    -- "Our list is itself such a set and names no pair twice": it makes its holder sure of this placement, and it holds every placed pair. This
+    -- needs no agreeing stages.
+    pub listed : Listed vs
     pub determined : (O : Profile) → Fits M B (B .met) O → Determined M (interviewed vs) O (matchingOf places)
     pub placed : (s : ℕ) → 0 < matchingOf places s → interviewed vs s (matchingOf places s) ≡ true
     -- "every set of visits that makes its holder sure of the student-best placement, and that holds every placed pair, holds every visit on
@@ -54,18 +62,11 @@ module _ (M : Market) (B : Results) where
         → ((s : ℕ) → 0 < matchingOf places s → Vs s (matchingOf places s) ≡ true)
         → ((s w : ℕ) → interviewed vs s w ≡ true → Vs s w ≡ true) × (length vs ≤ pairsIn M Vs)
 
-  -- an answer with a placement
+  -- an answer with a placement (from bytes: `Demand2Placed` and `Demand3` of the crate format)
   pub record Placed (places : List ℕ) (vs : List Interview) : Type 0 where
     pub whole : length places ≡ M .students
     pub optimal : OptimalWhateverUnseen places vs
-    pub listed : Listed vs
     pub minimal : MinimalInterviews places vs
-
-  -- the interviews that a run has held
-  abbrev pub interviewsIn : Step → List Interview
-  interviewsIn (going σ) = σ .interviews
-  interviewsIn (stopped s w vs) = vs
-  interviewsIn (finished p vs) = vs
 
 -- B′ has every record of B
 pub record Extends (B B′ : Results) : Type 0 where
@@ -75,7 +76,7 @@ pub record Extends (B B′ : Results) : Type 0 where
   pub studentOutside : (s : ℕ) → B′ .studentScore s 0 ≡ B .studentScore s 0
   pub workshopOutside : (w : ℕ) → B′ .workshopScore w 0 ≡ B .workshopScore w 0
 
--- an answer with a next interview
+-- an answer with a next interview (from bytes: `Demand2Next` of the crate format)
 pub record NextInterview (M : Market) (B : Results) (s w : ℕ) (vs : List Interview) : Type 0 where
   pub pair : M .paired s w ≡ true
   pub unanswered : B .met s w ≡ false
@@ -85,4 +86,4 @@ pub record NextInterview (M : Market) (B : Results) (s w : ℕ) (vs : List Inter
   pub first : (B′ : Results)
       → Extends B B′
       → B′ .met s w ≡ true
-      → Begins (vs ++ ((s, w) ∷ [])) (interviewsIn M B′ (lazyGaleShapley M B′))
+      → Begins (vs ++ ((s, w) ∷ [])) (interviewsIn (lazyGaleShapley M B′))

@@ -82,7 +82,7 @@ module _ (M : Market) (B : Results) where
         && (interviewed (σ .interviews) x w
         && (interviewed (σ .interviews) y w && ltb (B .workshopScore w x) (B .workshopScore w y))))
 
-    -- the lowest of these students
+    -- the lowest of these students; a workshop that has just been applied to holds somebody, so the list is not empty where this is used
     unfoldable pub lowestOf : ℕ → List ℕ → ℕ
     lowestOf w [] = 0
     lowestOf w (x ∷ xs) = pick (below w) x xs
@@ -169,7 +169,8 @@ module _ (M : Market) (B : Results) where
   run (suc k) (stopped s w vs) = stopped s w vs
   run (suc k) (finished p vs) = finished p vs
 
-  -- Enough steps: each raises a student's tier, deletes a pair or is a student's last. (That they never run out is proved: `RunEnds`.)
+  -- Enough steps: each raises a student's tier, or is an application or her end, and an application that is not her last is followed by the
+  -- deletion of that workshop for her. (That the steps never run out is a theorem: `RunEnds` of the crate format.)
   unfoldable pub fuel : ℕ
   fuel = suc (total (λ s. 2 + studentOutside M s + M .workshops) (M .students))
 

@@ -1,0 +1,123 @@
+-- Example K has agreeing stages, and a finished run that lists more than the placed pairs: demand 3 speaks of it, and is no matter of course.
+-- The stages agree by a test over the pairs of its records, and the test is computed.
+use Prim.Native.Nat.{ℕ, _<_}
+use mathlib.Core.Path.{_≡_, refl, ap}
+use mathlib.Core.Logic.{⊎-elim}
+use mathlib.Core.Bool.{Bool, true, false, not, _&&_, _||_}
+use mathlib.Core.List.{List, [], _∷_}
+use native.Mathlib.Omega.{arith}
+use lib.Dec.{eqb, ltb}
+use borrow.Author.Tests.{lt-ltb, le-ltb, eq-eqb, ne-eqb}
+use Rattle.base.specs.Lists.{any, tabulate, tally, find}
+use Rattle.base.specs.Words.{word}
+use Rattle.base.proofs.Tests.{bool-cases, never, or-false, or-left, or-right, and-make, less?, eq?}
+use Rattle.lgs.specs.Market.{Market, ConsistentStages, Rivals, workshopOutside}
+use Rattle.lgs.specs.Rule.{interviewed}
+use Rattle.format.specs.Layout.{Row, isPair, ofKind, rowAt, rows, marketOf}
+use Rattle.format.specs.Promises.{Example}
+use Rattle.format.specs.Table.{words, caseRecord, concat, caseOf, studentsK, workshopsK, pairsK, caseWith, K, bookK, visitsK, answerK, exact, TablesHold}
+use Rattle.format.proofs.Positions.{pair-says}
+use Rattle.format.proofs.Table.{computed}
+
+-- ---- a test for agreeing stages
+
+-- students s and t are within the outside tier of w, which has seats, and their stages do not tell as their tiers do
+differ : Market → ℕ → ℕ → ℕ → Bool
+differ M w s t =
+    (ltb 0 (M .quota w) && (not (ltb (workshopOutside M w) (M .workshopTier w s)) && not (ltb (workshopOutside M w) (M .workshopTier w t))))
+    && ((ltb (M .workshopTier w s) (M .workshopTier w t) && not (ltb (M .stage s) (M .stage t)))
+    || (eqb (M .workshopTier w s) (M .workshopTier w t) && not (eqb (M .stage s) (M .stage t))))
+
+-- they are the students of two pair records of one workshop
+meets : Market → Row → Row → Bool
+meets M r q = ofKind 3 q && (eqb (r .second) (q .second) && differ M (r .second) (r .first) (q .first))
+
+-- some two records are such
+someDiffer : List Row → Bool
+someDiffer rs = any (λ r. ofKind 3 r && any (meets (marketOf rs) r) rs) rs
+
+-- of the elements that pass one test, where none passes another
+witness : {A : Type 0} (p q : A → Bool) (xs : List A) → any p xs ≡ true → any q xs ≡ false → (x : A) × (p x ≡ true) × (q x ≡ false)
+unfolding any
+witness p q [] e f = never e refl
+witness p q (x ∷ xs) e f =
+    let r : (q x ≡ false) × (any q xs ≡ false) = or-false (q x) _ f in
+    ⊎-elim (λ (b : p x ≡ true). (x, b, r .0)) (λ (b : p x ≡ false). witness p q xs (rw b at e) (r .1)) (bool-cases (p x))
+
+module _ (rs : List Row) (none : someDiffer rs ≡ false) where
+  abbrev M : Market
+  M = marketOf rs
+
+  agree : (w s t : ℕ) → M .paired s w ≡ true → M .paired t w ≡ true → differ M w s t ≡ false
+  unfolding someDiffer meets marketOf
+  agree w s t e f =
+      let r : (r : Row) × (isPair s w r ≡ true) × ((ofKind 3 r && any (meets M r) rs) ≡ false) =
+      witness (isPair s w) (λ r. ofKind 3 r && any (meets M r) rs) rs e none in
+      let x : (r .0 .kind ≡ 3) × (r .0 .first ≡ s) × (r .0 .second ≡ w) = pair-says s w (r .0) (r .1) in
+      let q : (q : Row) × (isPair t w q ≡ true) × (meets M (r .0) q ≡ false) = witness (isPair t w) (meets M (r .0)) rs f (rw (x .0) at (r .2)) in
+      let y : (q .0 .kind ≡ 3) × (q .0 .first ≡ t) × (q .0 .second ≡ w) = pair-says t w (q .0) (q .1) in
+      rw (y .0, y .1, y .2, x .1, x .2, eq-eqb w w refl) at (q .2)
+
+  stages-agree : ConsistentStages (marketOf rs)
+  unfolding differ
+  stages-agree = record { earlier = earlier; together = together }
+    where
+      rivals : (w s t : ℕ) → Rivals M w s t
+          → (ltb 0 (M .quota w) && (not (ltb (workshopOutside M w) (M .workshopTier w s)) && not (ltb (workshopOutside M w) (M .workshopTier w t)))) ≡ true
+      rivals w s t R =
+          rw (
+            lt-ltb 0 (M .quota w) (R .seats),
+            le-ltb (workshopOutside M w) (M .workshopTier w s) (R .within),
+            le-ltb (workshopOutside M w) (M .workshopTier w t) (R .within′),
+          )
+
+      earlier : (w s t : ℕ) → Rivals M w s t → M .workshopTier w s < M .workshopTier w t → M .stage s < M .stage t
+      earlier w s t R l =
+          ⊎-elim (λ less. less)
+          (λ le.
+          never
+          (and-make (rivals w s t R)
+          (or-left (ltb (M .workshopTier w s) (M .workshopTier w t) && not (ltb (M .stage s) (M .stage t))) _
+          (and-make (lt-ltb _ _ l) (ap not (le-ltb (M .stage s) (M .stage t) le)))))
+          (agree w s t (R .pair) (R .pair′)))
+          (less? (M .stage s) (M .stage t))
+
+      together : (w s t : ℕ) → Rivals M w s t → M .workshopTier w s ≡ M .workshopTier w t → M .stage s ≡ M .stage t
+      together w s t R e =
+          ⊎-elim (λ same. same)
+          (λ other.
+          never
+          (and-make (rivals w s t R)
+          (or-right (ltb (M .workshopTier w s) (M .workshopTier w t) && not (ltb (M .stage s) (M .stage t))) _
+          (and-make (eq-eqb _ _ e) (ap not (ne-eqb (M .stage s) (M .stage t) other)))))
+          (agree w s t (R .pair) (R .pair′)))
+          (eq? (M .stage s) (M .stage t))
+
+-- ---- example K
+
+agrees-k : someDiffer (rows K) ≡ false
+unfolding someDiffer meets differ marketOf rows rowAt word any find tally tabulate K caseWith caseOf concat caseRecord words studentsK workshopsK pairsK
+agrees-k = refl
+
+pub example-k : Example K bookK exact
+unfolding answerK visitsK interviewed any
+example-k =
+    record {
+      places = 1 ∷ 0 ∷ 2 ∷ [];
+      interviews = visitsK;
+      answer = computed .exactly;
+      consistent = stages-agree (rows K) agrees-k;
+      listedUnplaced = (1, 2, refl, λ e. omega arith);
+    }
+
+-- ---- the tables of proved cases
+pub tables-hold : TablesHold
+tables-hold =
+    record {
+      answers = computed .answers;
+      own = computed .own;
+      exactly = computed .exactly;
+      shortly = computed .shortly;
+      text = computed .text;
+      agreeing = example-k;
+    }

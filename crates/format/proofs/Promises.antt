@@ -1,0 +1,193 @@
+-- The three demands, and what shows that they are not empty, for every case and book in bytes and every room lent.
+-- A refusal is the first cause found (Causes.antt), and any other answer has what the rule's theorems say of its run (Runs.antt).
+use Prim.Native.Nat.{ℕ, _≤_}
+use mathlib.Core.Path.{_≡_, refl, sym, ap, _∙_}
+use mathlib.Core.Logic.{_⊎_, inl, inr}
+use mathlib.Core.Bool.{true, false}
+use mathlib.Core.Option.{Option, some, none}
+use mathlib.Core.List.{List}
+use native.Mathlib.Omega.{arith}
+use lib.ListN.{length}
+use Rattle.base.specs.Lists.{any, tally}
+use Rattle.lgs.specs.Profiles.{Profile, StudentOptimal, Fits}
+use Rattle.lgs.specs.Rule.{Interview, Step, going, stopped, finished, interviewed}
+use Rattle.lgs.specs.Promises.{Listed, Placed, NextInterview, interviewsIn}
+use Rattle.lgs.proofs.Minimal.{revealed-fits}
+use Rattle.lgs.proofs.Agreement.{unlisted-finished, unlisted-stopped}
+use Rattle.lgs.proofs.Optimal.{optimal-unique}
+use Rattle.lgs.proofs.OptimalExists.{optimal-exists as optimal-for}
+use Rattle.lgs.proofs.Promises.{fits-exists, listed-length}
+use Rattle.format.specs.Layout.{rows, resultsOf, ofKind}
+use Rattle.format.specs.Refusals.{Room, refusal, needed}
+use Rattle.format.specs.Engine.{Answer, placed, next, refused, answerOf, answerUnless, engine, marketIn, resultsIn}
+use Rattle.format.specs.Promises.{Valid, Refused, Answered, withPlaces, withNext, RunEnds, Demand1, FitsBook, interviewsOf}
+use Rattle.format.specs.Promises.{Demand2Placed, Demand2Next, Demand2, Demand3, FitExists, OptimalExists, SameListed, UnlistedUnused, HeadsFit, Promised}
+use Rattle.format.proofs.Causes.{refusal-some, refusal-none, passed}
+use Rattle.format.proofs.Runs.{rule, wf, distinct, ends, engine-valid, Finished, Stopped, when-placed, when-next, placed-promise, next-promise}
+use Rattle.format.proofs.Books.{extends, agree-listed}
+use Rattle.format.proofs.PairCount.{pairs-within}
+
+-- ---- demand 1
+pub run-ends : RunEnds
+run-ends = ends
+
+pub demand1 : Demand1
+unfolding engine answerUnless answerOf
+demand1 case book room = by-refusal (refusal case book room) refl
+  where
+    answered : Valid case book room → (x : Step) → rule case book room ≡ x → Answered case book (answerOf (marketIn case .students) x)
+    answered valid (finished p vs) e = withPlaces p vs e
+    answered valid (stopped s w vs) e = withNext s w vs e
+    answered valid (going σ) e = absurd (run-ends case book room valid σ e)
+
+    by-refusal : (r : Option (ℕ × ℕ))
+        → refusal case book room ≡ r
+        → (Valid case book room × Answered case book (answerUnless r (marketIn case) (resultsIn book)))
+        ⊎ ((k : ℕ) × (i : ℕ) × Refused case book room k i × (answerUnless r (marketIn case) (resultsIn book) ≡ refused k i))
+    by-refusal (some (k, i)) e = inr (k, i, refusal-some case book room k i e, refl)
+    by-refusal none e =
+        let valid : Valid case book room = refusal-none case book room e in
+        inl (valid, answered valid (rule case book room) refl)
+
+-- ---- demands 2 and 3
+
+-- an order that fits the groups and the book fits the marks of the listed interviews
+fits-listed : (case book : List ℕ) (O : Profile) (vs : List Interview)
+    → ((s w : ℕ) → interviewed vs s w ≡ true → resultsIn book .met s w ≡ true)
+    → FitsBook case book O
+    → Fits (marketIn case) (resultsIn book) (interviewed vs) O
+fits-listed case book O vs met F =
+    revealed-fits (marketIn case) (resultsIn book) O O (interviewed vs) met F
+    (record {
+      strict = F .strict;
+      tiers = F .tiers;
+      students = record { same = λ p x y ox oy mx my l. l };
+      workshops = record { same = λ p x y ox oy mx my l. l };
+    })
+
+-- the interviews that an answer lists are those of the run
+lists : (n : ℕ) (x : Step) → interviewsOf (answerOf n x) ≡ interviewsIn x
+unfolding answerOf
+lists n (finished p vs) = refl
+lists n (stopped s w vs) = refl
+lists n (going σ) = refl
+
+module _ (case book : List ℕ) (room : Room) where
+  placed-demand : (places : List ℕ) (vs : List Interview) → Finished case book room places vs → Demand2Placed case book places vs
+  placed-demand places vs f =
+      let P : Placed (marketIn case) (resultsIn book) places vs = placed-promise case book room places vs f in
+      record {
+        whole = P .whole;
+        optimal = λ O F. P .optimal .optimal O (fits-listed case book O vs (P .minimal .listed .answered) F);
+        unseen = P .optimal;
+        rule = (f .matching, f .run, f .whole);
+        listed = P .minimal .listed;
+      }
+
+  next-demand : (s w : ℕ) (vs : List Interview) → Stopped case book room s w vs → Demand2Next case book room s w vs
+  unfolding resultsOf
+  next-demand s w vs f =
+      let N : NextInterview (marketIn case) (resultsIn book) s w vs = next-promise case book room s w vs f in
+      record {
+        rule = f .run;
+        stops = N;
+        first = λ book′ valid′ more met.
+            rw (engine-valid case book′ room valid′, lists (marketIn case .students) (rule case book′ room))
+            (N .first (resultsIn book′) (extends case book book′ (passed case book′ room valid′) more) met);
+      }
+
+pub demand2 : Demand2
+demand2 =
+    record {
+      whenPlaced = λ case book room places vs e. placed-demand case book room places vs (when-placed case book room places vs e);
+      whenNext = λ case book room s w vs e. next-demand case book room s w vs (when-next case book room s w vs e);
+    }
+
+pub demand3 : Demand3
+demand3 case book room places vs e = placed-promise case book room places vs (when-placed case book room places vs e) .minimal
+
+-- ---- the demands of one answer
+pub promised : (case book : List ℕ) (room : Room) → Promised case book room (engine case book room)
+promised case book room = by-answer (engine case book room) refl
+  where
+    not-answered : (k i : ℕ) (a : Answer) → Answered case book a → a ≡ refused k i → ⊥
+    not-answered k i a (withPlaces p vs r) e = let z : _≡_ {A = ℕ} 0 1 = cc in omega arith
+    not-answered k i a (withNext s w vs r) e = let z : _≡_ {A = ℕ} 0 1 = cc in omega arith
+
+    when-refused : (k i : ℕ)
+        → engine case book room ≡ refused k i
+        → (Valid case book room × Answered case book (engine case book room))
+        ⊎ ((j : ℕ) × (l : ℕ) × Refused case book room j l × (engine case book room ≡ refused j l))
+        → Refused case book room k i
+    when-refused k i e (inl r) = absurd (not-answered k i (engine case book room) (r .1) e)
+    when-refused k i e (inr (j, l, r, f)) =
+        let g : refused j l ≡ refused k i = sym f ∙ e in
+        let same-number : j ≡ k = cc in
+        let same-place : l ≡ i = cc in
+        rw (same-number, same-place) at r
+
+    by-answer : (a : Answer) → engine case book room ≡ a → Promised case book room a
+    by-answer (placed places vs) e = (demand2 .whenPlaced case book room places vs e, demand3 case book room places vs e)
+    by-answer (next s w vs) e = demand2 .whenNext case book room s w vs e
+    by-answer (refused k i) e = when-refused k i e (demand1 case book room)
+
+-- ---- that these say something
+pub fit-exists : FitExists
+fit-exists case book room valid = fits-exists (marketIn case) (wf case book room valid) (resultsIn book) (distinct case book room valid)
+
+pub optimal-exists : OptimalExists
+optimal-exists case book room valid O strict tiers =
+    let r : (μ : ℕ → ℕ) × StudentOptimal (marketIn case) O μ = optimal-for (marketIn case) (wf case book room valid) O strict tiers in
+    (r .0, r .1, λ ν best s. optimal-unique (marketIn case) O strict ν (r .0) best (r .1) s)
+
+module _ (case book book′ : List ℕ) (room : Room) (valid′ : Valid case book′ room) where
+  placed-again : (places : List ℕ) (vs : List Interview) → Finished case book room places vs → SameListed vs book book′ → engine case book′ room ≡ placed places vs
+  unfolding answerOf
+  placed-again places vs f same =
+      let P : Placed (marketIn case) (resultsIn book) places vs = placed-promise case book room places vs f in
+      let run′ : rule case book′ room ≡ finished (f .matching) vs =
+      unlisted-finished (marketIn case) (resultsIn book) (resultsIn book′) (f .matching) vs (f .run)
+      (agree-listed case book book′ (passed case book′ room valid′) vs (P .minimal .listed .answered) same) in
+      rw (engine-valid case book′ room valid′, run′) (ap (λ l. placed l vs) (sym (f .whole)))
+
+  next-again : (s w : ℕ) (vs : List Interview) → Stopped case book room s w vs → SameListed vs book book′ → resultsIn book′ .met s w ≡ false
+      → engine case book′ room ≡ next s w vs
+  unfolding answerOf
+  next-again s w vs f same unmet =
+      let N : NextInterview (marketIn case) (resultsIn book) s w vs = next-promise case book room s w vs f in
+      let run′ : rule case book′ room ≡ stopped s w vs =
+      unlisted-stopped (marketIn case) (resultsIn book) (resultsIn book′) s w vs (f .run)
+      (agree-listed case book book′ (passed case book′ room valid′) vs (N .listed .answered) same) unmet in
+      rw (engine-valid case book′ room valid′, run′)
+
+pub unlisted-unused : UnlistedUnused
+unfolding resultsOf
+unlisted-unused =
+    record {
+      whenPlaced = λ case book book′ room places vs e valid′ same.
+          placed-again case book book′ room valid′ places vs (when-placed case book room places vs e) same;
+      whenNext = λ case book book′ room s w vs e valid′ same unmet.
+          next-again case book book′ room valid′ s w vs (when-next case book room s w vs e) same unmet;
+    }
+
+module _ (case book : List ℕ) (room : Room) where
+  -- the listed interviews are no more than the pair records
+  listed-within : Valid case book room → (vs : List Interview) → Listed (marketIn case) (resultsIn book) vs → length vs ≤ tally (ofKind 3) (rows case)
+  listed-within valid vs L = omega (arith, listed-length (marketIn case) (wf case book room valid) (resultsIn book) vs L, pairs-within (rows case))
+
+  answer-within : (a : Answer) → engine case book room ≡ a → length (interviewsOf a) ≤ tally (ofKind 3) (rows case)
+  answer-within (placed places vs) e =
+      let f : Finished case book room places vs = when-placed case book room places vs e in
+      listed-within (f .valid) vs (placed-promise case book room places vs f .minimal .listed)
+  answer-within (next s w vs) e =
+      let f : Stopped case book room s w vs = when-next case book room s w vs e in
+      listed-within (f .valid) vs (next-promise case book room s w vs f .listed)
+  answer-within (refused k i) e = omega arith
+
+pub heads-fit : HeadsFit
+unfolding needed
+heads-fit =
+    record {
+      whenPlaced = λ case book room places vs e. omega (arith, placed-promise case book room places vs (when-placed case book room places vs e) .whole);
+      anyway = λ case book room. omega (arith, answer-within case book room (engine case book room) refl);
+    }

@@ -1,0 +1,14 @@
+pub mod Seats
+pub mod Evident
+pub mod Tied
+pub mod Match
+pub mod Turns
+pub mod Refined
+pub mod Loop
+pub mod Stages
+pub mod Parts
+pub mod Openings
+pub mod Rounds
+pub mod Shows
+pub mod ShowsTurn
+pub mod Running

@@ -1,0 +1,4 @@
+pub mod Model
+pub mod Store
+pub mod Turn
+pub mod Ready
