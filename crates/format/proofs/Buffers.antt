@@ -31,7 +31,7 @@ module _ (new old : List ℕ) where
       rw (ap (λ k. getD (withHead new old) k 0) e, getD-append-add new (drop (length new) old) (i - length new) 0, getD-drop (length new) old (i - length new) 0)
       (ap (λ k. getD old k 0) (sym e))
 
-flat-length : (vs : List Interview) → length (flat vs) ≡ 2 * length vs
+pub flat-length : (vs : List Interview) → length (flat vs) ≡ 2 * length vs
 unfolding flat
 flat-length [] = refl
 flat-length (v ∷ vs) = omega (arith, flat-length vs)

@@ -1,0 +1,263 @@
+-- From what testing the input leaves, through the run, to the answer: the run can be taken (`turn-ready`, `hand-within`, `run-ends`), what it
+-- leaves can be finished (`can-finish`), and the answer and the buffers are those of the definitions (`answered`).
+-- Where nothing is refused the run on the buffers is the staged rule (model: Running); a refusal takes no turn.
+use Prim.Native.Nat.{ℕ, zero, suc, _+_, _*_, _-_, _≤_, _<_}
+use mathlib.Core.Path.{_≡_, refl, sym, ap, _∙_, subst}
+use mathlib.Core.Logic.{⊎-elim}
+use mathlib.Core.Bool.{Bool, true, false, cond}
+use mathlib.Core.List.{List, [], _∷_, map}
+use mathlib.Core.Option.{Option, some, none}
+use native.Mathlib.Omega.{arith}
+use lib.Dec.{eqb, ltb}
+use lib.ListN.{length, getD, replicate, length-replicate, length-take}
+use borrow.Author.Tests.{eq-eqb, ne-eqb, ltb-false}
+use native.Mathlib.Nat.{min-le-left}
+use Rattle.base.specs.Lists.{total, upto, tally}
+use Rattle.base.proofs.Tests.{or-false, is-false, less?}
+use Rattle.lgs.specs.Market.{Market, Results}
+use Rattle.lgs.specs.Rule.{Interview, stopped, finished, fuel, lazyGaleShapley}
+use Rattle.lgs.specs.Promises.{pairsIn}
+use Rattle.format.specs.Layout.{rows, ofKind, marketOf}
+use Rattle.format.specs.Refusals.{Room, refusal, needed, badRoom}
+use Rattle.format.specs.Engine.{Answer, placed, next, refused, answerOf, answerUnless, engine, marketIn, resultsIn}
+use Rattle.format.specs.Buffers.{flat, withHead, placesAfter, visitsAfter, scratchAfter}
+use Rattle.format.specs.Promises.{Valid, Refused, Cause, caseLength, form, order, counts, range, short, bookLength, pair, score, repeated, tie}
+use Rattle.format.proofs.Causes.{refusal-none, refusal-some}
+use Rattle.format.proofs.Runs.{wf, distinct, engine-valid}
+use Rattle.format.proofs.PairCount.{pairs-within}
+use Rattle.format.proofs.Promises.{promised}
+use Rattle.model.specs.declared.StudentState.{StudentState}
+use Rattle.model.specs.declared.Run.{Run}
+use Rattle.model.specs.Store.{part, seatsFrom}
+use Rattle.model.specs.Turn.{zeroState, beginRun, runOf}
+use Rattle.model.specs.Ready.{Ready}
+use Rattle.model.proofs.Shows.{Lacking, Stand}
+use Rattle.model.proofs.Running.{stands, Ends, stops, finishes, Finished, ends-hand, run-ready, run-is-rule}
+use Rattle.lookup.specs.Clean.{Clean}
+use Rattle.answers.specs.declared.Answer.{Answer as Brief}
+use Rattle.answers.specs.Report.{reportOf}
+use Rattle.answering.specs.declared.Prepared.{Prepared}
+use Rattle.answering.specs.Places.{fromSeats, noPlaces}
+use Rattle.answering.specs.Finish.{Seated, Over, placesEnd, answerEnd}
+use Rattle.answering.specs.Steps.{roomOf, StepReady, Halted, Started, Found, Prepares}
+use Rattle.answering.specs.Answered.{lent, Answered}
+use Rattle.answering.proofs.Laws.{part-short}
+use Rattle.answering.proofs.Matching.{places-matching}
+use Rattle.answering.proofs.Cleaning.{Enough, enough}
+
+abbrev pub Kept : Type 0
+Kept = List ℕ × (List ℕ × (List StudentState × Run))
+
+-- a cause's number is above 0
+cause-above : (case book : List ℕ) (room : Room) (k i : ℕ) → Cause case book room k i → 0 < k
+cause-above case book room k i (caseLength e) = omega arith
+cause-above case book room k i (form j f) = omega arith
+cause-above case book room k i (order j f) = omega arith
+cause-above case book room k i (counts e) = omega arith
+cause-above case book room k i (range j f) = omega arith
+cause-above case book room k i (short e) = omega arith
+cause-above case book room k i (bookLength e) = omega arith
+cause-above case book room k i (pair j f) = omega arith
+cause-above case book room k i (score j f) = omega arith
+cause-above case book room k i (repeated j f) = omega arith
+cause-above case book room k i (tie j f) = omega arith
+
+module _ (case book places visits seats index : List ℕ) (states : List StudentState) (p : Prepared) (seats₁ index₁ : List ℕ)
+    (prepared : Prepares case book (length places) (length visits) (length states) seats index p seats₁ index₁) where
+  abbrev M : Market
+  M = marketIn case
+
+  abbrev B : Results
+  B = resultsIn book
+
+  abbrev room : Room
+  room = lent case book places visits seats index states
+
+  abbrev zeros : List StudentState
+  zeros = replicate (length states) zeroState
+
+  -- the visits, the seats, the states and the run after k turns
+  abbrev pub after : ℕ → Kept
+  after k = runOf M B k visits seats₁ zeros (p .run)
+
+  abbrev hand : Kept → ℕ
+  hand σ = σ .1 .1 .1 .hand
+
+  -- ---- a refusal: nobody is in hand, and no turn is taken
+  module _ (k i : ℕ) (e : refusal case book room ≡ some (k, i)) where
+    halted : Halted k i p
+    halted = subst (λ (o : Option (ℕ × ℕ)). Found case book index₁ p o) e (prepared .found)
+
+    refused-above : 0 < k
+    refused-above = cause-above case book room k i (refusal-some case book room k i e .cause)
+
+    idle : (j : ℕ) → after j ≡ (visits, (seats₁, (zeros, p .run)))
+    unfolding runOf
+    idle zero = refl
+    idle (suc j) = rw (eq-eqb (p .run .hand) 0 (halted .hand))
+
+    is-refused : engine case book room ≡ refused k i
+    unfolding engine answerUnless
+    is-refused = rw e
+
+  -- ---- no refusal: the run is the staged rule
+  module _ (e : refusal case book room ≡ none) where
+    valid : Valid case book room
+    valid = refusal-none case book room e
+
+    started : Started case book index₁ p
+    started = subst (λ (o : Option (ℕ × ℕ)). Found case book index₁ p o) e (prepared .found)
+
+    long : Enough case room
+    long = enough case book room valid
+
+    few : M .workshops ≤ 64
+    few = omega (arith, started .clean .manyWorkshops, started .clean .workshops)
+
+    fits : 2 * pairsIn M (M .paired) ≤ length visits
+    unfolding marketOf
+    fits = omega (arith, pairs-within (rows case), long .visits)
+
+    begins : (j : ℕ) → after j ≡ runOf M B j visits (replicate (length seats) 0) zeros (beginRun M B)
+    begins j = rw (prepared .cleared, started .run)
+
+    abbrev stand : ℕ → Stand
+    stand j = stands M (wf case book room valid) B (distinct case book room valid) few visits fits (length seats) (length states) (long .seats) (long .states) j
+
+    ready-here : (j : ℕ) → 0 < stand j .run .hand
+        → Ready M B (stand j .visits) (stand j .seats) (getD (stand j .states) (stand j .run .hand - 1) zeroState) (stand j .run)
+        × (stand j .run .hand ≤ length (stand j .states))
+    ready-here j = run-ready M (wf case book room valid) B (distinct case book room valid) few visits fits (length seats) (length states) (long .seats) (long .states) j
+
+    ends-here : Ends M B visits (stand (fuel M B))
+    ends-here = run-is-rule M (wf case book room valid) B (distinct case book room valid) few visits fits (length seats) (length states) (long .seats) (long .states)
+
+  -- ---- the run can be taken
+  pub turn-ready : (j : ℕ) → 0 < hand (after j)
+      → StepReady case book index₁ (after j .0) (after j .1 .0) (getD (after j .1 .1 .0) (hand (after j) - 1) zeroState) (after j .1 .1 .1) (p .students) (p .workshops)
+  turn-ready j = by-refusal (refusal case book room) refl
+    where
+      by-refusal : (o : Option (ℕ × ℕ)) → refusal case book room ≡ o → 0 < hand (after j)
+          → StepReady case book index₁ (after j .0) (after j .1 .0) (getD (after j .1 .1 .0) (hand (after j) - 1) zeroState) (after j .1 .1 .1) (p .students) (p .workshops)
+      by-refusal (some (k, i)) e pos = absurd (omega (arith, ap hand (idle k i e j), halted k i e .hand))
+      by-refusal none e pos = record {
+        clean = started e .clean;
+        ready = subst (λ (σ : Kept). Ready M B (σ .0) (σ .1 .0) (getD (σ .1 .1 .0) (hand σ - 1) zeroState) (σ .1 .1 .1)) (sym (begins e j))
+            (ready-here e j (subst (λ (σ : Kept). 0 < hand σ) (begins e j) pos) .0);
+      }
+
+  pub hand-within : (j : ℕ) → 0 < hand (after j) → hand (after j) ≤ length (after j .1 .1 .0)
+  hand-within j = by-refusal (refusal case book room) refl
+    where
+      by-refusal : (o : Option (ℕ × ℕ)) → refusal case book room ≡ o → 0 < hand (after j) → hand (after j) ≤ length (after j .1 .1 .0)
+      by-refusal (some (k, i)) e pos = absurd (omega (arith, ap hand (idle k i e j), halted k i e .hand))
+      by-refusal none e pos = subst (λ (σ : Kept). hand σ ≤ length (σ .1 .1 .0)) (sym (begins e j)) (ready-here e j (subst (λ (σ : Kept). 0 < hand σ) (begins e j) pos) .1)
+
+  pub run-ends : hand (after (fuel M B)) ≡ 0
+  run-ends = by-refusal (refusal case book room) refl
+    where
+      by-refusal : (o : Option (ℕ × ℕ)) → refusal case book room ≡ o → hand (after (fuel M B)) ≡ 0
+      by-refusal (some (k, i)) e = ap hand (idle k i e (fuel M B)) ∙ halted k i e .hand
+      by-refusal none e = ap hand (begins e (fuel M B)) ∙ ends-hand M B visits (stand e (fuel M B)) (ends-here e)
+
+  -- ---- and finished
+  module _ (visits₂ seats₂ : List ℕ) (states₂ : List StudentState) (r : Run) (ran : (visits₂, (seats₂, (states₂, r))) ≡ after (fuel M B)) where
+    -- what the run has left
+    left : (e : refusal case book room ≡ none) → Ends M B visits (record { visits = visits₂; seats = seats₂; states = states₂; run = r })
+    left e =
+        subst (λ (σ : Kept). Ends M B visits (record { visits = σ .0; seats = σ .1 .0; states = σ .1 .1 .0; run = σ .1 .1 .1 })) (sym (ran ∙ begins e (fuel M B))) (ends-here e)
+
+    seated-by : (e : refusal case book room ≡ none) (q : ℕ → ℕ) (vs : List Interview)
+        → Finished M B visits q vs (record { visits = visits₂; seats = seats₂; states = states₂; run = r })
+        → Seated case seats₂ places (p .students) (p .workshops)
+    seated-by e q vs f =
+        let c : Clean case book index₁ (p .students) (p .workshops) = started e .clean in
+        record {
+          workshop = c .workshop;
+          few = c .manyWorkshops;
+          long = subst (λ (m : ℕ). total (M .quota) m ≤ length seats₂) (c .workshops) (f .long);
+          holders = λ w a b i l.
+              ⊎-elim (λ (pos : 0 < getD (part M seats₂ w) i 0). omega (arith, f .seated w i a (omega (arith, c .workshops)) l pos .0, c .students)) (λ (z : getD (part M seats₂ w) i 0 ≤ 0). omega arith)
+              (less? 0 (getD (part M seats₂ w) i 0));
+          room = omega (arith, long e .places, c .students);
+        }
+
+    pub can-finish : Over p r → Seated case seats₂ places (p .students) (p .workshops)
+    can-finish over = by-refusal (refusal case book room) refl
+      where
+        by-end : (e : refusal case book room ≡ none) → Ends M B visits (record { visits = visits₂; seats = seats₂; states = states₂; run = r })
+            → Seated case seats₂ places (p .students) (p .workshops)
+        by-end e (stops s w vs rule l) = absurd (omega (arith, over .1, l .workshop, l .real))
+        by-end e (finishes q vs rule f) = seated-by e q vs f
+
+        by-refusal : (o : Option (ℕ × ℕ)) → refusal case book room ≡ o → Seated case seats₂ places (p .students) (p .workshops)
+        by-refusal (some (k, i)) e = absurd (omega (arith, over .0, halted k i e .cause, refused-above k i e))
+        by-refusal none e = by-end e (left e)
+
+    -- the answer, the places and the visits are those of a
+    record Outcome (a : Answer) : Type 0 where
+      answer : answerEnd p r ≡ reportOf a
+      inPlaces : placesEnd case seats₂ places p r ≡ placesAfter a places
+      inVisits : visits₂ ≡ visitsAfter a visits
+
+    when-refused : (k i : ℕ) → refusal case book room ≡ some (k, i) → Outcome (refused k i)
+    unfolding answerEnd placesEnd reportOf placesAfter visitsAfter
+    when-refused k i e =
+        let h : Halted k i p = halted k i e in
+        let z : eqb (p .cause) 0 ≡ false = ne-eqb (p .cause) 0 (λ q. omega (arith, h .cause, refused-above k i e)) in
+        record { answer = rw (z, h .cause, h .record′); inPlaces = rw z; inVisits = ap (λ (σ : Kept). σ .0) (ran ∙ idle k i e (fuel M B)) }
+
+    module _ (e : refusal case book room ≡ none) where
+      going : eqb (p .cause) 0 ≡ true
+      going = eq-eqb (p .cause) 0 (started e .cause)
+
+      when-stopped : (s w : ℕ) (vs : List Interview) → Lacking M visits s w vs (record { visits = visits₂; seats = seats₂; states = states₂; run = r }) → Outcome (next s w vs)
+      unfolding answerEnd placesEnd reportOf placesAfter visitsAfter
+      when-stopped s w vs l =
+          let y : eqb (r .workshop) 0 ≡ false = ne-eqb (r .workshop) 0 (λ q. omega (arith, l .workshop, l .real)) in
+          record { answer = rw (going, y, l .student, l .workshop, l .count); inPlaces = rw (going, y); inVisits = l .visits }
+
+      when-finished : (q : ℕ → ℕ) (vs : List Interview) → Finished M B visits q vs (record { visits = visits₂; seats = seats₂; states = states₂; run = r })
+          → Outcome (placed (map q (upto (M .students))) vs)
+      unfolding answerEnd placesEnd reportOf placesAfter visitsAfter
+      when-finished q vs f =
+          let y : eqb (r .workshop) 0 ≡ true = eq-eqb (r .workshop) 0 (f .workshop) in
+          let c : Clean case book index₁ (p .students) (p .workshops) = started e .clean in
+          record {
+            answer = rw (going, y, f .count);
+            inPlaces = rw (going, y, sym (c .students), sym (c .workshops))
+                (places-matching M seats₂ places q (long e .places) (λ s w pos is. f .placed s w pos is)
+                (λ w i a b l pos. f .seated w i a b (omega (arith, part-short M seats₂ w)) pos));
+            inVisits = f .visits;
+          }
+
+      by-end : Ends M B visits (record { visits = visits₂; seats = seats₂; states = states₂; run = r }) → Outcome (engine case book room)
+      unfolding answerOf
+      by-end (stops s w vs rule l) =
+          subst Outcome (sym (engine-valid case book room (valid e) ∙ ap (answerOf (M .students)) rule)) (when-stopped s w vs l)
+      by-end (finishes q vs rule f) =
+          subst Outcome (sym (engine-valid case book room (valid e) ∙ ap (answerOf (M .students)) rule)) (when-finished q vs f)
+
+    outcome : Outcome (engine case book room)
+    outcome = by-refusal (refusal case book room) refl
+      where
+        by-refusal : (o : Option (ℕ × ℕ)) → refusal case book room ≡ o → Outcome (engine case book room)
+        by-refusal (some (k, i)) e = subst Outcome (sym (is-refused k i e)) (when-refused k i e)
+        by-refusal none e = by-end e (left e)
+
+    pub answered : (a : Brief) (seats₃ index₃ places₃ : List ℕ)
+        → a ≡ answerEnd p r
+        → places₃ ≡ placesEnd case seats₂ places p r
+        → seats₃ ≡ replicate (length seats) 0
+        → index₃ ≡ replicate (length index) 0
+        → Answered case book places visits seats index states a places₃ visits₂ seats₃ index₃ (replicate (length states) zeroState)
+    answered a seats₃ index₃ places₃ ea ep es ei =
+        record {
+          answer = ea ∙ outcome .answer;
+          inPlaces = ep ∙ outcome .inPlaces;
+          inVisits = outcome .inVisits;
+          inSeats = es;
+          inIndex = ei;
+          inStates = refl;
+          promised = promised case book room;
+        }

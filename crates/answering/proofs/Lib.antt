@@ -1,0 +1,5 @@
+pub mod Laws
+pub mod Matching
+pub mod Cleaning
+pub mod Preparing
+pub mod Composing

@@ -1,0 +1,39 @@
+-- `answering::numbers` meets its contract, case by case.
+use Rattle.answering.specs.Numbers.{numbersOf}
+use borrow.Author.Needs.{needs}
+use Rattle.answering.proofs.numbers.Statement.{statement}
+use Rattle.answering.proofs.numbers.Tie as tie
+use Rattle.answering.proofs.numbers.Reads as reads
+use Rattle.answering.proofs.numbers.Lts as lts
+
+enum-known-answer : tie.Need-enum-known-answer
+enum-known-answer c = search needs
+
+enum-known-answer-2 : tie.Need-enum-known-answer-2
+enum-known-answer-2 c = search needs
+
+enum-known-answer-3 : tie.Need-enum-known-answer-3
+enum-known-answer-3 c = search needs
+
+returns : tie.Need-returns
+unfolding numbersOf
+returns c = rw (c .before .answer .given .1)
+
+returns-2 : tie.Need-returns-2
+unfolding numbersOf
+returns-2 c = rw (c .before .answer2 .given .1)
+
+returns-3 : tie.Need-returns-3
+unfolding numbersOf
+returns-3 c = rw (c .before .answer3 .given .1)
+
+pub numbers-spec : {M : Type 1} → statement M
+numbers-spec =
+    tie.close
+    (tie.spec
+    enum-known-answer
+    enum-known-answer-2
+    enum-known-answer-3
+    returns
+    returns-2
+    returns-3)

@@ -1,0 +1,91 @@
+-- `answering::prepare` meets its contract: what the test of the input says, and the run's beginning.
+use Prim.Native.Nat.{ℕ, _<_}
+use mathlib.Core.Path.{_≡_, refl, sym}
+use native.Mathlib.Omega.{arith}
+use lib.ListN.{length}
+use Rattle.format.specs.Engine.{resultsIn}
+use Rattle.answering.specs.Steps.{roomOf}
+use Rattle.answering.proofs.Preparing.{found-halted, found-started, clean}
+use borrow.Author.Needs.{needs}
+use Rattle.answering.proofs.prepare.Statement.{statement}
+use Rattle.answering.proofs.prepare.Tie as tie
+use Rattle.answering.proofs.prepare.Reads as reads
+use Rattle.answering.proofs.prepare.Lts as lts
+use Rattle.answering.proofs.clear.Reads as clear-reads
+use Rattle.answering.proofs.no_run.Reads as no-run-reads
+use Rattle.intake.proofs.check.Reads as check-reads
+use Rattle.turning.proofs.begin_run.Reads as begin-run-reads
+
+clear-requires : tie.Need-clear-requires
+clear-requires c κs = search needs
+
+check-requires : tie.Need-check-requires
+check-requires c κs = search needs
+
+enum-known-checked : tie.Need-enum-known-checked
+enum-known-checked c = search needs
+
+no-run-requires : tie.Need-no-run-requires
+no-run-requires c κs = search needs
+
+cast-t23 : tie.Need-cast-t23
+cast-t23 c = search needs
+
+enum-known-checked-2 : tie.Need-enum-known-checked-2
+enum-known-checked-2 c = search needs
+
+begin-run-requires : tie.Need-begin-run-requires
+begin-run-requires c κs =
+    let start = c .before .before .before .before .before .before .before .before .before .before .before .before .before .before .before in
+    let v = c .before .checked2 .given in
+    let k = clean (start .args .case .now) (start .args .book .now) (c .before .before .before .before .before .check .last .1 .1 .1 .0) (roomOf (start .args .places) (start .args .visits) (length (start .args .seats .now)) (length (start .args .index .now)) (start .args .states)) (c .before .before .before .before .before .check .result) (c .before .before .before .before .before .check .ensures .0) (v .0 .0) (v .0 .1 .0) (v .0 .1 .1 .0) (v .1) (λ j. omega (arith, c .before .before .before .before .before .before .before .before .before .before .before .before .before .before .shared-slice-known .given j)) (c .before .before .before .before .before .check .ensures .1) in
+    ((sym (k .students), k .manyStudents), k .student)
+
+same-length : tie.Need-same-length
+same-length c = search needs
+
+same-length-2 : tie.Need-same-length-2
+same-length-2 c = search needs
+
+returns : tie.Need-returns
+returns c =
+    let start = c .before .before .before .before .before .before .before .before .before .before .before .before .before .before .before .before in
+    let v = c .before .before .checked .given in
+    record {
+      cleared = c .before .before .before .before .before .before .before .before .before .before .clear .ensures;
+      found = found-halted (start .args .case .now) (start .args .book .now) (c .before .before .before .before .before .before .check .last .1 .1 .1 .0) (roomOf (start .args .places) (start .args .visits) (length (start .args .seats .now)) (length (start .args .index .now)) (start .args .states)) (c .before .before .before .before .before .before .check .result) (c .before .before .before .before .before .before .check .ensures .0) (v .0 .0) (v .0 .1 .0) (v .1) _ (c .no-run .ensures) refl refl;
+    }
+
+same-length-3 : tie.Need-same-length-3
+same-length-3 c = search needs
+
+same-length-4 : tie.Need-same-length-4
+same-length-4 c = search needs
+
+returns-2 : tie.Need-returns-2
+returns-2 c =
+    let start = c .before .before .before .before .before .before .before .before .before .before .before .before .before .before .before .before in
+    let v = c .before .before .checked2 .given in
+    record {
+      cleared = c .before .before .before .before .before .before .before .before .before .before .clear .ensures;
+      found = found-started (start .args .case .now) (start .args .book .now) (c .before .before .before .before .before .before .check .last .1 .1 .1 .0) (roomOf (start .args .places) (start .args .visits) (length (start .args .seats .now)) (length (start .args .index .now)) (start .args .states)) (c .before .before .before .before .before .before .check .result) (c .before .before .before .before .before .before .check .ensures .0) (v .0 .0) (v .0 .1 .0) (v .0 .1 .1 .0) (v .1) (λ j. omega (arith, c .before .before .before .before .before .before .before .before .before .before .before .before .before .before .before .shared-slice-known .given j)) (c .before .before .before .before .before .before .check .ensures .1) _
+          (c .begin-run .ensures (resultsIn (start .args .book .now))) refl refl refl;
+    }
+
+pub prepare-spec : {M : Type 1} → statement M
+prepare-spec =
+    tie.close
+    (tie.spec
+    clear-requires
+    check-requires
+    enum-known-checked
+    no-run-requires
+    cast-t23
+    enum-known-checked-2
+    begin-run-requires
+    same-length
+    same-length-2
+    returns
+    same-length-3
+    same-length-4
+    returns-2)

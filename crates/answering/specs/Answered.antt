@@ -1,0 +1,31 @@
+-- What a call of the engine leaves, for any bytes, any lengths and any contents of the lent buffers: the answer, the buffers, and what is promised
+-- of that answer.
+use Prim.Native.Nat.{ℕ}
+use mathlib.Core.Path.{_≡_}
+use mathlib.Core.List.{List}
+use lib.ListN.{length}
+use Rattle.format.specs.Refusals.{Room}
+use Rattle.format.specs.Engine.{engine}
+use Rattle.format.specs.Buffers.{placesAfter, visitsAfter, scratchAfter}
+use Rattle.format.specs.Promises.{Promised}
+use Rattle.model.specs.declared.StudentState.{StudentState}
+use Rattle.model.specs.Turn.{zeroState}
+use Rattle.answers.specs.declared.Answer.{Answer}
+use Rattle.answers.specs.Report.{reportOf}
+use Rattle.answering.specs.Steps.{roomOf}
+
+module _ (case book places visits seats index : List ℕ) (states : List StudentState) where
+  -- the lent lengths
+  abbrev pub lent : Room
+  lent = roomOf (length places) (length visits) (length seats) (length index) (length states)
+
+  -- the buffers at entry are places to states, and those with a prime stand at exit
+  pub record Answered (a : Answer) (places′ visits′ seats′ index′ : List ℕ) (states′ : List StudentState) : Type 0 where
+    pub answer : a ≡ reportOf (engine case book lent)
+    pub inPlaces : places′ ≡ placesAfter (engine case book lent) places
+    pub inVisits : visits′ ≡ visitsAfter (engine case book lent) visits
+    pub inSeats : seats′ ≡ scratchAfter 0 seats
+    pub inIndex : index′ ≡ scratchAfter 0 index
+    pub inStates : states′ ≡ scratchAfter zeroState states
+    -- demands 2 and 3 of this answer, or the refusal's cause
+    pub promised : Promised case book lent (engine case book lent)

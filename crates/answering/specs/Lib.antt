@@ -1,0 +1,5 @@
+pub mod Places
+pub mod Finish
+pub mod Steps
+pub mod Answered
+pub mod Numbers

@@ -1,0 +1,45 @@
+-- What stands around the run's turns: what testing the input leaves, and what a turn needs.
+use Prim.Native.Nat.{ℕ}
+use mathlib.Core.Path.{_≡_}
+use mathlib.Core.List.{List}
+use mathlib.Core.Option.{Option, some, none}
+use lib.ListN.{length, replicate}
+use Rattle.format.specs.Refusals.{Room, refusal}
+use Rattle.format.specs.Engine.{marketIn, resultsIn}
+use Rattle.model.specs.declared.StudentState.{StudentState}
+use Rattle.model.specs.declared.Run.{Run}
+use Rattle.model.specs.Turn.{beginRun}
+use Rattle.model.specs.Ready.{Ready}
+use Rattle.lookup.specs.Clean.{Clean}
+use Rattle.answering.specs.declared.Prepared.{Prepared}
+
+-- the lengths of the lent buffers
+abbrev pub roomOf : ℕ → ℕ → ℕ → ℕ → ℕ → Room
+roomOf places visits seats index states =
+    record { places = places; visits = visits; seats = seats; index = index; states = states }
+
+-- a turn can be taken
+pub record StepReady (case book index visits seats : List ℕ) (k : StudentState) (r : Run) (students workshops : ℕ) : Type 0 where
+  pub clean : Clean case book index students workshops
+  pub ready : Ready (marketIn case) (resultsIn book) visits seats k r
+
+-- the input is refused: number and place, and nobody is in hand
+pub record Halted (k i : ℕ) (p : Prepared) : Type 0 where
+  pub hand : p .run .hand ≡ 0
+  pub cause : p .cause ≡ k
+  pub record′ : p .record ≡ i
+
+-- the run can begin
+pub record Started (case book index : List ℕ) (p : Prepared) : Type 0 where
+  pub cause : p .cause ≡ 0
+  pub run : p .run ≡ beginRun (marketIn case) (resultsIn book)
+  pub clean : Clean case book index (p .students) (p .workshops)
+
+abbrev pub Found : List ℕ → List ℕ → List ℕ → Prepared → Option (ℕ × ℕ) → Type 0
+Found case book index p (some r) = Halted (r .0) (r .1) p
+Found case book index p none = Started case book index p
+
+-- the input is tested, the seats are zero, and the index is that of the book's records
+pub record Prepares (case book : List ℕ) (places visits states : ℕ) (seats index : List ℕ) (p : Prepared) (seats′ index′ : List ℕ) : Type 0 where
+  pub cleared : seats′ ≡ replicate (length seats) 0
+  pub found : Found case book index′ p (refusal case book (roomOf places visits (length seats) (length index) states))

@@ -1,0 +1,56 @@
+-- What is printed from the buffers after an answer is the text of that answer.
+-- The head of the visits, read back pair by pair, is the answer's list.
+use Prim.Native.Nat.{ℕ, zero, suc, _+_, _*_, _≤_, _<_}
+use mathlib.Core.Path.{_≡_, refl, sym, ap, _∙_}
+use mathlib.Core.List.{List, [], _∷_, _++_}
+use native.Mathlib.Omega.{arith}
+use lib.ListN.{length, getD, take, drop, length-append, List·getD-append}
+use lib.Seq.{take-append-seam, ext-getD}
+use Rattle.base.specs.Lists.{tabulate}
+use Rattle.base.proofs.Below.{tabulate-length, tabulate-at}
+use Rattle.lgs.specs.Rule.{Interview}
+use Rattle.format.specs.Engine.{Answer, placed, next, refused}
+use Rattle.format.specs.Buffers.{flat, withHead, placesAfter, visitsAfter}
+use Rattle.format.specs.Printed.{placeLines, visitsText, printed}
+use Rattle.answers.specs.Report.{reportOf, interviewsAt, textOf}
+
+flat-first : (vs : List Interview) (rest : List ℕ) (i : ℕ) → i < length vs → getD (flat vs ++ rest) (2 * i) 0 ≡ getD vs i (0, 0) .0
+unfolding flat
+flat-first [] rest i h = absurd (omega arith)
+flat-first (v ∷ vs) rest zero h = refl
+flat-first (v ∷ vs) rest (suc i) h =
+    ap (λ (k : ℕ). getD (v .0 ∷ v .1 ∷ flat vs ++ rest) k 0) (let e : 2 * suc i ≡ suc (suc (2 * i)) = omega arith in e)
+    ∙ flat-first vs rest i (omega arith)
+
+flat-second : (vs : List Interview) (rest : List ℕ) (i : ℕ) → i < length vs → getD (flat vs ++ rest) (2 * i + 1) 0 ≡ getD vs i (0, 0) .1
+unfolding flat
+flat-second [] rest i h = absurd (omega arith)
+flat-second (v ∷ vs) rest zero h = refl
+flat-second (v ∷ vs) rest (suc i) h =
+    ap (λ (k : ℕ). getD (v .0 ∷ v .1 ∷ flat vs ++ rest) k 0) (let e : 2 * suc i + 1 ≡ suc (suc (2 * i + 1)) = omega arith in e)
+    ∙ flat-second vs rest i (omega arith)
+
+-- the list is read back from the buffer
+pub interviews-back : (vs : List Interview) (rest : List ℕ) → interviewsAt (length vs) (flat vs ++ rest) ≡ vs
+unfolding interviewsAt
+interviews-back vs rest =
+    let f : ℕ → Interview = λ i. (getD (flat vs ++ rest) (2 * i) 0, getD (flat vs ++ rest) (2 * i + 1) 0) in
+    ext-getD (0, 0) (tabulate f (length vs)) vs (tabulate-length f (length vs))
+    (λ i l.
+    let h : i < length vs = rw (tabulate-length f (length vs)) at l in
+    tabulate-at f (length vs) i (0, 0) h ∙ (ap (λ (a : ℕ). (a, f i .1)) (flat-first vs rest i h) ∙ ap (λ (b : ℕ). (getD vs i (0, 0) .0, b)) (flat-second vs rest i h)))
+
+-- an answer whose places are those of n students
+abbrev pub PlacesOf : ℕ → Answer → Type 0
+PlacesOf n (placed places vs) = length places ≡ n
+PlacesOf n (next s w vs) = Unit {0}
+PlacesOf n (refused k i) = Unit {0}
+
+-- the text from the buffers is the answer's text
+pub text-printed : (a : Answer) (n : ℕ) (places visits : List ℕ) → PlacesOf n a
+    → textOf (reportOf a) n (placesAfter a places) (visitsAfter a visits) ≡ printed a
+unfolding textOf reportOf placesAfter visitsAfter printed
+text-printed (placed ps vs) n places visits e =
+    rw (interviews-back vs (drop (length (flat vs)) visits), ← e, take-append-seam ps (drop (length ps) places))
+text-printed (next s w vs) n places visits e = rw (interviews-back vs (drop (length (flat vs)) visits))
+text-printed (refused k i) n places visits e = refl

@@ -1,0 +1,50 @@
+// The open workshops as the 64 bits of one number: workshop w, from 1 to 64, is bit w - 1.
+ghost use mathlib.Core.Path.{_≡_};
+ghost use mathlib.Core.Bool.{true, not, _&&_, _||_};
+ghost use Prim.Native.Nat.{ℕ, _-_, _^_, _≤_, _<_};
+ghost use lib.Dec.{eqb};
+ghost use lib.Bits.{bitOr, bitAnd};
+ghost use Rattle.base.specs.Lists.{count};
+ghost use Rattle.base.specs.Bits.{member, Low};
+
+// Workshop w is open.
+pub fn has_bit(bits: u64, w: usize) -> bool
+    requires { ⌜ (1 ≤ w) × (w ≤ 64) ⌝ }
+    ensures { λ r. ⌜ r ≡ member bits w ⌝ }
+{
+    (bits >> (w - 1)) % 2 == 1
+}
+
+// The set with workshop w.
+pub fn with_bit(bits: u64, w: usize) -> u64
+    requires { ⌜ (1 ≤ w) × (w ≤ 64) ⌝ }
+    ensures { λ r. ⌜ r ≡ bitOr bits (2 ^ (w - 1)) ⌝ }
+    ensures { λ r. ⌜ ((x : ℕ) → member r x ≡ (eqb x w || member bits x)) ⌝ }
+{
+    bits | (1u64 << (w - 1))
+}
+
+// The set without workshop w. Where w was in it, the number is smaller, so a loop that takes one out each turn ends.
+pub fn without_bit(bits: u64, w: usize) -> u64
+    requires { ⌜ (1 ≤ w) × (w ≤ 64) ⌝ }
+    ensures { λ r. ⌜ r ≡ bitAnd bits (2 ^ 64 - 1 - 2 ^ (w - 1)) ⌝ }
+    ensures { λ r. ⌜ ((x : ℕ) → member r x ≡ (member bits x && not (eqb x w))) ⌝ }
+    ensures { λ r. ⌜ (member bits w ≡ true → r < bits) ⌝ }
+{
+    bits & !(1u64 << (w - 1))
+}
+
+// How many workshops are open.
+pub fn count(bits: u64) -> u32
+    ensures { λ r. ⌜ r ≡ count (member bits) 64 ⌝ }
+{
+    u64::count_ones(bits)
+}
+
+// The lowest-numbered open workshop.
+pub fn lowest(bits: u64) -> usize
+    requires { ⌜ 0 < bits ⌝ }
+    ensures { λ r. ⌜ Low bits r ⌝ }
+{
+    u64::trailing_zeros(bits) as usize + 1
+}

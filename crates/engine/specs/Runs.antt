@@ -1,0 +1,29 @@
+-- The engine's run over what is lent, and what it asks of it.
+use Prim.Native.Nat.{ℕ, _-_, _<_, _≤_}
+use mathlib.Core.Path.{_≡_}
+use mathlib.Core.List.{List}
+use lib.ListN.{length, getD}
+use Rattle.lgs.specs.Rule.{fuel}
+use Rattle.format.specs.Engine.{marketIn, resultsIn}
+use Rattle.model.specs.declared.StudentState.{StudentState}
+use Rattle.model.specs.declared.Run.{Run}
+use Rattle.model.specs.Turn.{zeroState, runOf}
+use Rattle.answering.specs.Steps.{StepReady}
+
+-- the visits, the seats, the students' states and the run
+abbrev pub Kept : Type 0
+Kept = List ℕ × (List ℕ × (List StudentState × Run))
+
+abbrev pub hand-of : Kept → ℕ
+hand-of σ = σ .1 .1 .1 .hand
+
+-- after as many turns as the rule takes at most
+abbrev pub wholeRun : List ℕ → List ℕ → List ℕ → List ℕ → List StudentState → Run → Kept
+wholeRun case book visits seats states start = runOf (marketIn case) (resultsIn book) (fuel (marketIn case) (resultsIn book)) visits seats states start
+
+-- each turn finds what it needs, and the last leaves no student in hand
+pub record CanRun (case book index visits seats : List ℕ) (states : List StudentState) (start : Run) (students workshops : ℕ) : Type 0 where
+  pub ready : (k : ℕ) → let σ = runOf (marketIn case) (resultsIn book) k visits seats states start in
+      0 < hand-of σ → StepReady case book index (σ .0) (σ .1 .0) (getD (σ .1 .1 .0) (hand-of σ - 1) zeroState) (σ .1 .1 .1) students workshops
+  pub within : (k : ℕ) → let σ = runOf (marketIn case) (resultsIn book) k visits seats states start in 0 < hand-of σ → hand-of σ ≤ length (σ .1 .1 .0)
+  pub ends : hand-of (wholeRun case book visits seats states start) ≡ 0

@@ -1,0 +1,171 @@
+// The engine: a case and a book are answered in lent memory. A slice of students' states is a slice of structs, which the borrow checker does not
+// cover: the functions here that have one are proved by a walk of their MIR, and what they call is covered.
+ghost use mathlib.Core.Path.{_≡_};
+ghost use lib.ListN.{length, replicate};
+ghost use Rattle.model.specs.Turn.{zeroState};
+ghost use Rattle.answering.specs.Answered.{Answered};
+ghost use Rattle.answering.specs.Numbers.{numbersOf};
+ghost use Rattle.engine.specs.Runs.{wholeRun, CanRun};
+ghost use Rattle.engine.specs.Answers.{answerIn};
+use answering::Report;
+use answers::Answer;
+use model::Run;
+use model::StudentState;
+
+// Every state is set to zero.
+pub fn clear_states(states: &mut [StudentState])
+    ensures { λ _. ⌜ now (states .exit) ≡ replicate (length (now (states .entry))) zeroState ⌝ }
+{
+    let mut i: usize = 0;
+    while i < states.len() {
+        states[i] = StudentState {
+            reached: 0,
+            held: 0,
+            openings: 0,
+        };
+        i += 1;
+    }
+}
+
+// Turns are taken until no student is in hand.
+pub fn run_all(
+    case: &[u8],
+    book: &[u8],
+    index: &mut [u16],
+    visits: &mut [u16],
+    seats: &mut [u16],
+    states: &mut [StudentState],
+    start: Run,
+    students: usize,
+    workshops: usize,
+) -> Run
+    requires { ⌜ CanRun (now case) (now book) (now index) (now visits) (now seats) (now states) start students workshops ⌝ }
+    ensures { λ r. ⌜ ((now (visits .exit), (now (seats .exit), (now (states .exit), r)))
+        ≡ wholeRun (now (case .entry)) (now (book .entry)) (now (visits .entry)) (now (seats .entry)) (now (states .entry)) start)
+        × (now (index .exit) ≡ now (index .entry)) ⌝ }
+{
+    let mut r = start;
+    while r.hand > 0 {
+        let at = r.hand - 1;
+        let t = answering::step(
+            case,
+            book,
+            &mut *index,
+            &mut *visits,
+            &mut *seats,
+            states[at],
+            r,
+            students,
+            workshops,
+        );
+        states[at] = t.state;
+        r = t.run;
+    }
+    r
+}
+
+// A case and a book are answered: placements go to `places`, interviews to `visits`. All else that is lent is scratch, and left zero.
+pub fn place(
+    case: &[u8],
+    book: &[u8],
+    places: &mut [u16],
+    visits: &mut [u16],
+    seats: &mut [u16],
+    index: &mut [u16],
+    states: &mut [StudentState],
+) -> Answer
+    ensures { λ a. ⌜ Answered (now (case .entry)) (now (book .entry)) (now (places .entry)) (now (visits .entry)) (now (seats .entry)) (now (index .entry))
+        (now (states .entry)) a
+        (now (places .exit)) (now (visits .exit)) (now (seats .exit)) (now (index .exit)) (now (states .exit)) ⌝ }
+{
+    let n_places = places.len();
+    let n_visits = visits.len();
+    let n_states = states.len();
+    let p = answering::prepare(
+        case,
+        book,
+        n_places,
+        n_visits,
+        &mut *seats,
+        &mut *index,
+        n_states,
+    );
+    clear_states(&mut *states);
+    let start = p.run;
+    let students = p.students;
+    let workshops = p.workshops;
+    let r = run_all(
+        case,
+        book,
+        &mut *index,
+        &mut *visits,
+        &mut *seats,
+        &mut *states,
+        start,
+        students,
+        workshops,
+    );
+    clear_states(&mut *states);
+    answering::finish(case, &mut *seats, &mut *index, &mut *places, p, r)
+}
+
+// The same with the states of 512 students made here: no slice of structs is lent, so its callers need no walk.
+pub fn place_alone(
+    case: &[u8],
+    book: &[u8],
+    places: &mut [u16],
+    visits: &mut [u16],
+    seats: &mut [u16],
+    index: &mut [u16],
+) -> Answer
+    ensures { λ a. ⌜ Answered (now (case .entry)) (now (book .entry)) (now (places .entry)) (now (visits .entry)) (now (seats .entry)) (now (index .entry))
+        (replicate 512 zeroState) a
+        (now (places .exit)) (now (visits .exit)) (now (seats .exit)) (now (index .exit)) (replicate 512 zeroState) ⌝ }
+{
+    let zero = StudentState {
+        reached: 0,
+        held: 0,
+        openings: 0,
+    };
+    let mut states = [zero; 512];
+    place(
+        case,
+        book,
+        &mut *places,
+        &mut *visits,
+        &mut *seats,
+        &mut *index,
+        &mut states,
+    )
+}
+
+// `place` for a host in another language: a slice is a pointer and a length, and the answer is four numbers.
+#[no_mangle]
+pub extern "C" fn lgs_place(
+    case: &[u8],
+    book: &[u8],
+    places: &mut [u16],
+    visits: &mut [u16],
+    seats: &mut [u16],
+    index: &mut [u16],
+    states: &mut [StudentState],
+) -> Report
+    ensures { λ r. ⌜ r ≡ numbersOf (answerIn (now (case .entry)) (now (book .entry)) (now (places .entry)) (now (visits .entry)) (now (seats .entry)) (now (index .entry))
+        (now (states .entry))) ⌝ }
+    ensures { λ r. ⌜ Answered (now (case .entry)) (now (book .entry)) (now (places .entry)) (now (visits .entry)) (now (seats .entry)) (now (index .entry))
+        (now (states .entry))
+        (answerIn (now (case .entry)) (now (book .entry)) (now (places .entry)) (now (visits .entry)) (now (seats .entry)) (now (index .entry))
+        (now (states .entry)))
+        (now (places .exit)) (now (visits .exit)) (now (seats .exit)) (now (index .exit)) (now (states .exit)) ⌝ }
+{
+    let a = place(
+        case,
+        book,
+        &mut *places,
+        &mut *visits,
+        &mut *seats,
+        &mut *index,
+        &mut *states,
+    );
+    answering::numbers(a)
+}

@@ -1,0 +1,40 @@
+-- Records of the case and the book by their places, and a pair by its place.
+use Prim.Native.Nat.{ℕ, _≤_, _<_}
+use mathlib.Core.Path.{_≡_, sym, _∙_}
+use mathlib.Core.Logic.{⊎-elim}
+use mathlib.Core.Bool.{Bool, true, false, not}
+use mathlib.Core.List.{List, _++_, append-nil}
+use lib.ListN.{length, getD, drop, replicate}
+use lib.Seq.{drop-length}
+use lib.Dec.{ltb, leb}
+use borrow.Author.Tests.{lt-ltb, le-ltb, le-leb, lt-leb}
+use Rattle.base.specs.Lists.{any}
+use Rattle.base.proofs.Tests.{less?}
+use Rattle.base.proofs.Below.{tabulate-at, any-below}
+use Rattle.base.proofs.Search.{end-any}
+use Rattle.format.specs.Layout.{rowAt, rows, rowCount, entryAt, entries, entryCount, noEntry, isPair}
+use Rattle.records.specs.Records.{pairPlace}
+
+pub entry-is : (book : List ℕ) (i : ℕ) → i < entryCount book → getD (entries book) i noEntry ≡ entryAt book i
+unfolding entries
+entry-is book i l = tabulate-at (entryAt book) (entryCount book) i noEntry l
+
+-- there is a record of the pair where a place is found
+pub pair-any : (case : List ℕ) (s w : ℕ) → any (isPair s w) (rows case) ≡ ltb (pairPlace case s w) (rowCount case)
+unfolding rows
+pair-any case s w = any-below (rowAt case) (isPair s w) (rowCount case) ∙ end-any (λ i. isPair s w (rowAt case i)) (rowCount case)
+
+pub leb-not : (a b : ℕ) → leb a b ≡ not (ltb b a)
+leb-not a b =
+    ⊎-elim (λ (l : b < a). lt-leb a b l ∙ sym (rw (lt-ltb b a l)))
+    (λ (l : a ≤ b). le-leb a b l ∙ sym (rw (le-ltb b a l)))
+    (less? b a)
+
+-- a score is bad where it is not good
+pub bad-good : (b g : Bool) → g ≡ not b → not g ≡ b
+bad-good true g e = rw e
+bad-good false g e = rw e
+
+-- a fill's end
+pub filled : (d s : List ℕ) (n : ℕ) → n ≡ length d → s ≡ replicate n 0 ++ drop n d → s ≡ replicate (length d) 0
+filled d s n e p = p ∙ rw (e, drop-length d) (append-nil (replicate (length d) 0))

@@ -1,0 +1,7 @@
+pub mod Laws
+pub mod Counting
+pub mod Cases
+pub mod Indexing
+pub mod Lowering
+pub mod Interviews
+pub mod Sides

@@ -1,0 +1,180 @@
+-- `intake::index::fill` meets its contract. The invariant is `Filled`: the first i records are of different pairs, and the index is theirs.
+use Prim.Native.Nat.{_+_, _<_, _-_}
+use mathlib.Core.Path.{_≡_, refl, _∙_, sym, ap}
+use mathlib.Core.Option.{none}
+use native.Mathlib.Omega.{arith}
+use lib.ListN.{length, getD}
+use Rattle.base.specs.Search.{firstBad}
+use Rattle.base.proofs.Search.{scan-found, none-fails}
+use Rattle.format.specs.Layout.{Entry, rows, entries, entryCount, entryAt}
+use Rattle.format.specs.Refusals.{badPair, badRepeat}
+use Rattle.records.specs.Records.{pairPlace}
+use Rattle.records.proofs.Laws.{pairs-sorted}
+use Rattle.intake.specs.Index.{pairsFrom, lentIndex}
+use Rattle.intake.proofs.Cases.{clean, few}
+use Rattle.intake.proofs.Indexing.{Filled, Placed, placed-of, pairs-few, fill-start, fill-length, fill-few, fill-repeat, fill-on}
+use Rattle.intake.proofs.index.fill.Statement.{statement}
+use Rattle.intake.proofs.index.fill.Tie as tie
+
+abbrev Inv-loop : tie.InvT-loop
+Inv-loop case book students workshops index₀ n from count i₀ index i = Filled case book (length index₀) i index
+
+abbrev μ-loop : tie.MeasureT-loop
+μ-loop case book students workshops index₀ n from count i₀ index i = count - i
+
+row-count-requires : tie.Need-row-count-requires Inv-loop μ-loop
+row-count-requires c κs = tt
+
+add-from : tie.Need-add-from Inv-loop μ-loop
+add-from c =
+    let a = c .before .before .before .before .args in
+    omega (arith, few (a .case .now) (a .students) (a .workshops) (c .before .before .before .before .pre .0))
+
+entry-count-requires : tie.Need-entry-count-requires Inv-loop μ-loop
+entry-count-requires c κs = tt
+
+loop-holds : tie.Need-loop-holds Inv-loop μ-loop
+loop-holds c =
+    let a = c .before .before .before .before .before .args in
+    fill-start (a .case .now) (a .students) (a .workshops) (c .before .before .before .before .before .pre .0) (a .book .now) (length (a .index .now)) (c .before .before .before .before .before .pre .1 .1 .0) (a .index .now) refl (c .before .before .before .before .before .pre .1 .1 .1)
+
+entry-of-requires : tie.Need-entry-of-requires Inv-loop μ-loop
+entry-of-requires c κs = omega (arith, c .before .before .entry-count .ensures)
+
+find-pair-requires : tie.Need-find-pair-requires Inv-loop μ-loop
+find-pair-requires c κs =
+    let a = c .before .before .before .before .before .before .before .before .args in
+    (c .before .before .before .before .row-count .ensures, pairs-sorted (a .case .now) (λ k. omega (arith, c .before .before .before .before .before .before .before .shared-slice-known .given k)) (clean (a .case .now) (a .students) (a .workshops) (c .before .before .before .before .before .before .before .before .pre .0)))
+
+-- the place of record i's pair
+place : (c : tie.After-find-pair Inv-loop μ-loop)
+    → Placed (c .before .before .before .before .before .before .before .before .before .args .case .now) (entryAt (c .before .before .before .before .before .before .before .before .before .args .book .now) (c .before .before .before .loop .i) .student) (entryAt (c .before .before .before .before .before .before .before .before .before .args .book .now) (c .before .before .before .loop .i) .workshop) (c .find-pair .result)
+place c =
+    let a = c .before .before .before .before .before .before .before .before .before .args in
+    let i = c .before .before .before .loop .i in
+    let l : i < entryCount (a .book .now) = omega (arith, c .before .before .before .before .entry-count .ensures) in
+    let b = none-fails (badPair (rows (a .case .now)) (entries (a .book .now))) (entryCount (a .book .now)) (c .before .before .before .before .before .before .before .before .before .pre .1 .0) i l in
+    let e = c .find-pair .ensures ∙ ap (λ (x : Entry). pairPlace (a .case .now) (x .student) (x .workshop)) (c .before .entry-of .ensures) in
+    rw e (placed-of (a .case .now) (a .students) (a .workshops) (c .before .before .before .before .before .before .before .before .before .pre .0) (a .book .now) i l b)
+
+-- and the index's entry for it
+spot : (c : tie.After-find-pair Inv-loop μ-loop)
+    → c .find-pair .result - (c .before .before .before .before .before .before .before .before .before .args .students + c .before .before .before .before .before .before .before .before .before .args .workshops) ≡ c .find-pair .result - pairsFrom (c .before .before .before .before .before .before .before .before .before .args .case .now)
+spot c = omega (arith, c .before .before .before .before .before .before .before .before .before .pre .0 .students, c .before .before .before .before .before .before .before .before .before .pre .0 .workshops)
+
+sub-k : tie.Need-sub-k Inv-loop μ-loop
+sub-k c = omega (arith, place c .from, c .before .before .before .before .before .before .before .before .before .pre .0 .students, c .before .before .before .before .before .before .before .before .before .pre .0 .workshops)
+
+mul-if1 : tie.Need-mul-if1 Inv-loop μ-loop
+mul-if1 c =
+    let a = c .before .before .before .before .before .before .before .before .before .args in
+    omega (arith, spot c, place c .within, pairs-few (a .case .now) (a .students) (a .workshops) (c .before .before .before .before .before .before .before .before .before .pre .0))
+
+slice-read-if1 : tie.Need-slice-read-if1 Inv-loop μ-loop
+slice-read-if1 c =
+    let a = c .before .before .before .before .before .before .before .before .before .before .args in
+    omega (
+      arith,
+      spot (c .before),
+      place (c .before) .within,
+      fill-length (a .case .now) (a .students) (a .workshops) (c .before .before .before .before .before .before .before .before .before .before .pre .0) (a .book .now) (length (a .index .now)) (c .before .before .before .before .before .before .before .before .before .before .pre .1 .1 .0) (c .before .before .before .before .loop .i) (c .before .before .before .before .loop .index) (c .before .before .before .before .loop .inv),
+      c .before .before .before .before .before .before .before .before .before .before .pre .1 .1 .0,
+    )
+
+same-length : tie.Need-same-length Inv-loop μ-loop
+same-length c =
+    let a = c .before .before .before .before .before .before .before .before .before .before .before .args in
+    fill-length (a .case .now) (a .students) (a .workshops) (c .before .before .before .before .before .before .before .before .before .before .before .pre .0) (a .book .now) (length (a .index .now)) (c .before .before .before .before .before .before .before .before .before .before .before .pre .1 .1 .0) (c .before .before .before .before .before .loop .i) (c .before .before .before .before .before .loop .index) (c .before .before .before .before .before .loop .inv)
+
+returns : tie.Need-returns Inv-loop μ-loop
+returns c =
+    let a = c .before .before .before .before .before .before .before .before .before .before .before .args in
+    let i = c .before .before .before .before .before .loop .i in
+    let index = c .before .before .before .before .before .loop .index in
+    let l : i < entryCount (a .book .now) = omega (arith, c .before .before .before .before .before .before .entry-count .ensures) in
+    let f = fill-repeat (a .case .now) (a .students) (a .workshops) (c .before .before .before .before .before .before .before .before .before .before .before .pre .0) (a .book .now) (length (a .index .now)) (c .before .before .before .before .before .before .before .before .before .before .before .pre .1 .1 .0) i index (c .before .before .before .before .before .loop .inv) l (c .before .before .find-pair .result) (place (c .before .before)) in
+    let b = f (λ q. c .if1 .taken (ap (λ k. getD index k 0) (spot (c .before .before)) ∙ q)) in
+    (sym (rw (scan-found (badRepeat (rows (a .case .now)) (entries (a .book .now))) i (entryCount (a .book .now)) (c .before .before .before .before .before .loop .inv .fresh) b l)), c .before .before .before .before .before .loop .inv .filled)
+
+add-index : tie.Need-add-index Inv-loop μ-loop
+add-index c = omega arith
+
+cast-index : tie.Need-cast-index Inv-loop μ-loop
+cast-index c =
+    let a = c .before .before .before .before .before .before .before .before .before .before .before .args in
+    omega (
+      arith,
+      fill-few (a .case .now) (a .students) (a .workshops) (c .before .before .before .before .before .before .before .before .before .before .before .pre .0) (a .book .now) (length (a .index .now)) (c .before .before .before .before .before .before .before .before .before .before .before .pre .1 .1 .0) (c .before .before .before .before .before .loop .i) (c .before .before .before .before .before .loop .index) (c .before .before .before .before .before .loop .inv),
+      pairs-few (a .case .now) (a .students) (a .workshops) (c .before .before .before .before .before .before .before .before .before .before .before .pre .0),
+    )
+
+mul-index : tie.Need-mul-index Inv-loop μ-loop
+mul-index c =
+    let a = c .before .before .before .before .before .before .before .before .before .before .before .args in
+    omega (arith, spot (c .before .before), place (c .before .before) .within, pairs-few (a .case .now) (a .students) (a .workshops) (c .before .before .before .before .before .before .before .before .before .before .before .pre .0))
+
+slice-write-index : tie.Need-slice-write-index Inv-loop μ-loop
+slice-write-index c =
+    let a = c .before .before .before .before .before .before .before .before .before .before .before .args in
+    omega (
+      arith,
+      spot (c .before .before),
+      place (c .before .before) .within,
+      fill-length (a .case .now) (a .students) (a .workshops) (c .before .before .before .before .before .before .before .before .before .before .before .pre .0) (a .book .now) (length (a .index .now)) (c .before .before .before .before .before .before .before .before .before .before .before .pre .1 .1 .0) (c .before .before .before .before .before .loop .i) (c .before .before .before .before .before .loop .index) (c .before .before .before .before .before .loop .inv),
+      c .before .before .before .before .before .before .before .before .before .before .before .pre .1 .1 .0,
+    )
+
+add-i : tie.Need-add-i Inv-loop μ-loop
+add-i c = omega arith
+
+loop-less : tie.Need-loop-less Inv-loop μ-loop
+loop-less c = omega arith
+
+loop-again : tie.Need-loop-again Inv-loop μ-loop
+loop-again c =
+    let a = c .before .before .before .before .before .before .before .before .before .before .before .args in
+    let i = c .before .before .before .before .before .loop .i in
+    let index = c .before .before .before .before .before .loop .index in
+    let l : i < entryCount (a .book .now) = omega (arith, c .before .before .before .before .before .before .entry-count .ensures) in
+    let z : getD index (c .before .before .find-pair .result - pairsFrom (a .case .now)) 0 ≡ 0 = ap (λ k. getD index k 0) (sym (spot (c .before .before))) ∙ c .if1 .left in
+    rw (spot (c .before .before))
+    (fill-on (a .case .now) (a .students) (a .workshops) (c .before .before .before .before .before .before .before .before .before .before .before .pre .0) (a .book .now) (length (a .index .now)) (c .before .before .before .before .before .before .before .before .before .before .before .pre .1 .1 .0) i index (c .before .before .before .before .before .loop .inv) l (c .before .before .find-pair .result) (place (c .before .before)) z)
+
+same-length-2 : tie.Need-same-length-2 Inv-loop μ-loop
+same-length-2 c =
+    let a = c .before .before .before .before .before .before .before .args in
+    fill-length (a .case .now) (a .students) (a .workshops) (c .before .before .before .before .before .before .before .pre .0) (a .book .now) (length (a .index .now)) (c .before .before .before .before .before .before .before .pre .1 .1 .0) (c .before .loop .i) (c .before .loop .index) (c .before .loop .inv)
+
+returns-2 : tie.Need-returns-2 Inv-loop μ-loop
+returns-2 c =
+    let a = c .before .before .before .before .before .before .before .args in
+    let e : c .before .loop .i ≡ c .before .before .entry-count .result = omega (arith, c .before .loop .inv .inside, c .before .before .entry-count .ensures) in
+    let o : firstBad (badRepeat (rows (a .case .now)) (entries (a .book .now))) (entryCount (a .book .now)) ≡ none = rw (e, c .before .before .entry-count .ensures) at (c .before .loop .inv .fresh) in
+    (rw o (c .before .before .entry-count .ensures), c .before .loop .inv .filled ∙ ap (λ k. lentIndex (a .case .now) (a .book .now) k (length (a .index .now))) e)
+
+pub fill-spec : {M : Type 1} → statement M
+fill-spec =
+    tie.close
+    (tie.spec
+    Inv-loop
+    μ-loop
+    row-count-requires
+    add-from
+    entry-count-requires
+    loop-holds
+    entry-of-requires
+    find-pair-requires
+    sub-k
+    mul-if1
+    slice-read-if1
+    same-length
+    returns
+    add-index
+    cast-index
+    mul-index
+    slice-write-index
+    add-i
+    loop-less
+    loop-again
+    same-length-2
+    returns-2)

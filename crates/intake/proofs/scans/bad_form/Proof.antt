@@ -1,0 +1,19 @@
+-- `intake::scans::bad_form` meets its contract. The same expression on both sides, of the record that was read.
+use mathlib.Core.Path.{_∙_, sym}
+use Rattle.format.specs.Refusals.{badForm}
+use Rattle.format.proofs.Positions.{row-at}
+use borrow.Author.Needs.{needs}
+use Rattle.intake.proofs.scans.bad_form.Statement.{statement}
+use Rattle.intake.proofs.scans.bad_form.Tie as tie
+
+row-at-requires : tie.Need-row-at-requires
+row-at-requires c κs = search needs
+
+returns : tie.Need-returns
+unfolding badForm
+returns c =
+    let a = c .before .before .before .before .before .before .before .before .args in
+    rw (row-at (a .case .now) (a .i) (c .before .before .before .before .before .before .before .before .pre) ∙ sym (c .before .before .before .before .before .before .row-at .ensures))
+
+pub bad-form-spec : {M : Type 1} → statement M
+bad-form-spec = tie.close (tie.spec row-at-requires returns)

@@ -1,0 +1,27 @@
+-- `intake::scans::bad_pair` meets its contract: the pair has no record where the lookup finds no place.
+use mathlib.Core.Path.{_∙_, sym}
+use Rattle.format.specs.Refusals.{badPair}
+use Rattle.intake.proofs.Laws.{entry-is, pair-any, leb-not}
+use borrow.Author.Needs.{needs}
+use Rattle.intake.proofs.scans.bad_pair.Statement.{statement}
+use Rattle.intake.proofs.scans.bad_pair.Tie as tie
+
+row-count-requires : tie.Need-row-count-requires
+row-count-requires c κs = search needs
+
+entry-of-requires : tie.Need-entry-of-requires
+entry-of-requires c κs = search needs
+
+find-pair-requires : tie.Need-find-pair-requires
+find-pair-requires c κs = search needs
+
+returns : tie.Need-returns
+unfolding badPair
+returns c =
+    let a = c .before .before .before .before .before .args in
+    let e = c .before .entry-of .result in
+    rw (entry-is (a .book .now) (a .i) (c .before .before .before .before .before .pre .0) ∙ sym (c .before .entry-of .ensures), pair-any (a .case .now) (e .student) (e .workshop), ← c .find-pair .ensures, ← c .before .before .row-count .ensures) (leb-not (c .before .before .row-count .result) (c .find-pair .result))
+
+pub bad-pair-spec : {M : Type 1} → statement M
+bad-pair-spec =
+    tie.close (tie.spec row-count-requires entry-of-requires find-pair-requires returns)

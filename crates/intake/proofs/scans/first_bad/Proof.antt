@@ -1,0 +1,63 @@
+-- `intake::scans::first_bad` meets its contract. The invariant: none of the first i is bad. One proof for every cause.
+use Prim.Native.Nat.{_≤_, _-_}
+use mathlib.Core.Path.{_≡_, refl, _∙_, sym}
+use mathlib.Core.Option.{none}
+use native.Mathlib.Omega.{arith}
+use Rattle.base.specs.Search.{firstBad}
+use Rattle.base.proofs.Search.{scan-on, scan-found}
+use Rattle.intake.specs.Scans.{badBy}
+use Rattle.intake.proofs.scans.first_bad.Statement.{statement}
+use Rattle.intake.proofs.scans.first_bad.Tie as tie
+
+abbrev Inv-loop : tie.InvT-loop
+Inv-loop cause case book n i₀ i = (i ≤ n) × (firstBad (badBy cause case book) i ≡ none)
+
+abbrev μ-loop : tie.MeasureT-loop
+μ-loop cause case book n i₀ i = n - i
+
+records-of-requires : tie.Need-records-of-requires Inv-loop μ-loop
+records-of-requires c κs = tt
+
+loop-holds : tie.Need-loop-holds Inv-loop μ-loop
+unfolding firstBad
+loop-holds c = (omega arith, refl)
+
+is-bad-requires : tie.Need-is-bad-requires Inv-loop μ-loop
+is-bad-requires c κs = (rw (c .before .before .records-of .ensures) at (c .loop-test .taken), c .before .before .before .before .before .pre)
+
+returns : tie.Need-returns Inv-loop μ-loop
+returns c =
+    let a = c .before .before .before .before .before .before .before .args in
+    let f = badBy (a .cause) (a .case .now) (a .book .now) in
+    sym (rw (← c .before .before .before .before .records-of .ensures, scan-found f (c .before .before .before .loop .i) (c .before .before .before .before .records-of .result) (c .before .before .before .loop .inv .1) (sym (c .before .is-bad .ensures) ∙ c .if1 .taken) (omega arith)))
+
+add-i : tie.Need-add-i Inv-loop μ-loop
+add-i c = omega arith
+
+loop-less : tie.Need-loop-less Inv-loop μ-loop
+loop-less c = omega arith
+
+loop-again : tie.Need-loop-again Inv-loop μ-loop
+loop-again c =
+    let a = c .before .before .before .before .before .before .before .args in
+    (omega arith, scan-on (badBy (a .cause) (a .case .now) (a .book .now)) (c .before .before .before .loop .i) (c .before .before .before .loop .inv .1) (sym (c .before .is-bad .ensures) ∙ c .if1 .left))
+
+returns-2 : tie.Need-returns-2 Inv-loop μ-loop
+returns-2 c =
+    let e : c .before .loop .i ≡ c .before .before .records-of .result = omega arith in
+    sym (rw (← c .before .before .records-of .ensures, sym e, c .before .loop .inv .1))
+
+pub first-bad-spec : {M : Type 1} → statement M
+first-bad-spec =
+    tie.close
+    (tie.spec
+    Inv-loop
+    μ-loop
+    records-of-requires
+    loop-holds
+    is-bad-requires
+    returns
+    add-i
+    loop-less
+    loop-again
+    returns-2)

@@ -1,0 +1,5 @@
+pub mod Scans
+pub mod Order
+pub mod Checked
+pub mod Index
+pub mod Ties

@@ -1,0 +1,46 @@
+// Cause 10, on the way to the index: for each pair record the number of its book record, from 1.
+ghost use mathlib.Core.Path.{_≡_};
+ghost use mathlib.Core.Option.{none};
+ghost use Prim.Native.Nat.{_≤_};
+ghost use lib.ListN.{length, replicate};
+ghost use Rattle.base.specs.Search.{firstBad, orEnd};
+ghost use Rattle.format.specs.Layout.{rows, entries, entryCount};
+ghost use Rattle.format.specs.Refusals.{badPair, badRepeat};
+ghost use Rattle.intake.specs.Checked.{CleanCase, pairCount};
+ghost use Rattle.intake.specs.Index.{lentIndex};
+
+// All zero.
+pub fn clear(index: &mut [u16])
+    ensures { λ _. ⌜ now (index .exit) ≡ replicate (length (now (index .entry))) 0 ⌝ }
+{
+    let mut i = 0;
+    while i < index.len() {
+        index[i] = 0;
+        i += 1;
+    }
+}
+
+// Each book record leaves its number at its pair's place. The first record whose pair has one already, or how many there are.
+pub fn fill(case: &[u8], book: &[u8], students: usize, workshops: usize, index: &mut [u16]) -> usize
+    requires { ⌜ CleanCase (now case) students workshops ⌝ }
+    requires { ⌜ firstBad (badPair (rows (now case)) (entries (now book))) (entryCount (now book)) ≡ none ⌝ }
+    requires { ⌜ pairCount (now case) ≤ length (now index) ⌝ }
+    requires { ⌜ now index ≡ replicate (length (now index)) 0 ⌝ }
+    ensures { λ r. ⌜ (r ≡ orEnd (entryCount (now (book .entry))) (firstBad (badRepeat (rows (now (case .entry))) (entries (now (book .entry)))) (entryCount (now (book .entry)))))
+        × (now (index .exit) ≡ lentIndex (now (case .entry)) (now (book .entry)) r (length (now (index .entry)))) ⌝ }
+{
+    let n = records::row_count(case.len());
+    let from = students + workshops;
+    let count = records::entry_count(book.len());
+    let mut i = 0;
+    while i < count {
+        let e = reader::entry_of(book, i);
+        let k = records::find_pair(case, n, e.student, e.workshop) - from;
+        if index[k] != 0 {
+            return i;
+        }
+        index[k] = (i + 1) as u16;
+        i += 1;
+    }
+    count
+}

@@ -1,0 +1,146 @@
+// Tests a case, the lent room and a book for the eleven refusals, cause by cause in the table's order.
+ghost use mathlib.Core.Path.{_≡_};
+ghost use mathlib.Core.Bool.{_||_};
+ghost use mathlib.Core.Option.{none};
+ghost use Prim.Native.Nat.{_≤_};
+ghost use lib.ListN.{length};
+ghost use Rattle.format.specs.Refusals.{notWithin, refusal};
+ghost use Rattle.intake.specs.Checked.{lengthsOf, pairCount, checkedOf, caseRefusal, bookRefusal, CleanCase};
+ghost use Rattle.intake.specs.Index.{indexedAs};
+
+mod index;
+mod lengths;
+mod order;
+mod scans;
+mod ties;
+
+// The lengths of the lent buffers, but the index, which is lent to `check` itself.
+pub struct Room {
+    pub places: usize,
+    pub visits: usize,
+    pub seats: usize,
+    pub states: usize,
+}
+
+pub enum Checked {
+    // The number of the cause, and the record's place.
+    Refused {
+        cause: u16,
+        record: usize,
+    },
+    Clean {
+        students: usize,
+        workshops: usize,
+        pairs: usize,
+    },
+}
+
+fn refused(cause: u16, at: usize) -> Checked
+    ensures { λ r. ⌜ r ≡ Checked.Refused cause at ⌝ }
+{
+    Checked::Refused { cause, record: at }
+}
+
+// 4: no student, over 512, no workshop, over 64.
+fn bad_counts(students: usize, workshops: usize) -> bool
+    ensures { λ v. ⌜ v ≡ (notWithin 1 512 students || notWithin 1 64 workshops) ⌝ }
+{
+    ((students < 1) | (512 < students)) | ((workshops < 1) | (64 < workshops))
+}
+
+// Causes 1 to 5.
+fn check_case(case: &[u8], book: &[u8]) -> Checked
+    ensures { λ r. ⌜ r ≡ checkedOf (caseRefusal (now (case .entry))) (now (case .entry)) ⌝ }
+{
+    let rows = records::row_count(case.len());
+    if case.len() % 16 != 0 {
+        return refused(1, 0);
+    }
+    let form = scans::first_bad(2, case, book);
+    if form < rows {
+        return refused(2, form);
+    }
+    let order = order::first_out_of_order(case);
+    let at = order.at;
+    let students = order.students;
+    let workshops = order.workshops;
+    if at < rows {
+        return refused(3, at);
+    }
+    if bad_counts(students, workshops) {
+        return refused(4, 0);
+    }
+    let range = scans::first_bad(5, case, book);
+    if range < rows {
+        return refused(5, range);
+    }
+    Checked::Clean {
+        students,
+        workshops,
+        pairs: rows - students - workshops,
+    }
+}
+
+// Causes 7 to 11.
+fn check_book(
+    case: &[u8],
+    book: &[u8],
+    students: usize,
+    workshops: usize,
+    pairs: usize,
+    index: &mut [u16],
+) -> Checked
+    requires { ⌜ CleanCase (now case) students workshops ⌝ }
+    requires { ⌜ (pairs ≡ pairCount (now case)) × (pairs ≤ length (now index)) ⌝ }
+    ensures { λ r. ⌜ r ≡ checkedOf (bookRefusal (now (case .entry)) (now (book .entry))) (now (case .entry)) ⌝ }
+    ensures { λ _. ⌜ (bookRefusal (now (case .entry)) (now (book .entry)) ≡ none → now (index .exit) ≡ indexedAs (now (case .entry)) (now (book .entry)) (length (now (index .entry)))) ⌝ }
+{
+    let n = records::entry_count(book.len());
+    if book.len() % 8 != 0 {
+        return refused(7, 0);
+    }
+    let pair = scans::first_bad(8, case, book);
+    if pair < n {
+        return refused(8, pair);
+    }
+    let score = scans::first_bad(9, case, book);
+    if score < n {
+        return refused(9, score);
+    }
+    index::clear(index);
+    let repeated = index::fill(case, book, students, workshops, index);
+    if repeated < n {
+        return refused(10, repeated);
+    }
+    let tie = ties::first_tie(case, book, index, students, workshops);
+    if tie < n {
+        return refused(11, tie);
+    }
+    Checked::Clean {
+        students,
+        workshops,
+        pairs,
+    }
+}
+
+// The first refusal of the table, or the counts of the case; then the index has, for each pair record, the number of its book record from 1.
+pub fn check(case: &[u8], book: &[u8], room: Room, index: &mut [u16]) -> Checked
+    ensures { λ r. ⌜ r ≡ checkedOf (refusal (now (case .entry)) (now (book .entry)) (lengthsOf room (length (now (index .entry))))) (now (case .entry)) ⌝ }
+    ensures { λ _. ⌜ (refusal (now (case .entry)) (now (book .entry)) (lengthsOf room (length (now (index .entry)))) ≡ none
+        → now (index .exit) ≡ indexedAs (now (case .entry)) (now (book .entry)) (length (now (index .entry)))) ⌝ }
+{
+    match check_case(case, book) {
+        Checked::Refused { cause, record } => refused(cause, record),
+        Checked::Clean {
+            students,
+            workshops,
+            pairs,
+        } => {
+            let seats = lengths::seats_needed(case, students, workshops);
+            if lengths::lacks(room, index.len(), students, pairs, seats) {
+                return refused(6, 0);
+            }
+            check_book(case, book, students, workshops, pairs, index)
+        }
+    }
+}

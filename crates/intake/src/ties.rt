@@ -1,0 +1,219 @@
+// Cause 11: one person gave an equal score earlier in the same tier. Person by person, the interviews are compared by keys; of all records that
+// tie with an earlier one the lowest is kept, counted from 1.
+ghost use mathlib.Core.Path.{_≡_};
+ghost use mathlib.Core.Bool.{not, cond};
+ghost use Prim.Native.Nat.{suc, _+_, _*_, _≤_, _<_, max, min};
+ghost use lib.ListN.{length, getD};
+ghost use lib.Dec.{eqb};
+ghost use Rattle.base.specs.Below.{anyBelow};
+ghost use Rattle.base.specs.Search.{firstBad, orEnd};
+ghost use Rattle.format.specs.Layout.{rows, entries, entryCount};
+ghost use Rattle.format.specs.Refusals.{badTie};
+ghost use Rattle.format.specs.Engine.{marketIn};
+ghost use Rattle.intake.specs.Ties.{Indexed, personsOf, numberOf, keyOf, Lowered, LoweredBy, LoweredOn};
+
+// ---- one person's interviews, by their keys and the numbers of their records
+
+// An earlier interview has the key of interview i. No way out of the loop: it is the one that runs longest.
+fn repeats(keys: &[u32], i: usize) -> bool
+    requires { ⌜ i < length (now keys) ⌝ }
+    ensures { λ r. ⌜ r ≡ anyBelow (λ j. eqb (getD (now (keys .entry)) j 0) (getD (now (keys .entry)) i 0)) i ⌝ }
+{
+    let key = keys[i];
+    let mut found = false;
+    let mut j = 0;
+    while j < i {
+        found = found | (keys[j] == key);
+        j += 1;
+    }
+    found
+}
+
+fn later(a: u16, b: u16) -> usize
+    ensures { λ r. ⌜ r ≡ max a b ⌝ }
+{
+    if a < b { b as usize } else { a as usize }
+}
+
+fn lesser(a: usize, b: usize) -> usize
+    ensures { λ r. ⌜ r ≡ min a b ⌝ }
+{
+    if a < b { a } else { b }
+}
+
+// Lowers `low` to the later record of interview i and an earlier one with its key.
+fn lower(keys: &[u32], numbers: &[u16], i: usize, low: usize) -> usize
+    requires { ⌜ (i < length (now keys)) × (length (now numbers) ≡ length (now keys)) ⌝ }
+    ensures { λ r. ⌜ LoweredBy (λ k. getD (now (keys .entry)) k 0) (λ k. getD (now (numbers .entry)) k 0) i i low r ⌝ }
+{
+    let mut after = low;
+    let mut j = 0;
+    while j < i {
+        if keys[j] == keys[i] {
+            after = lesser(after, later(numbers[i], numbers[j]));
+            j += 1;
+        } else {
+            j += 1;
+        }
+    }
+    after
+}
+
+// The same for all interviews.
+fn lowest(keys: &[u32], numbers: &[u16], low: usize) -> usize
+    requires { ⌜ length (now numbers) ≡ length (now keys) ⌝ }
+    ensures { λ r. ⌜ Lowered (λ k. getD (now (keys .entry)) k 0) (λ k. getD (now (numbers .entry)) k 0) (length (now (keys .entry))) low r ⌝ }
+{
+    let mut after = low;
+    let mut i = 0;
+    while i < keys.len() {
+        if repeats(keys, i) {
+            after = lower(keys, numbers, i, after);
+            i += 1;
+        } else {
+            i += 1;
+        }
+    }
+    after
+}
+
+// ---- a person's interviews from the case, the book and the index
+
+// The number of an interview's record, from 1, or 0, and its key.
+struct Interview {
+    number: u16,
+    key: u32,
+}
+
+fn pick(first: bool, x: u16, y: u16) -> u16
+    ensures { λ r. ⌜ r ≡ cond first x y ⌝ }
+{
+    if first { x } else { y }
+}
+
+fn joined(tier: u16, score: u16) -> u32
+    ensures { λ r. ⌜ r ≡ tier * 65536 + score ⌝ }
+{
+    tier as u32 * 65536 + score as u32
+}
+
+// The interview of person x of the side with y.
+fn interview_of(
+    case: &[u8],
+    book: &[u8],
+    index: &[u16],
+    from: usize,
+    student: bool,
+    x: u16,
+    y: u16,
+) -> Interview
+    requires { ⌜ Indexed (now case) (now book) (now index) from ⌝ }
+    ensures { λ r. ⌜ (r .number ≡ numberOf student (now (book .entry)) x y) × (r .key ≡ keyOf student (now (case .entry)) (now (book .entry)) x y) ⌝ }
+{
+    let n = records::row_count(case.len());
+    let p = records::find_pair(case, n, pick(student, x, y), pick(student, y, x));
+    if n <= p {
+        return Interview {
+            number: 0,
+            key: y as u32,
+        };
+    }
+    let number = index[p - from];
+    if number < 1 {
+        return Interview {
+            number: 0,
+            key: y as u32,
+        };
+    }
+    let r = records::row_at(case, p);
+    let at = 8 * (number as usize - 1);
+    let tier = pick(student, r.third, r.fourth);
+    let score = pick(
+        student,
+        records::biased_at(book, at + 4),
+        records::biased_at(book, at + 6),
+    );
+    Interview {
+        number,
+        key: joined(tier, score),
+    }
+}
+
+// Lowers `low` by the interviews of person x of the side with the others.
+fn tie_of(
+    case: &[u8],
+    book: &[u8],
+    index: &[u16],
+    from: usize,
+    student: bool,
+    x: u16,
+    others: usize,
+    low: usize,
+) -> usize
+    requires { ⌜ Indexed (now case) (now book) (now index) from ⌝ }
+    requires { ⌜ others ≤ 512 ⌝ }
+    ensures { λ r. ⌜ Lowered (λ k. keyOf student (now (case .entry)) (now (book .entry)) x (suc k)) (λ k. numberOf student (now (book .entry)) x (suc k)) others low r ⌝ }
+{
+    let mut keys = [0u32; 512];
+    let mut numbers = [0u16; 512];
+    let mut k = 0;
+    while k < others {
+        let v = interview_of(case, book, index, from, student, x, (k + 1) as u16);
+        keys[k] = v.key;
+        numbers[k] = v.number;
+        k += 1;
+    }
+    lowest(&keys[..others], &numbers[..others], low)
+}
+
+// The same for all persons of the side.
+fn ties_on(
+    case: &[u8],
+    book: &[u8],
+    index: &[u16],
+    from: usize,
+    student: bool,
+    persons: usize,
+    others: usize,
+    low: usize,
+) -> usize
+    requires { ⌜ Indexed (now case) (now book) (now index) from ⌝ }
+    requires { ⌜ (persons ≡ personsOf student (now case)) × (others ≡ personsOf (not student) (now case)) ⌝ }
+    ensures { λ r. ⌜ LoweredOn student (now (case .entry)) (now (book .entry)) persons low r ⌝ }
+{
+    let mut after = low;
+    let mut x = 0;
+    while x < persons {
+        after = tie_of(
+            case,
+            book,
+            index,
+            from,
+            student,
+            (x + 1) as u16,
+            others,
+            after,
+        );
+        x += 1;
+    }
+    after
+}
+
+// The first record that ties with an earlier one, or how many there are.
+pub fn first_tie(
+    case: &[u8],
+    book: &[u8],
+    index: &[u16],
+    students: usize,
+    workshops: usize,
+) -> usize
+    requires { ⌜ Indexed (now case) (now book) (now index) (students + workshops) ⌝ }
+    requires { ⌜ (students ≡ marketIn (now case) .students) × (workshops ≡ marketIn (now case) .workshops) ⌝ }
+    ensures { λ r. ⌜ r ≡ orEnd (entryCount (now (book .entry)))
+        (firstBad (badTie (rows (now (case .entry))) (entries (now (book .entry)))) (entryCount (now (book .entry)))) ⌝ }
+{
+    let n = records::entry_count(book.len());
+    let from = students + workshops;
+    let low = ties_on(case, book, index, from, true, students, workshops, n + 1);
+    ties_on(case, book, index, from, false, workshops, students, low) - 1
+}

@@ -1,0 +1,84 @@
+-- `printing::put_answer` meets its contract: each case of the answer puts its lines.
+use native.Mathlib.Omega.{arith}
+use Rattle.answers.specs.Report.{textOf}
+use Rattle.printing.proofs.Laws.{put-then, put-within}
+use borrow.Author.Needs.{needs}
+use Rattle.printing.proofs.put_answer.Statement.{statement}
+use Rattle.printing.proofs.put_answer.Tie as tie
+use Rattle.printing.proofs.put_answer.Reads as reads
+use Rattle.printing.proofs.put_answer.Lts as lts
+use Rattle.printing.proofs.put_line2.Reads as put-line2-reads
+use Rattle.printing.proofs.put_places.Reads as put-places-reads
+use Rattle.printing.proofs.put_visits.Reads as put-visits-reads
+
+enum-known-answer : tie.Need-enum-known-answer
+enum-known-answer c = search needs
+
+put-places-requires : tie.Need-put-places-requires
+put-places-requires c κs = (omega arith, (rw (c .before .before .answer .given .1) at (c .before .before .before .before .before .before .before .pre)) .0)
+
+put-visits-requires : tie.Need-put-visits-requires
+put-visits-requires c κs = (put-within (c .before .before .before .put-places .ensures), (rw (c .before .before .before .before .before .before .answer .given .1) at (c .before .before .before .before .before .before .before .before .before .before .before .pre)) .1)
+
+enum-known-answer-2 : tie.Need-enum-known-answer-2
+enum-known-answer-2 c = search needs
+
+slice-aggregate-put-line2 : tie.Need-slice-aggregate-put-line2
+slice-aggregate-put-line2 c = search needs
+
+put-line2-requires : tie.Need-put-line2-requires
+put-line2-requires c κs = search needs
+
+put-visits-requires-2 : tie.Need-put-visits-requires-2
+put-visits-requires-2 c κs = (put-within (c .before .before .before .put-line2 .ensures), rw (c .before .before .before .before .before .before .before .answer2 .given .1) at (c .before .before .before .before .before .before .before .before .before .before .before .before .pre))
+
+enum-known-answer-3 : tie.Need-enum-known-answer-3
+enum-known-answer-3 c = search needs
+
+slice-aggregate-put-line2-2 : tie.Need-slice-aggregate-put-line2-2
+slice-aggregate-put-line2-2 c = search needs
+
+put-line2-requires-2 : tie.Need-put-line2-requires-2
+put-line2-requires-2 c κs = search needs
+
+same-length : tie.Need-same-length
+same-length c = search needs
+
+returns : tie.Need-returns
+unfolding textOf
+returns c = rw (c .before .before .before .before .before .before .before .before .before .answer .given .1) (put-then (omega arith) (c .before .before .before .before .before .before .put-places .ensures) (c .before .before .put-visits .ensures))
+
+same-length-2 : tie.Need-same-length-2
+same-length-2 c = search needs
+
+returns-2 : tie.Need-returns-2
+unfolding textOf
+returns-2 c = rw (c .before .before .before .before .before .before .before .before .before .before .answer2 .given .1) (put-then (omega arith) (c .before .before .before .before .before .before .put-line2 .ensures) (c .before .before .put-visits2 .ensures))
+
+same-length-3 : tie.Need-same-length-3
+same-length-3 c = search needs
+
+returns-3 : tie.Need-returns-3
+unfolding textOf
+returns-3 c = rw (c .before .before .before .before .before .before .answer3 .given .1) (c .before .before .put-line22 .ensures)
+
+pub put-answer-spec : {M : Type 1} → statement M
+put-answer-spec =
+    tie.close
+    (tie.spec
+    enum-known-answer
+    put-places-requires
+    put-visits-requires
+    enum-known-answer-2
+    slice-aggregate-put-line2
+    put-line2-requires
+    put-visits-requires-2
+    enum-known-answer-3
+    slice-aggregate-put-line2-2
+    put-line2-requires-2
+    same-length
+    returns
+    same-length-2
+    returns-2
+    same-length-3
+    returns-3)

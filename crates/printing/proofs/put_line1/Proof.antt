@@ -1,0 +1,33 @@
+-- `printing::put_line1` meets its contract: word, number and end of the line, put one after the other.
+use Rattle.printing.proofs.Laws.{put-then, put-within}
+use Rattle.printing.proofs.Decimal.{line-one}
+use borrow.Author.Needs.{needs}
+use Rattle.printing.proofs.put_line1.Statement.{statement}
+use Rattle.printing.proofs.put_line1.Tie as tie
+use Rattle.printing.proofs.put_line1.Reads as reads
+use Rattle.printing.proofs.put_line1.Lts as lts
+use Rattle.printing.proofs.put_byte.Reads as put-byte-reads
+use Rattle.printing.proofs.put_number.Reads as put-number-reads
+use Rattle.printing.proofs.put_word.Reads as put-word-reads
+
+put-word-requires : tie.Need-put-word-requires
+put-word-requires c κs = search needs
+
+put-number-requires : tie.Need-put-number-requires
+put-number-requires c κs = search needs
+
+put-byte-requires : tie.Need-put-byte-requires
+put-byte-requires c κs = search needs
+
+same-length : tie.Need-same-length
+same-length c = search needs
+
+returns : tie.Need-returns
+returns c =
+    let a = c .before .before .before .before .before .before .before .before .before .before .before .before .before .before .args in
+    rw (line-one (a .word .now) (a .n)) at (put-then (c .before .before .before .before .before .before .before .before .before .before .before .before .before .before .pre) (put-then (c .before .before .before .before .before .before .before .before .before .before .before .before .before .before .pre) (c .before .before .before .before .before .before .before .before .before .before .put-word .ensures) (c .before .before .before .before .before .before .put-number .ensures)) (c .before .before .put-byte .ensures))
+
+pub put-line1-spec : {M : Type 1} → statement M
+put-line1-spec =
+    tie.close
+    (tie.spec put-word-requires put-number-requires put-byte-requires same-length returns)

@@ -1,0 +1,44 @@
+-- `printing::put_line2` meets its contract: word, numbers and end of the line, put one after the other.
+use Rattle.printing.proofs.Laws.{put-then, put-within}
+use Rattle.printing.proofs.Decimal.{line-two}
+use borrow.Author.Needs.{needs}
+use Rattle.printing.proofs.put_line2.Statement.{statement}
+use Rattle.printing.proofs.put_line2.Tie as tie
+use Rattle.printing.proofs.put_line2.Reads as reads
+use Rattle.printing.proofs.put_line2.Lts as lts
+use Rattle.printing.proofs.put_byte.Reads as put-byte-reads
+use Rattle.printing.proofs.put_number.Reads as put-number-reads
+use Rattle.printing.proofs.put_word.Reads as put-word-reads
+
+put-word-requires : tie.Need-put-word-requires
+put-word-requires c κs = search needs
+
+put-number-requires : tie.Need-put-number-requires
+put-number-requires c κs = search needs
+
+put-number-requires-2 : tie.Need-put-number-requires-2
+put-number-requires-2 c κs = search needs
+
+put-byte-requires : tie.Need-put-byte-requires
+put-byte-requires c κs = search needs
+
+same-length : tie.Need-same-length
+same-length c = search needs
+
+returns : tie.Need-returns
+returns c =
+    let s = c .before .before .before .before .before .before .before .before .before .before .before .before .before .before .before .before .before .before in
+    let first = put-then (s .pre) (c .before .before .before .before .before .before .before .before .before .before .before .before .before .before .put-word .ensures) (c .before .before .before .before .before .before .before .before .before .before .put-number .ensures) in
+    let second = put-then (s .pre) first (c .before .before .before .before .before .before .put-number2 .ensures) in
+    rw (line-two (s .args .word .now) (s .args .a) (s .args .b)) at (put-then (s .pre) second (c .before .before .put-byte .ensures))
+
+pub put-line2-spec : {M : Type 1} → statement M
+put-line2-spec =
+    tie.close
+    (tie.spec
+    put-word-requires
+    put-number-requires
+    put-number-requires-2
+    put-byte-requires
+    same-length
+    returns)

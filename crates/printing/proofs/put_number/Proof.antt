@@ -1,0 +1,24 @@
+-- `printing::put_number` meets its contract: a space, and then the digits.
+use Rattle.printing.proofs.Laws.{put-then, put-within}
+use borrow.Author.Needs.{needs}
+use Rattle.printing.proofs.put_number.Statement.{statement}
+use Rattle.printing.proofs.put_number.Tie as tie
+use Rattle.printing.proofs.put_number.Reads as reads
+use Rattle.printing.proofs.put_number.Lts as lts
+use Rattle.printing.proofs.put_byte.Reads as put-byte-reads
+use Rattle.printing.proofs.put_decimal.Reads as put-decimal-reads
+
+put-byte-requires : tie.Need-put-byte-requires
+put-byte-requires c κs = search needs
+
+put-decimal-requires : tie.Need-put-decimal-requires
+put-decimal-requires c κs = search needs
+
+same-length : tie.Need-same-length
+same-length c = search needs
+
+returns : tie.Need-returns
+returns c = put-then (c .before .before .before .before .before .before .before .before .before .pre) (c .before .before .before .before .before .before .put-byte .ensures) (c .before .before .put-decimal .ensures)
+
+pub put-number-spec : {M : Type 1} → statement M
+put-number-spec = tie.close (tie.spec put-byte-requires put-decimal-requires same-length returns)

@@ -1,0 +1,148 @@
+// The text of an answer, put into lent bytes. Text that does not fit is cut off at the buffer's end; nothing is written past it.
+ghost use mathlib.Core.Path.{_≡_};
+ghost use mathlib.Core.List.{List, [], _∷_, _++_};
+ghost use Prim.Native.Nat.{ℕ, _+_, _*_, _≤_, _<_};
+ghost use lib.ListN.{length, getD, take};
+ghost use Rattle.format.specs.Printed.{decimal, numbers, lineOf, placeLines, visitLines, visitsText, placeWord, visitWord, visitsWord, nextWord, refusedWord, unread};
+ghost use Rattle.answers.specs.Report.{interviewsAt, textOf};
+ghost use Rattle.printing.specs.Text.{Put, Fits};
+use answers::Answer;
+
+// One byte at `at`; what comes after it.
+fn put_byte(out: &mut [u8], at: usize, b: u8) -> usize
+    requires { ⌜ at ≤ length (now out) ⌝ }
+    ensures { λ r. ⌜ Put (b ∷ []) at (now (out .entry)) (now (out .exit)) r ⌝ }
+{
+    if at < out.len() {
+        out[at] = b;
+        at + 1
+    } else {
+        at
+    }
+}
+
+fn put_word(out: &mut [u8], at: usize, word: &[u8]) -> usize
+    requires { ⌜ at ≤ length (now out) ⌝ }
+    ensures { λ r. ⌜ Put (now (word .entry)) at (now (out .entry)) (now (out .exit)) r ⌝ }
+{
+    let mut end = at;
+    let mut i = 0;
+    while i < word.len() {
+        end = put_byte(&mut *out, end, word[i]);
+        i += 1;
+    }
+    end
+}
+
+// A number in decimal digits.
+fn put_decimal(out: &mut [u8], at: usize, n: usize) -> usize
+    requires { ⌜ at ≤ length (now out) ⌝ }
+    ensures { λ r. ⌜ Put (decimal n) at (now (out .entry)) (now (out .exit)) r ⌝ }
+{
+    if n < 10 {
+        put_byte(out, at, 48 + (n % 10) as u8)
+    } else {
+        let end = put_decimal(&mut *out, at, n / 10);
+        put_byte(out, end, 48 + (n % 10) as u8)
+    }
+}
+
+// A space and a number.
+fn put_number(out: &mut [u8], at: usize, n: usize) -> usize
+    requires { ⌜ at ≤ length (now out) ⌝ }
+    ensures { λ r. ⌜ Put (32 ∷ decimal n) at (now (out .entry)) (now (out .exit)) r ⌝ }
+{
+    let end = put_byte(&mut *out, at, 32);
+    put_decimal(out, end, n)
+}
+
+// A line with a word and a number.
+fn put_line1(out: &mut [u8], at: usize, word: &[u8], n: usize) -> usize
+    requires { ⌜ at ≤ length (now out) ⌝ }
+    ensures { λ r. ⌜ Put (lineOf (now (word .entry)) (n ∷ [])) at (now (out .entry)) (now (out .exit)) r ⌝ }
+{
+    let end = put_word(&mut *out, at, word);
+    let end = put_number(&mut *out, end, n);
+    put_byte(out, end, 10)
+}
+
+// A line with a word and two numbers.
+fn put_line2(out: &mut [u8], at: usize, word: &[u8], a: usize, b: usize) -> usize
+    requires { ⌜ at ≤ length (now out) ⌝ }
+    ensures { λ r. ⌜ Put (lineOf (now (word .entry)) (a ∷ b ∷ [])) at (now (out .entry)) (now (out .exit)) r ⌝ }
+{
+    let end = put_word(&mut *out, at, word);
+    let end = put_number(&mut *out, end, a);
+    let end = put_number(&mut *out, end, b);
+    put_byte(out, end, 10)
+}
+
+// A line for each of the first n places.
+fn put_places(out: &mut [u8], at: usize, places: &[u16], n: usize) -> usize
+    requires { ⌜ (at ≤ length (now out)) × (n ≤ length (now places)) ⌝ }
+    ensures { λ r. ⌜ Put (placeLines 1 (take n (now (places .entry)))) at (now (out .entry)) (now (out .exit)) r ⌝ }
+{
+    let mut end = at;
+    let mut i = 0;
+    while i < n {
+        end = put_line2(&mut *out, end, b"place", i + 1, wide(places[i]));
+        i += 1;
+    }
+    end
+}
+
+// The line with the count, and a line for each of that many interviews.
+fn put_visits(out: &mut [u8], at: usize, visits: &[u16], count: usize) -> usize
+    requires { ⌜ (at ≤ length (now out)) × (2 * count ≤ length (now visits)) ⌝ }
+    ensures { λ r. ⌜ Put (visitsText (interviewsAt count (now (visits .entry)))) at (now (out .entry)) (now (out .exit)) r ⌝ }
+{
+    let mut end = put_line1(&mut *out, at, b"visits", count);
+    let mut i = 0;
+    while i < count {
+        end = put_line2(
+            &mut *out,
+            end,
+            b"visit",
+            wide(visits[2 * i]),
+            wide(visits[2 * i + 1]),
+        );
+        i += 1;
+    }
+    end
+}
+
+fn wide(x: u16) -> usize
+    ensures { λ r. ⌜ r ≡ x ⌝ }
+{
+    x as usize
+}
+
+// The text of an answer with n students, from the lent buffers. The result is the text's length, or the buffer's where the text is longer.
+pub fn put_answer(answer: Answer, n: usize, places: &[u16], visits: &[u16], out: &mut [u8]) -> usize
+    requires { ⌜ Fits answer n (now places) (now visits) ⌝ }
+    ensures { λ r. ⌜ Put (textOf answer n (now (places .entry)) (now (visits .entry))) 0 (now (out .entry)) (now (out .exit)) r ⌝ }
+{
+    match answer {
+        Answer::Placed { visits: count } => {
+            let end = put_places(&mut *out, 0, places, n);
+            put_visits(out, end, visits, count)
+        }
+        Answer::Next {
+            student,
+            workshop,
+            visits: count,
+        } => {
+            let end = put_line2(&mut *out, 0, b"next", student, workshop);
+            put_visits(out, end, visits, count)
+        }
+        Answer::Refused { cause, record } => put_line2(out, 0, b"refused", cause, record),
+    }
+}
+
+// The text where a file cannot be read.
+pub fn put_unread(out: &mut [u8]) -> usize
+    ensures { λ r. ⌜ Put unread 0 (now (out .entry)) (now (out .exit)) r ⌝ }
+{
+    let end = put_word(&mut *out, 0, b"unread");
+    put_byte(out, end, 10)
+}

@@ -1,0 +1,33 @@
+// A book reader: the lent bytes together with the number of the next record. `take` and `entry_of` are walked by hand; what a record is stands in
+// `records::entry_at`, and whoever calls `entry_of` is covered.
+use records::Entry;
+ghost use mathlib.Core.Path.{_≡_};
+ghost use Prim.Native.Nat.{_+_, _<_};
+ghost use Rattle.format.specs.Layout.{entryAt, entryCount};
+ghost use Rattle.records.specs.Records.{entryOf};
+
+pub struct BookReader<'a> {
+    pub book: &'a [u8],
+    pub next: usize,
+}
+
+// Reads the next record and moves on.
+pub fn take<'s, 'a>(r: &'s mut BookReader<'a>) -> Entry
+    requires { ⌜ now r .next < entryCount (now (now r .book)) ⌝ }
+    ensures { λ o. ⌜ (entryOf o ≡ entryAt (now (now (r .entry) .book)) (now (r .entry) .next))
+        × ((now (r .exit) .book ≡ now (r .entry) .book) × (now (r .exit) .next ≡ now (r .entry) .next + 1)) ⌝ }
+{
+    let at = r.next;
+    let o = records::entry_at(r.book, at);
+    r.next = at + 1;
+    o
+}
+
+// Record i of the book, read by a reader.
+pub fn entry_of(book: &[u8], i: usize) -> Entry
+    requires { ⌜ i < entryCount (now book) ⌝ }
+    ensures { λ o. ⌜ entryOf o ≡ entryAt (now (book .entry)) i ⌝ }
+{
+    let mut r = BookReader { book, next: i };
+    take(&mut r)
+}

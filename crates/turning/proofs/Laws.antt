@@ -1,0 +1,97 @@
+-- A turn of each loop of the crate, and where it ends.
+use Prim.Native.Nat.{ℕ, zero, suc, _+_, _-_, _≤_, _<_, _^_}
+use mathlib.Core.Path.{_≡_, refl, sym, _∙_}
+use mathlib.Core.Bool.{Bool, true, false, not, cond, _&&_, _||_}
+use native.Mathlib.Omega.{arith}
+use lib.Dec.{eqb, ltb}
+use lib.IntN.{ℤ}
+use Rattle.base.specs.Lists.{pick}
+use Rattle.base.specs.Words.{biased}
+use Rattle.base.specs.Bits.{member, members, Low}
+use Rattle.base.proofs.Tests.{and-left}
+use Rattle.base.proofs.Digits.{members-low, members-empty}
+use Rattle.lgs.specs.Market.{Market, Results}
+use Rattle.model.specs.Model.{favourite}
+use Rattle.model.specs.Store.{comesAfter, nextIn}
+use Rattle.model.specs.Turn.{favouriteIn}
+use Rattle.model.specs.Ready.{Booked}
+
+-- ---- the next student: `first` is the first of the students before t who comes after s
+module _ (stage : ℕ → ℕ) (s t first : ℕ) (a : 1 ≤ t) (e : first ≡ nextIn stage s (t - 1)) where
+  step : (b : Bool) → (comesAfter stage s t && (eqb first 0 || ltb (stage t) (stage first))) ≡ b → nextIn stage s (t + 1 - 1) ≡ cond b t first
+  unfolding nextIn
+  step b q = go t a e q
+    where
+      go : (t : ℕ) → 1 ≤ t → first ≡ nextIn stage s (t - 1) → (comesAfter stage s t && (eqb first 0 || ltb (stage t) (stage first))) ≡ b → nextIn stage s (t + 1 - 1) ≡ cond b t first
+      go zero a e q = absurd (omega arith)
+      go (suc k) a e q =
+          let d : suc k + 1 - 1 ≡ suc k = omega arith in
+          let f : suc k - 1 ≡ k = omega arith in
+          let h : first ≡ nextIn stage s k = rw f at e in
+          rw (d, ← h, q)
+
+  pub next-taken : (comesAfter stage s t && (eqb first 0 || ltb (stage t) (stage first))) ≡ true → t ≡ nextIn stage s (t + 1 - 1)
+  next-taken q = sym (step true q)
+
+  pub next-left : (comesAfter stage s t && (eqb first 0 || ltb (stage t) (stage first))) ≡ false → first ≡ nextIn stage s (t + 1 - 1)
+  next-left q = sym (step false q)
+
+-- ---- the best of a set: the lowest is compared with the best so far, and taken out
+
+-- so far `best` is the best of `start` and what has been taken out of the set, with the score `top`; `rest` is left
+pub record Best (M : Market) (B : Results) (s start set best : ℕ) (top : ℤ) (rest : ℕ) : Type 0 where
+  pub small : rest < 2 ^ 64
+  pub score : biased top ≡ B .studentScore s best
+  pub same : favourite M B s best (members rest) ≡ favourite M B s start (members set)
+  pub known : (w : ℕ) → member rest w ≡ true → Booked M B s w
+
+module _ (M : Market) (B : Results) (s start set : ℕ) where
+  same-on : (b b′ w rest rest′ : ℕ)
+      → Low rest w
+      → ((x : ℕ) → member rest′ x ≡ (member rest x && not (eqb x w)))
+      → b′ ≡ cond (ltb (B .studentScore s b) (B .studentScore s w)) w b
+      → favourite M B s b′ (members rest′) ≡ favourite M B s b (members rest)
+  unfolding favourite pick
+  same-on b b′ w rest rest′ low f e = rw (members-low rest rest′ w low f, e)
+
+  pub best-start : (top : ℤ) → set < 2 ^ 64 → biased top ≡ B .studentScore s start → ((w : ℕ) → member set w ≡ true → Booked M B s w) → Best M B s start set start top set
+  best-start top h e k = record { small = h; score = e; same = refl; known = k }
+
+  module _ (best rest rest′ w : ℕ) (top score : ℤ) (b : Best M B s start set best top rest) (low : Low rest w) (f : (x : ℕ) → member rest′ x ≡ (member rest x && not (eqb x w))) (h : rest′ < 2 ^ 64) (e : biased score ≡ B .studentScore s w) where
+    known′ : (x : ℕ) → member rest′ x ≡ true → Booked M B s x
+    known′ x q = b .known x (and-left (member rest x) _ (sym (f x) ∙ q))
+
+    pub best-higher : ltb (biased top) (biased score) ≡ true → Best M B s start set w score rest′
+    best-higher q =
+        let t : ltb (B .studentScore s best) (B .studentScore s w) ≡ true = rw (b .score, e) at q in
+        record { small = h; score = e; same = same-on best w w rest rest′ low f (sym (rw t)) ∙ b .same; known = known′ }
+
+    pub best-kept : ltb (biased top) (biased score) ≡ false → Best M B s start set best top rest′
+    best-kept q =
+        let t : ltb (B .studentScore s best) (B .studentScore s w) ≡ false = rw (b .score, e) at q in
+        record { small = h; score = b .score; same = same-on best best w rest rest′ low f (sym (rw t)) ∙ b .same; known = known′ }
+
+  none-left : (b rest : ℕ) → rest ≡ 0 → b ≡ favourite M B s b (members rest)
+  unfolding favourite pick
+  none-left b rest e = sym (rw (e, members-empty))
+
+  pub best-end : (best rest : ℕ) (top : ℤ) → Best M B s start set best top rest → rest ≡ 0 → best ≡ favourite M B s start (members set)
+  best-end best rest top b e = none-left best rest e ∙ b .same
+
+-- ---- the best of what is open, by whether the outside option is open and what the set's lowest is
+module _ (M : Market) (B : Results) (s set : ℕ) where
+  pub with-outside : (o : Bool) → o ≡ true → favouriteIn M B s o set ≡ favourite M B s 0 (members set)
+  unfolding favouriteIn
+  with-outside o e = rw e
+
+  pub none-open : (o : Bool) → o ≡ false → set ≡ 0 → favouriteIn M B s o set ≡ 0
+  unfolding favouriteIn
+  none-open o e z = rw (e, z, members-empty)
+
+  pub some-open : (o : Bool) (w rest : ℕ)
+      → o ≡ false
+      → Low set w
+      → ((x : ℕ) → member rest x ≡ (member set x && not (eqb x w)))
+      → favouriteIn M B s o set ≡ favourite M B s w (members rest)
+  unfolding favouriteIn
+  some-open o w rest e low f = rw (e, members-low set rest w low f)

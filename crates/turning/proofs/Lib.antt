@@ -1,0 +1,5 @@
+pub mod Laws
+pub mod Due
+pub mod Visits
+pub mod Rounds
+pub mod Turns

@@ -1,0 +1,22 @@
+-- `turning::opened` meets its contract. By the test that led there.
+use mathlib.Core.Path.{sym, _∙_}
+use Rattle.model.specs.Turn.{withMember}
+use borrow.Author.Needs.{needs}
+use Rattle.turning.proofs.opened.Statement.{statement}
+use Rattle.turning.proofs.opened.Tie as tie
+
+is-declined-requires : tie.Need-is-declined-requires
+is-declined-requires c κs = search needs
+
+returns : tie.Need-returns
+returns c = sym (rw (sym (c .before .is-declined .ensures) ∙ c .if1 .taken))
+
+with-bit-requires : tie.Need-with-bit-requires
+with-bit-requires c κs = search needs
+
+returns-2 : tie.Need-returns-2
+unfolding withMember
+returns-2 c = sym (rw (sym (c .before .before .is-declined .ensures) ∙ c .before .if1 .left, c .with-bit .ensures .0))
+
+pub opened-spec : {M : Type 1} → statement M
+opened-spec = tie.close (tie.spec is-declined-requires returns with-bit-requires returns-2)

@@ -1,0 +1,520 @@
+// One turn of the student in hand: she goes to her next tier and is interviewed there, or applies to the best of what is open to her.
+ghost use mathlib.Core.Path.{_≡_};
+ghost use mathlib.Core.Bool.{true, cond, _&&_, _||_};
+ghost use mathlib.Core.List.{List, [], _∷_};
+ghost use Prim.Native.Nat.{ℕ, suc, _+_, _*_, _≤_, _<_};
+ghost use lib.ListN.{length};
+ghost use lib.Dec.{eqb, ltb};
+ghost use Rattle.base.specs.Lists.{count};
+ghost use Rattle.base.specs.Words.{biased};
+ghost use Rattle.base.specs.Bits.{member, members};
+ghost use Rattle.lgs.specs.Market.{Market, Results};
+ghost use Rattle.lgs.specs.Rule.{declined};
+ghost use Rattle.format.specs.Buffers.{flat};
+ghost use Rattle.format.specs.Engine.{marketIn, resultsIn};
+ghost use Rattle.model.specs.Model.{favourite, shutBy};
+ghost use Rattle.model.specs.Store.{comesAfter, nextIn, lastOf};
+ghost use Rattle.model.specs.Turn.{toldState, withMember, favouriteIn, RoundSoFar, dueAt, roundTo, putAt, nextRun, afterRound, afterSeating, openTier, applyTo, turnOf, beginRun};
+ghost use Rattle.model.specs.Ready.{Booked, Ready};
+ghost use Rattle.records.specs.Records.{PairsSorted, pairPlace};
+ghost use Rattle.lookup.specs.Clean.{StudentAt, PairAt, Clean};
+ghost use Rattle.turning.specs.Round.{SeatsAt, SeatedAll, roundOf};
+use model::Run;
+use model::StudentState;
+use model::Turned;
+
+// The state of the student in hand after workshop `lost` has dropped her; 0: nobody has.
+pub fn told_state(lost: usize, state: StudentState) -> StudentState
+    requires { ⌜ lost ≤ 64 ⌝ }
+    ensures { λ r. ⌜ r ≡ toldState lost state ⌝ }
+{
+    if lost == 0 {
+        return state;
+    }
+    StudentState {
+        reached: state.reached,
+        held: 0,
+        openings: bits::without_bit(state.openings, lost),
+    }
+}
+
+// ---- the next student in the order of stages
+
+// Student t comes after student s, in rising stage and rising number inside a stage; everybody comes after 0.
+fn comes_after(case: &[u8], s: usize, t: usize) -> bool
+    requires { ⌜ (0 < s → StudentAt (now case) s) ⌝ }
+    requires { ⌜ StudentAt (now case) t ⌝ }
+    ensures { λ r. ⌜ r ≡ comesAfter (marketIn (now (case .entry)) .stage) s t ⌝ }
+{
+    if s == 0 {
+        return true;
+    }
+    let a = lookup::stage_of(case, s);
+    let b = lookup::stage_of(case, t);
+    (a < b) | ((a == b) & (s < t))
+}
+
+// Student t has an earlier stage than student `first`; everybody comes before 0.
+fn is_earlier(case: &[u8], t: usize, first: usize) -> bool
+    requires { ⌜ StudentAt (now case) t ⌝ }
+    requires { ⌜ (0 < first → StudentAt (now case) first) ⌝ }
+    ensures { λ r. ⌜ r ≡ (eqb first 0 || ltb (marketIn (now (case .entry)) .stage t) (marketIn (now (case .entry)) .stage first)) ⌝ }
+{
+    if first == 0 {
+        return true;
+    }
+    lookup::stage_of(case, t) < lookup::stage_of(case, first)
+}
+
+// The first student after `last`, or 0.
+pub fn next_student(case: &[u8], students: usize, last: usize) -> usize
+    requires { ⌜ (students ≤ 512) × (last ≤ students) ⌝ }
+    requires { ⌜ ((t : ℕ) → 1 ≤ t → t ≤ students → StudentAt (now case) t) ⌝ }
+    ensures { λ r. ⌜ r ≡ nextIn (marketIn (now (case .entry)) .stage) last students ⌝ }
+{
+    let mut first = 0;
+    let mut t = 1;
+    while t <= students {
+        if comes_after(case, last, t) & is_earlier(case, t, first) {
+            first = t;
+            t += 1;
+        } else {
+            t += 1;
+        }
+    }
+    first
+}
+
+// ---- the best of what is open
+
+// The score that student s gave workshop w; the outside option, 0, has the score 0.
+fn score_of(
+    case: &[u8],
+    book: &[u8],
+    index: &[u16],
+    students: usize,
+    workshops: usize,
+    s: usize,
+    w: usize,
+) -> i16
+    requires { ⌜ Clean (now case) (now book) (now index) students workshops ⌝ }
+    requires { ⌜ (0 < w → Booked (marketIn (now case)) (resultsIn (now book)) s w) ⌝ }
+    ensures { λ r. ⌜ biased r ≡ resultsIn (now (book .entry)) .studentScore s w ⌝ }
+{
+    if w == 0 {
+        return 0;
+    }
+    lookup::student_score_of(case, book, index, students, workshops, s, w)
+}
+
+// The best of `start` and the set: the lowest is compared and taken out until none is left.
+fn best_from(
+    case: &[u8],
+    book: &[u8],
+    index: &[u16],
+    students: usize,
+    workshops: usize,
+    s: usize,
+    start: usize,
+    set: u64,
+) -> usize
+    requires { ⌜ Clean (now case) (now book) (now index) students workshops ⌝ }
+    requires { ⌜ (0 < start → Booked (marketIn (now case)) (resultsIn (now book)) s start) ⌝ }
+    requires { ⌜ ((w : ℕ) → member set w ≡ true → Booked (marketIn (now case)) (resultsIn (now book)) s w) ⌝ }
+    ensures { λ r. ⌜ r ≡ favourite (marketIn (now (case .entry))) (resultsIn (now (book .entry))) s start (members set) ⌝ }
+{
+    let mut best = start;
+    let mut top = score_of(case, book, index, students, workshops, s, start);
+    let mut rest = set;
+    while bits::count(rest) > 0 {
+        let w = bits::lowest(rest);
+        let score = score_of(case, book, index, students, workshops, s, w);
+        rest = bits::without_bit(rest, w);
+        if records::above(score, top) {
+            best = w;
+            top = score;
+        }
+    }
+    best
+}
+
+// The best of the open set, and of the outside option if it is open; 0 also where nothing is open.
+pub fn favourite(
+    case: &[u8],
+    book: &[u8],
+    index: &[u16],
+    students: usize,
+    workshops: usize,
+    s: usize,
+    outside: bool,
+    set: u64,
+) -> usize
+    requires { ⌜ Clean (now case) (now book) (now index) students workshops ⌝ }
+    requires { ⌜ ((w : ℕ) → member set w ≡ true → Booked (marketIn (now case)) (resultsIn (now book)) s w) ⌝ }
+    ensures { λ r. ⌜ r ≡ favouriteIn (marketIn (now (case .entry))) (resultsIn (now (book .entry))) s outside set ⌝ }
+{
+    if outside {
+        return best_from(case, book, index, students, workshops, s, 0, set);
+    }
+    if bits::count(set) == 0 {
+        return 0;
+    }
+    let w = bits::lowest(set);
+    let rest = bits::without_bit(set, w);
+    best_from(case, book, index, students, workshops, s, w, rest)
+}
+
+// ---- a round of interviews
+
+// Somebody, l, has workshop w's last seat, and stands in a better tier there; 0 is nobody.
+fn is_full_above(case: &[u8], w: usize, l: usize, tier: u16) -> bool
+    requires { ⌜ (l < 65536) × (w < 65536) ⌝ }
+    requires { ⌜ PairsSorted (now case) ⌝ }
+    requires { ⌜ (0 < l → PairAt (now case) l w) ⌝ }
+    ensures { λ r. ⌜ r ≡ (ltb 0 l && ltb (marketIn (now (case .entry)) .workshopTier w l) tier) ⌝ }
+{
+    if l == 0 {
+        return false; // the last seat is free
+    }
+    lookup::workshop_tier(case, lookup::pair_of(case, l, w)) < tier
+}
+
+// Workshop w is not to be interviewed by a student whom it has in this tier: it has no seats, she is beyond its outside tier, or it is full of
+// students in better tiers.
+fn is_shut(case: &[u8], seats: &[u16], students: usize, w: usize, tier: u16) -> bool
+    requires { ⌜ PairsSorted (now case) ⌝ }
+    requires { ⌜ SeatsAt (now case) (now seats) students w ⌝ }
+    ensures { λ r. ⌜ ((B : Results) (s : ℕ) → tier ≡ marketIn (now (case .entry)) .workshopTier w s → r ≡ shutBy (marketIn (now (case .entry))) B (lastOf (marketIn (now (case .entry))) (now (seats .entry)) w) s w) ⌝ }
+{
+    if lookup::quota_of(case, students, w) == 0 {
+        return true;
+    }
+    if lookup::workshop_outside(case, students, w) < tier {
+        return true;
+    }
+    let l = seating::last_of(case, seats, students, w) as usize;
+    is_full_above(case, w, l, tier)
+}
+
+// Workshop w is of this tier for a student, and to be interviewed: `pair` is the number of their pair's record, or how many records there are.
+fn is_due(case: &[u8], seats: &[u16], students: usize, w: usize, tier: u16, pair: usize) -> bool
+    requires { ⌜ PairsSorted (now case) ⌝ }
+    requires { ⌜ SeatsAt (now case) (now seats) students w ⌝ }
+    ensures { λ r. ⌜ ((B : Results) (s : ℕ) → pair ≡ pairPlace (now (case .entry)) s w → (marketIn (now (case .entry)) .paired s w ≡ true → PairAt (now (case .entry)) s w) → r ≡ dueAt (marketIn (now (case .entry))) B (now (seats .entry)) s tier w) ⌝ }
+{
+    if records::row_count(case.len()) <= pair {
+        return false;
+    }
+    if lookup::student_tier(case, pair) == tier {
+        !is_shut(case, seats, students, w, lookup::workshop_tier(case, pair))
+    } else {
+        false
+    }
+}
+
+// "She is in that workshop's line group with a negative mark": workshop w does not take student s.
+fn is_declined(
+    case: &[u8],
+    book: &[u8],
+    index: &[u16],
+    students: usize,
+    workshops: usize,
+    s: usize,
+    w: usize,
+) -> bool
+    requires { ⌜ Clean (now case) (now book) (now index) students workshops ⌝ }
+    requires { ⌜ Booked (marketIn (now case)) (resultsIn (now book)) s w ⌝ }
+    ensures { λ r. ⌜ r ≡ declined (marketIn (now (case .entry))) (resultsIn (now (book .entry))) s w ⌝ }
+{
+    let a = lookup::standing_of(case, book, index, students, workshops, s, w);
+    (a.tier == lookup::workshop_outside(case, students, w)) & records::negative(a.score)
+}
+
+// The interview of student s with workshop w is listed after the first `count`.
+fn put_interview(visits: &mut [u16], count: usize, s: u16, w: u16)
+    requires { ⌜ 2 * count + 2 ≤ length (now visits) ⌝ }
+    ensures { λ _. ⌜ now (visits .exit) ≡ putAt (2 * count) (s ∷ w ∷ []) (now (visits .entry)) ⌝ }
+{
+    let at = 2 * count;
+    visits[at] = s;
+    visits[at + 1] = w;
+}
+
+// How many interviews have been held, the open set, and the workshop of a missing interview or 0.
+pub struct Round {
+    pub count: usize,
+    pub openings: u64,
+    pub missing: usize,
+}
+
+// The open set after the interview of student s with workshop w: the workshop is in it, unless it declines her.
+fn opened(
+    case: &[u8],
+    book: &[u8],
+    index: &[u16],
+    students: usize,
+    workshops: usize,
+    s: usize,
+    w: usize,
+    set: u64,
+) -> u64
+    requires { ⌜ Clean (now case) (now book) (now index) students workshops ⌝ }
+    requires { ⌜ Booked (marketIn (now case)) (resultsIn (now book)) s w ⌝ }
+    ensures { λ r. ⌜ r ≡ cond (declined (marketIn (now (case .entry))) (resultsIn (now (book .entry))) s w) set (withMember set w) ⌝ }
+{
+    if is_declined(case, book, index, students, workshops, s, w) {
+        return set;
+    }
+    bits::with_bit(set, w)
+}
+
+// Student s is interviewed by the workshops of her tier `tier`, in rising number, until an interview is missing. `held` interviews were held before.
+pub fn hold_round(
+    case: &[u8],
+    book: &[u8],
+    index: &[u16],
+    visits: &mut [u16],
+    seats: &[u16],
+    students: usize,
+    workshops: usize,
+    s: usize,
+    tier: u16,
+    set: u64,
+    held: usize,
+) -> Round
+    requires { ⌜ Clean (now case) (now book) (now index) students workshops ⌝ }
+    requires { ⌜ (1 ≤ s) × (s ≤ students) ⌝ }
+    requires { ⌜ ((w : ℕ) → 1 ≤ w → w ≤ workshops → SeatsAt (now case) (now seats) students w) ⌝ }
+    requires { ⌜ 2 * (held + count (dueAt (marketIn (now case)) (resultsIn (now book)) (now seats) s tier) workshops) ≤ length (now visits) ⌝ }
+    ensures { λ r. ⌜ r ≡ roundOf held (roundTo (marketIn (now (case .entry))) (resultsIn (now (book .entry))) (now (seats .entry)) s tier set workshops) ⌝ }
+    ensures { λ r. ⌜ now (visits .exit) ≡ putAt (2 * held) (flat (roundTo (marketIn (now (case .entry))) (resultsIn (now (book .entry))) (now (seats .entry)) s tier set workshops .interviews)) (now (visits .entry)) ⌝ }
+{
+    let mut count = held;
+    let mut openings = set;
+    let mut done = 0;
+    while done < workshops {
+        let w = done + 1;
+        let pair = lookup::pair_of(case, s, w);
+        if is_due(case, seats, students, w, tier, pair) {
+            if lookup::entry_of(index, students + workshops, pair) == 0 {
+                return Round {
+                    count,
+                    openings,
+                    missing: w,
+                };
+            }
+            put_interview(visits, count, s as u16, w as u16);
+            openings = opened(case, book, index, students, workshops, s, w, openings);
+            count += 1;
+            done = w;
+        } else {
+            done = w;
+        }
+    }
+    Round {
+        count,
+        openings,
+        missing: 0,
+    }
+}
+
+// ---- the turn
+
+// The run after the student in hand is done: the next in the order of stages is in hand.
+fn next_run(case: &[u8], students: usize, run: Run) -> Run
+    requires { ⌜ (students ≡ marketIn (now case) .students) × (students ≤ 512) × (run .last ≤ students) ⌝ }
+    requires { ⌜ ((t : ℕ) → 1 ≤ t → t ≤ students → StudentAt (now case) t) ⌝ }
+    ensures { λ r. ⌜ ((B : Results) → r ≡ nextRun (marketIn (now (case .entry))) B run) ⌝ }
+{
+    let hand = next_student(case, students, run.last);
+    Run {
+        hand,
+        last: hand,
+        lost: 0,
+        count: run.count,
+        student: 0,
+        workshop: 0,
+    }
+}
+
+// The beginning of a run: the first student of the first stage is in hand.
+pub fn begin_run(case: &[u8], students: usize) -> Run
+    requires { ⌜ (students ≡ marketIn (now case) .students) × (students ≤ 512) ⌝ }
+    requires { ⌜ ((t : ℕ) → 1 ≤ t → t ≤ students → StudentAt (now case) t) ⌝ }
+    ensures { λ r. ⌜ ((B : Results) → r ≡ beginRun (marketIn (now (case .entry))) B) ⌝ }
+{
+    let hand = next_student(case, students, 0);
+    Run {
+        hand,
+        last: hand,
+        lost: 0,
+        count: 0,
+        student: 0,
+        workshop: 0,
+    }
+}
+
+// The run after a round of the student in hand.
+fn after_round(run: Run, round: Round) -> Run
+    ensures { λ r. ⌜ ((M : Market) (B : Results) (o : RoundSoFar) → round ≡ roundOf (run .count) o → r ≡ afterRound M B run o) ⌝ }
+{
+    if round.missing == 0 {
+        return Run {
+            hand: run.hand,
+            last: run.last,
+            lost: 0,
+            count: round.count,
+            student: 0,
+            workshop: 0,
+        };
+    }
+    Run {
+        hand: 0,
+        last: run.last,
+        lost: 0,
+        count: round.count,
+        student: run.hand,
+        workshop: round.missing,
+    }
+}
+
+// The student in hand goes to her next tier, and is interviewed there.
+fn open_tier(
+    case: &[u8],
+    book: &[u8],
+    index: &[u16],
+    visits: &mut [u16],
+    seats: &[u16],
+    state: StudentState,
+    run: Run,
+    students: usize,
+    workshops: usize,
+) -> Turned
+    requires { ⌜ Clean (now case) (now book) (now index) students workshops ⌝ }
+    requires { ⌜ (1 ≤ run .hand) × (run .hand ≤ students) × (state .reached < 65535) ⌝ }
+    requires { ⌜ ((w : ℕ) → 1 ≤ w → w ≤ workshops → SeatsAt (now case) (now seats) students w) ⌝ }
+    requires { ⌜ 2 * (run .count + count (dueAt (marketIn (now case)) (resultsIn (now book)) (now seats) (run .hand) (suc (state .reached))) workshops) ≤ length (now visits) ⌝ }
+    ensures { λ r. ⌜ r ≡ openTier (marketIn (now (case .entry))) (resultsIn (now (book .entry))) (now (visits .entry)) (now (seats .entry)) state run .turned ⌝ }
+    ensures { λ r. ⌜ now (visits .exit) ≡ openTier (marketIn (now (case .entry))) (resultsIn (now (book .entry))) (now (visits .entry)) (now (seats .entry)) state run .visits ⌝ }
+{
+    let tier = state.reached + 1;
+    let set = state.openings;
+    let round = hold_round(
+        case,
+        book,
+        index,
+        visits,
+        seats,
+        students,
+        workshops,
+        run.hand,
+        tier,
+        set,
+        run.count,
+    );
+    let next = after_round(run, round);
+    let after = StudentState {
+        reached: tier,
+        held: state.held,
+        openings: round.openings,
+    };
+    Turned {
+        state: after,
+        run: next,
+    }
+}
+
+// The run after workshop c has taken the student in hand and has dropped x; 0: nobody.
+fn after_seating(case: &[u8], students: usize, run: Run, c: usize, x: usize) -> Run
+    requires { ⌜ (students ≡ marketIn (now case) .students) × (students ≤ 512) × (run .last ≤ students) ⌝ }
+    requires { ⌜ ((t : ℕ) → 1 ≤ t → t ≤ students → StudentAt (now case) t) ⌝ }
+    ensures { λ r. ⌜ ((B : Results) → r ≡ afterSeating (marketIn (now (case .entry))) B run c x) ⌝ }
+{
+    if x == 0 {
+        return next_run(case, students, run);
+    }
+    Run {
+        hand: x,
+        last: run.last,
+        lost: c,
+        count: run.count,
+        student: 0,
+        workshop: 0,
+    }
+}
+
+// The student in hand applies to workshop c, or is done without a place where c is 0.
+fn apply_to(
+    case: &[u8],
+    book: &[u8],
+    index: &[u16],
+    seats: &mut [u16],
+    state: StudentState,
+    run: Run,
+    students: usize,
+    workshops: usize,
+    c: usize,
+) -> Turned
+    requires { ⌜ Clean (now case) (now book) (now index) students workshops ⌝ }
+    requires { ⌜ (run .last ≤ students) ⌝ }
+    requires { ⌜ (0 < c → Booked (marketIn (now case)) (resultsIn (now book)) (run .hand) c) ⌝ }
+    requires { ⌜ SeatedAll (marketIn (now case)) (resultsIn (now book)) (now seats) ⌝ }
+    ensures { λ r. ⌜ ((visits : List ℕ) → r ≡ applyTo (marketIn (now (case .entry))) (resultsIn (now (book .entry))) visits (now (seats .entry)) state run c .turned) ⌝ }
+    ensures { λ r. ⌜ ((visits : List ℕ) → now (seats .exit) ≡ applyTo (marketIn (now (case .entry))) (resultsIn (now (book .entry))) visits (now (seats .entry)) state run c .seats) ⌝ }
+{
+    if c == 0 {
+        let next = next_run(case, students, run);
+        return Turned { state, run: next };
+    }
+    let hand = run.hand as u16;
+    let x = seating::seat_at(seats, case, book, index, students, workshops, c, hand) as usize;
+    let next = after_seating(case, students, run, c, x);
+    let after = StudentState {
+        reached: state.reached,
+        held: c as u16,
+        openings: state.openings,
+    };
+    Turned {
+        state: after,
+        run: next,
+    }
+}
+
+// One turn of the student in hand, whose state is `state`.
+pub fn turn(
+    case: &[u8],
+    book: &[u8],
+    index: &[u16],
+    visits: &mut [u16],
+    seats: &mut [u16],
+    state: StudentState,
+    run: Run,
+    students: usize,
+    workshops: usize,
+) -> Turned
+    requires { ⌜ Clean (now case) (now book) (now index) students workshops ⌝ }
+    requires { ⌜ Ready (marketIn (now case)) (resultsIn (now book)) (now visits) (now seats) state run ⌝ }
+    ensures { λ r. ⌜ r ≡ turnOf (marketIn (now (case .entry))) (resultsIn (now (book .entry))) (now (visits .entry)) (now (seats .entry)) state run .turned ⌝ }
+    ensures { λ r. ⌜ now (visits .exit) ≡ turnOf (marketIn (now (case .entry))) (resultsIn (now (book .entry))) (now (visits .entry)) (now (seats .entry)) state run .visits ⌝ }
+    ensures { λ r. ⌜ now (seats .exit) ≡ turnOf (marketIn (now (case .entry))) (resultsIn (now (book .entry))) (now (visits .entry)) (now (seats .entry)) state run .seats ⌝ }
+{
+    let hand = run.hand;
+    let told = told_state(run.lost, state);
+    let set = told.openings;
+    let outside = lookup::student_outside(case, hand) == told.reached;
+    if (bits::count(set) == 0) & !outside {
+        return open_tier(
+            case,
+            book,
+            index,
+            visits,
+            &seats[..],
+            told,
+            run,
+            students,
+            workshops,
+        );
+    }
+    let c = favourite(case, book, index, students, workshops, hand, outside, set);
+    apply_to(case, book, index, seats, told, run, students, workshops, c)
+}

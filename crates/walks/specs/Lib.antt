@@ -1,0 +1,6 @@
+pub mod Slices
+pub mod Row
+pub mod Calls
+pub mod Clauses
+pub mod Again
+pub mod Local

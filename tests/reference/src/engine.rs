@@ -1,0 +1,82 @@
+//! The real engine, through its C interface. Nothing else here knows that interface.
+
+use crate::lending::{Loan, StudentState};
+use crate::model::Outcome;
+
+/// The answer as the engine gives it: a kind, and the values of that kind.
+#[repr(C)]
+struct Report {
+    kind: u64,
+    first: u64,
+    second: u64,
+    visits: u64,
+}
+
+const PLACED: u64 = 0;
+const NEXT: u64 = 1;
+const REFUSED: u64 = 2;
+
+extern "C" {
+    fn lgs_place(
+        case: *const u8,
+        case_len: usize,
+        book: *const u8,
+        book_len: usize,
+        places: *mut u16,
+        places_len: usize,
+        visits: *mut u16,
+        visits_len: usize,
+        seats: *mut u16,
+        seats_len: usize,
+        index: *mut u16,
+        index_len: usize,
+        states: *mut StudentState,
+        states_len: usize,
+    ) -> Report;
+}
+
+/// Runs the engine once on the lent buffers.
+pub fn call(case: &[u8], book: &[u8], loan: &Loan) -> Outcome {
+    // SAFETY: every pointer comes with the length of the memory it points to.
+    let report = unsafe {
+        lgs_place(
+            case.as_ptr(),
+            case.len(),
+            book.as_ptr(),
+            book.len(),
+            loan.places,
+            loan.lent.places,
+            loan.visits,
+            loan.lent.visits,
+            loan.seats,
+            loan.lent.seats,
+            loan.index,
+            loan.lent.index,
+            loan.cards,
+            loan.lent.cards,
+        )
+    };
+    decode(report)
+}
+
+/// An unknown kind becomes a refusal that no input has.
+fn decode(report: Report) -> Outcome {
+    match report.kind {
+        PLACED => Outcome::Placed {
+            visits: report.visits as usize,
+        },
+        NEXT => Outcome::Next {
+            student: report.first as u16,
+            workshop: report.second as u16,
+            visits: report.visits as usize,
+        },
+        REFUSED => Outcome::Refused {
+            number: report.first as u16,
+            place: report.second as usize,
+        },
+        other => Outcome::Refused {
+            number: u16::MAX,
+            place: other as usize,
+        },
+    }
+}

@@ -1,0 +1,717 @@
+//! Deterministic generation of cases, books and damaged input.
+
+use crate::model::*;
+use std::collections::HashSet;
+
+/// SplitMix64.
+pub struct Rng(u64);
+
+impl Rng {
+    pub fn new(seed: u64) -> Rng {
+        Rng(seed)
+    }
+
+    pub fn word(&mut self) -> u64 {
+        self.0 = self.0.wrapping_add(0x9e37_79b9_7f4a_7c15);
+        let mut z = self.0;
+        z = (z ^ (z >> 30)).wrapping_mul(0xbf58_476d_1ce4_e5b9);
+        z = (z ^ (z >> 27)).wrapping_mul(0x94d0_49bb_1331_11eb);
+        z ^ (z >> 31)
+    }
+
+    /// A number below `end`, which is not 0.
+    pub fn below(&mut self, end: usize) -> usize {
+        (self.word() % end as u64) as usize
+    }
+
+    /// A number from `low` to `high`, both included.
+    pub fn range(&mut self, low: usize, high: usize) -> usize {
+        low + self.below(high - low + 1)
+    }
+
+    pub fn chance(&mut self, percent: usize) -> bool {
+        self.below(100) < percent
+    }
+
+    pub fn pick<T: Copy>(&mut self, choices: &[T]) -> T {
+        choices[self.below(choices.len())]
+    }
+
+    pub fn shuffle<T>(&mut self, items: &mut [T]) {
+        for end in (1..items.len()).rev() {
+            items.swap(end, self.below(end + 1));
+        }
+    }
+}
+
+/// What a random case looks like.
+#[derive(Clone, Copy, Debug)]
+pub struct Shape {
+    pub students: usize,
+    pub workshops: usize,
+    /// How many different groups a student may use.
+    pub student_groups: usize,
+    /// How many different groups a workshop may use.
+    pub workshop_groups: usize,
+    /// How many of the possible pairs there are, in percent.
+    pub pairs: usize,
+    /// Quotas above 0 go up to this.
+    pub quota: usize,
+    /// How many workshops have quota 0, in percent.
+    pub closed: usize,
+    /// Whether the stages agree with the workshops' groups.
+    pub agreeing: bool,
+    /// Marks go from minus this to this.
+    pub reach: i16,
+    /// How many people have their line at or after their last group, in percent.
+    pub late_lines: usize,
+    /// How many books are full, in percent.
+    pub full_books: usize,
+}
+
+impl Shape {
+    /// 1 to 8 students and 1 to 6 workshops.
+    pub fn small(rng: &mut Rng) -> Shape {
+        Shape {
+            students: rng.range(1, 8),
+            workshops: rng.range(1, 6),
+            student_groups: rng.range(1, 4),
+            workshop_groups: rng.range(1, 4),
+            pairs: rng.pick(&[0, 30, 70, 100, 100]),
+            quota: rng.pick(&[1, 1, 2, 3, 512]),
+            closed: rng.pick(&[0, 0, 20]),
+            agreeing: rng.chance(50),
+            reach: rng.pick(&[9, 9, 1000]),
+            late_lines: rng.pick(&[0, 40, 100]),
+            full_books: 50,
+        }
+    }
+
+    /// At most 3 students and 3 workshops.
+    pub fn tiny(rng: &mut Rng) -> Shape {
+        Shape {
+            students: rng.pick(&[1, 2, 2, 3, 3, 3]),
+            workshops: rng.pick(&[1, 2, 2, 3]),
+            student_groups: rng.range(1, 3),
+            workshop_groups: rng.range(1, 3),
+            pairs: rng.pick(&[60, 100, 100]),
+            quota: rng.pick(&[1, 1, 2]),
+            closed: rng.pick(&[0, 0, 20]),
+            agreeing: rng.chance(50),
+            reach: 9,
+            late_lines: rng.pick(&[0, 40, 100]),
+            full_books: 70,
+        }
+    }
+
+    /// Up to 512 students and 64 workshops.
+    pub fn large(rng: &mut Rng) -> Shape {
+        let students = rng.pick(&[97, 200, 511, 512, 512]);
+        let workshops = rng.pick(&[7, 20, 63, 64, 64]);
+        Shape {
+            students,
+            workshops,
+            student_groups: rng.pick(&[1, 4, 16, 65]),
+            workshop_groups: rng.pick(&[1, 8, 60, 513]),
+            pairs: rng.pick(&[3, 20, 100, 100]),
+            quota: rng.pick(&[1, students / workshops + 1, 2 * students / workshops, 512]),
+            closed: rng.pick(&[0, 0, 10]),
+            agreeing: rng.chance(60),
+            reach: 1000,
+            late_lines: rng.pick(&[20, 80, 100]),
+            full_books: 80,
+        }
+    }
+
+    /// 10 to 60 students and 4 to 20 workshops.
+    pub fn middle(rng: &mut Rng) -> Shape {
+        Shape {
+            students: rng.range(10, 60),
+            workshops: rng.range(4, 20),
+            quota: rng.range(1, 8),
+            reach: 200,
+            ..Shape::small(rng)
+        }
+    }
+}
+
+/// `count` group numbers out of 1 to `top`, rising, with gaps; often with both ends.
+fn group_numbers(rng: &mut Rng, count: usize, top: usize) -> Vec<u16> {
+    let mut numbers: Vec<u16> = (1..=top as u16).collect();
+    rng.shuffle(&mut numbers);
+    numbers.truncate(count.min(top));
+    if rng.chance(30) {
+        numbers[0] = 1;
+    }
+    if rng.chance(30) {
+        *numbers.last_mut().expect("at least one") = top as u16;
+    }
+    numbers.sort_unstable();
+    numbers.dedup();
+    numbers
+}
+
+/// A line in one of the groups, or anywhere.
+fn line(rng: &mut Rng, groups: &[u16], top: usize, late_lines: usize) -> u16 {
+    let last = *groups.last().expect("at least one");
+    if rng.chance(late_lines) {
+        rng.range(usize::from(last), top) as u16
+    } else if rng.chance(25) {
+        rng.range(1, top) as u16
+    } else {
+        rng.pick(groups)
+    }
+}
+
+pub fn case(rng: &mut Rng, shape: &Shape) -> Case {
+    let stages = group_numbers(rng, shape.workshop_groups, usize::from(MAX_STAGE));
+    let mut case = Case::default();
+    let student_groups = add_students(rng, shape, &stages, &mut case);
+    let workshop_groups = add_workshops(rng, shape, stages.len(), &mut case);
+    for (s, her_groups) in student_groups.iter().enumerate() {
+        for (w, its_groups) in workshop_groups.iter().enumerate() {
+            if !rng.chance(shape.pairs) {
+                continue;
+            }
+            let workshop_group = if shape.agreeing {
+                agreeing_group(rng, &case, &stages, its_groups, (s, w))
+            } else {
+                rng.pick(its_groups)
+            };
+            case.pairs.push(Pair {
+                student: s as u16 + 1,
+                workshop: w as u16 + 1,
+                student_group: rng.pick(her_groups),
+                workshop_group,
+            });
+        }
+    }
+    case
+}
+
+/// Gives the groups each student uses.
+fn add_students(rng: &mut Rng, shape: &Shape, stages: &[u16], case: &mut Case) -> Vec<Vec<u16>> {
+    let top = usize::from(MAX_STUDENT_GROUP);
+    let mut all = Vec::new();
+    for _ in 0..shape.students {
+        let groups = group_numbers(rng, shape.student_groups, top);
+        case.students.push(Student {
+            stage: rng.pick(stages),
+            line: line(rng, &groups, top, shape.late_lines),
+        });
+        all.push(groups);
+    }
+    all
+}
+
+/// Gives the groups each workshop uses, as many as there are stages.
+fn add_workshops(rng: &mut Rng, shape: &Shape, stages: usize, case: &mut Case) -> Vec<Vec<u16>> {
+    let top = usize::from(MAX_WORKSHOP_GROUP);
+    let mut all = Vec::new();
+    for _ in 0..shape.workshops {
+        let groups = distinct_groups(rng, stages, top);
+        case.workshops.push(Workshop {
+            quota: quota(rng, shape),
+            line: line(rng, &groups, top, shape.late_lines),
+        });
+        all.push(groups);
+    }
+    all
+}
+
+/// Exactly `count` rising group numbers.
+fn distinct_groups(rng: &mut Rng, count: usize, top: usize) -> Vec<u16> {
+    let mut numbers: Vec<u16> = (1..=top as u16).collect();
+    rng.shuffle(&mut numbers);
+    numbers.truncate(count);
+    numbers.sort_unstable();
+    numbers
+}
+
+/// The group that stands for the student's stage; beyond the line, or with quota 0, any.
+fn agreeing_group(
+    rng: &mut Rng,
+    case: &Case,
+    stages: &[u16],
+    groups: &[u16],
+    (s, w): (usize, usize),
+) -> u16 {
+    let workshop = case.workshops[w];
+    let stage = case.students[s].stage;
+    let turn = stages.iter().position(|&other| other == stage);
+    let group = groups[turn.expect("stages are drawn from the list")];
+    let top = usize::from(MAX_WORKSHOP_GROUP);
+    if workshop.quota == 0 {
+        rng.range(1, top) as u16
+    } else if group > workshop.line {
+        rng.range(usize::from(workshop.line) + 1, top) as u16
+    } else {
+        group
+    }
+}
+
+fn quota(rng: &mut Rng, shape: &Shape) -> u16 {
+    if rng.chance(shape.closed) {
+        0
+    } else if rng.chance(50) {
+        shape.quota as u16
+    } else {
+        rng.range(1, shape.quota) as u16
+    }
+}
+
+/// A result for every pair, in the order of the pairs.
+pub fn full_book(rng: &mut Rng, case: &Case, reach: i16) -> Vec<Record> {
+    let mut given = HashSet::new();
+    let mut fresh_mark = |rng: &mut Rng, side: u8, person: u16, group: u16| loop {
+        let size = rng.range(1, reach as usize) as i16;
+        let mark = if rng.chance(50) { size } else { -size };
+        if given.insert((side, person, group, mark)) {
+            return mark;
+        }
+    };
+    case.pairs
+        .iter()
+        .map(|pair| Record {
+            student: pair.student,
+            workshop: pair.workshop,
+            student_mark: fresh_mark(rng, 0, pair.student, pair.student_group),
+            workshop_mark: fresh_mark(rng, 1, pair.workshop, pair.workshop_group),
+        })
+        .collect()
+}
+
+/// A book in any order, full, partial or empty.
+pub fn some_book(rng: &mut Rng, case: &Case, shape: &Shape) -> Vec<Record> {
+    let mut book = full_book(rng, case, shape.reach);
+    if !rng.chance(shape.full_books) {
+        let kept = rng.pick(&[95, 80, 50, 0]);
+        book.retain(|_| rng.chance(kept));
+    }
+    rng.shuffle(&mut book);
+    book
+}
+
+/// A case and a book of this shape, with buffers that just suffice.
+pub fn input(rng: &mut Rng, shape: &Shape) -> Input {
+    let case = case(rng, shape);
+    let book = some_book(rng, &case, shape);
+    case.input(&book)
+}
+
+pub fn small_input(rng: &mut Rng) -> Input {
+    let shape = Shape::small(rng);
+    input(rng, &shape)
+}
+
+/// The case of source document 000's experiment: all pairs, everybody acceptable, each
+/// student with `d` groups, all workshops with the same `e` groups, seats for all.
+pub fn experiment(rng: &mut Rng, students: usize, workshops: usize, d: usize, e: usize) -> Case {
+    let mut classes: Vec<u16> = (0..students)
+        .map(|s| (s * e / students) as u16 + 1)
+        .collect();
+    rng.shuffle(&mut classes);
+    let quota = students.div_ceil(workshops) as u16;
+    let mut case = Case {
+        students: Vec::new(),
+        workshops: vec![
+            Workshop {
+                quota,
+                line: e as u16 + 1,
+            };
+            workshops
+        ],
+        pairs: Vec::new(),
+    };
+    for (s, class) in classes.into_iter().enumerate() {
+        case.students.push(Student {
+            stage: class,
+            line: d as u16 + 1,
+        });
+        for w in 0..workshops {
+            case.pairs.push(Pair {
+                student: s as u16 + 1,
+                workshop: w as u16 + 1,
+                student_group: rng.range(1, d) as u16,
+                workshop_group: class,
+            });
+        }
+    }
+    case
+}
+
+// ---- Damage ----
+
+/// One kind of damage; it may leave the input as it was.
+pub type Damage = fn(&mut Rng, &mut Input);
+
+pub const DAMAGES: [Damage; 19] = [
+    case_length,
+    case_byte,
+    case_byte,
+    case_field,
+    case_field,
+    case_swap,
+    case_repeat,
+    case_remove,
+    crowd,
+    nobody,
+    shorter_buffer,
+    longer_buffers,
+    book_length,
+    book_byte,
+    book_stranger,
+    book_mark,
+    book_repeat,
+    book_equal_mark,
+    book_swap,
+];
+
+/// A small input with one to three damages.
+pub fn damaged_input(rng: &mut Rng) -> Input {
+    let mut input = small_input(rng);
+    for _ in 0..rng.range(1, 3) {
+        let damage = rng.pick(&DAMAGES);
+        damage(rng, &mut input);
+    }
+    input
+}
+
+/// Where a random record starts, if there is a whole one.
+fn record_start(rng: &mut Rng, bytes: &[u8], size: usize) -> Option<usize> {
+    let records = bytes.len() / size;
+    (records > 0).then(|| rng.below(records) * size)
+}
+
+fn set_field(bytes: &mut [u8], at: usize, value: u16) {
+    bytes[at..at + 2].copy_from_slice(&value.to_le_bytes());
+}
+
+fn get_field(bytes: &[u8], at: usize) -> u16 {
+    u16::from_le_bytes([bytes[at], bytes[at + 1]])
+}
+
+fn change_length(rng: &mut Rng, bytes: &mut Vec<u8>, size: usize) {
+    let change = rng.range(1, size - 1);
+    if rng.chance(50) && bytes.len() >= change {
+        bytes.truncate(bytes.len() - change);
+    } else {
+        bytes.resize(bytes.len() + change, 0);
+    }
+}
+
+fn change_byte(rng: &mut Rng, bytes: &mut [u8], size: usize) {
+    if let Some(start) = record_start(rng, bytes, size) {
+        let byte = &mut bytes[start + rng.below(size)];
+        *byte = match rng.below(3) {
+            0 => *byte ^ (1 << rng.below(8)),
+            1 => rng.pick(&[0, 1, 2, 3, 4, 255]),
+            _ => rng.word() as u8,
+        };
+    }
+}
+
+fn swap_records(rng: &mut Rng, bytes: &mut [u8], size: usize) {
+    if let Some(first) = record_start(rng, bytes, size) {
+        let records = bytes.len() / size;
+        let second = if rng.chance(50) {
+            (first + size) % (records * size)
+        } else {
+            rng.below(records) * size
+        };
+        for offset in 0..size {
+            bytes.swap(first + offset, second + offset);
+        }
+    }
+}
+
+/// Copies a record to just behind itself or to the end.
+fn repeat_record(rng: &mut Rng, bytes: &mut Vec<u8>, size: usize) {
+    if let Some(start) = record_start(rng, bytes, size) {
+        let record = bytes[start..start + size].to_vec();
+        let whole = bytes.len() / size * size;
+        let at = rng.pick(&[start + size, whole]);
+        bytes.splice(at..at, record);
+    }
+}
+
+fn case_length(rng: &mut Rng, input: &mut Input) {
+    change_length(rng, &mut input.case, CASE_RECORD);
+}
+
+fn case_byte(rng: &mut Rng, input: &mut Input) {
+    change_byte(rng, &mut input.case, CASE_RECORD);
+}
+
+/// Puts a number at the edge of some range into one of the fields.
+fn case_field(rng: &mut Rng, input: &mut Input) {
+    const EDGES: [u16; 14] = [
+        0, 1, 2, 63, 64, 65, 66, 67, 511, 512, 513, 514, 32768, 65535,
+    ];
+    if let Some(start) = record_start(rng, &input.case, CASE_RECORD) {
+        let fields = if input.case[start] == 3 { 4 } else { 3 };
+        let at = start + 2 * rng.range(1, fields);
+        set_field(&mut input.case, at, rng.pick(&EDGES));
+    }
+}
+
+fn case_swap(rng: &mut Rng, input: &mut Input) {
+    swap_records(rng, &mut input.case, CASE_RECORD);
+}
+
+fn case_repeat(rng: &mut Rng, input: &mut Input) {
+    repeat_record(rng, &mut input.case, CASE_RECORD);
+}
+
+fn case_remove(rng: &mut Rng, input: &mut Input) {
+    if let Some(start) = record_start(rng, &input.case, CASE_RECORD) {
+        input.case.drain(start..start + CASE_RECORD);
+    }
+}
+
+/// Brings the students to about 512, or the workshops to about 64.
+fn crowd(rng: &mut Rng, input: &mut Input) {
+    let of_kind = |kind: u8| {
+        let records = input.case.chunks_exact(CASE_RECORD);
+        records.filter(|record| record[0] == kind).count()
+    };
+    let (kind, present, behind, wanted) = if rng.chance(30) {
+        (1, of_kind(1), of_kind(1), rng.range(512, 513))
+    } else {
+        (2, of_kind(2), of_kind(1) + of_kind(2), rng.range(64, 65))
+    };
+    let mut added = Vec::new();
+    for number in present + 1..=wanted {
+        push_case_record(&mut added, kind, &[number as u16, 1, 1]);
+    }
+    let at = behind * CASE_RECORD;
+    input.case.splice(at..at, added);
+    if rng.chance(80) {
+        input.lent = Lengths::ample();
+    }
+}
+
+/// Takes away every record of one or two kinds.
+fn nobody(rng: &mut Rng, input: &mut Input) {
+    let gone = rng.pick(&[[1, 1], [2, 2], [2, 3], [1, 3], [1, 2]]);
+    let records = input.case.chunks(CASE_RECORD);
+    input.case = records
+        .filter(|record| !gone.contains(&record[0]))
+        .flatten()
+        .copied()
+        .collect();
+}
+
+fn lengths_of(lent: &mut Lengths) -> [&mut usize; 5] {
+    [
+        &mut lent.places,
+        &mut lent.visits,
+        &mut lent.seats,
+        &mut lent.index,
+        &mut lent.cards,
+    ]
+}
+
+/// Takes some entries off one buffer, mostly just one.
+pub fn shorter_buffer(rng: &mut Rng, input: &mut Input) {
+    let which = rng.below(5);
+    let length = &mut lengths_of(&mut input.lent)[which];
+    let less = rng.pick(&[1, 1, 1, 2, usize::MAX]);
+    **length = length.saturating_sub(less);
+}
+
+pub fn longer_buffers(rng: &mut Rng, input: &mut Input) {
+    for length in lengths_of(&mut input.lent) {
+        *length += rng.below(4);
+    }
+}
+
+fn book_length(rng: &mut Rng, input: &mut Input) {
+    change_length(rng, &mut input.book, BOOK_RECORD);
+}
+
+fn book_byte(rng: &mut Rng, input: &mut Input) {
+    change_byte(rng, &mut input.book, BOOK_RECORD);
+}
+
+/// Makes a record name somebody else, or nobody.
+fn book_stranger(rng: &mut Rng, input: &mut Input) {
+    if let Some(start) = record_start(rng, &input.book, BOOK_RECORD) {
+        let at = start + rng.pick(&[0, 2]);
+        let number = rng.pick(&[0, 1, 2, 3, 5, 6, 7, 8, 9, 64, 65, 512, 513, 65535]);
+        set_field(&mut input.book, at, number);
+    }
+}
+
+/// Puts a mark at the edge of the range into a record.
+fn book_mark(rng: &mut Rng, input: &mut Input) {
+    const EDGES: [i16; 12] = [
+        0, 0, 1, -1, 999, 1000, -1000, 1001, -1001, 1002, 32767, -32768,
+    ];
+    if let Some(start) = record_start(rng, &input.book, BOOK_RECORD) {
+        let at = start + rng.pick(&[4, 6]);
+        set_field(&mut input.book, at, rng.pick(&EDGES) as u16);
+    }
+}
+
+fn book_repeat(rng: &mut Rng, input: &mut Input) {
+    repeat_record(rng, &mut input.book, BOOK_RECORD);
+}
+
+/// Gives a record the mark of another record of the same person, if one is found.
+fn book_equal_mark(rng: &mut Rng, input: &mut Input) {
+    let book = &mut input.book;
+    for _ in 0..20 {
+        let (Some(from), Some(to)) = (
+            record_start(rng, book, BOOK_RECORD),
+            record_start(rng, book, BOOK_RECORD),
+        ) else {
+            return;
+        };
+        let side = rng.pick(&[0, 2]);
+        if from != to && get_field(book, from + side) == get_field(book, to + side) {
+            let mark = get_field(book, from + side + 4);
+            set_field(book, to + side + 4, mark);
+            return;
+        }
+    }
+}
+
+fn book_swap(rng: &mut Rng, input: &mut Input) {
+    swap_records(rng, &mut input.book, BOOK_RECORD);
+}
+
+/// The input cut to every shorter length, and with every byte of every record changed.
+pub fn sweep(input: &Input) -> Vec<Input> {
+    let mut inputs = Vec::new();
+    let cut = |length: usize, part: fn(&mut Input) -> &mut Vec<u8>| {
+        let mut shorter = input.clone();
+        part(&mut shorter).truncate(length);
+        shorter
+    };
+    inputs.extend((0..input.case.len()).map(|length| cut(length, case_part)));
+    inputs.extend((0..input.book.len()).map(|length| cut(length, book_part)));
+    for at in 0..input.case.len() {
+        change_every_way(&mut inputs, input, at, case_part);
+    }
+    for at in 0..input.book.len() {
+        change_every_way(&mut inputs, input, at, book_part);
+    }
+    inputs
+}
+
+fn case_part(input: &mut Input) -> &mut Vec<u8> {
+    &mut input.case
+}
+
+fn book_part(input: &mut Input) -> &mut Vec<u8> {
+    &mut input.book
+}
+
+/// Flips each bit of one byte, and sets it to 0, to 255, one up and one down.
+fn change_every_way(
+    inputs: &mut Vec<Input>,
+    input: &Input,
+    at: usize,
+    part: fn(&mut Input) -> &mut Vec<u8>,
+) {
+    let mut original = input.clone();
+    let byte = part(&mut original)[at];
+    let flips = (0..8).map(|bit| byte ^ (1 << bit));
+    let others = [0, 255, byte.wrapping_add(1), byte.wrapping_sub(1)];
+    for value in flips.chain(others).filter(|&value| value != byte) {
+        let mut changed = input.clone();
+        part(&mut changed)[at] = value;
+        inputs.push(changed);
+    }
+}
+
+/// Every buffer in turn one entry short, empty, and longer.
+pub fn buffer_sweep(input: &Input) -> Vec<Input> {
+    let mut inputs = Vec::new();
+    for which in 0..5 {
+        let mut with = |change: fn(usize) -> usize| {
+            let mut changed = input.clone();
+            let length = &mut lengths_of(&mut changed.lent)[which];
+            **length = change(**length);
+            inputs.push(changed);
+        };
+        with(|length| length.saturating_sub(1));
+        with(|_| 0);
+        with(|length| length + 1);
+        with(|length| length + 37);
+    }
+    inputs
+}
+
+/// Input whose counts do not fit into 16 bits, and the largest good case.
+pub fn oversized_inputs(rng: &mut Rng) -> Vec<Input> {
+    let mut inputs = vec![
+        many_students(65_535),
+        many_students(65_536),
+        many_students(65_537),
+    ];
+    let pairs = crowded_pairs(1000, 70);
+    let mut late_fault = pairs.clone();
+    let last = late_fault.case.len() - CASE_RECORD;
+    late_fault.case[last + 15] = 1;
+    let mut late_order = pairs.clone();
+    set_field(&mut late_order.case, last + 2, 1);
+    inputs.extend([pairs, late_fault, late_order]);
+
+    let largest = crowded_pairs(512, 64);
+    inputs.extend(buffer_sweep(&largest));
+    let mut long_book = largest;
+    for _ in 0..70_000 {
+        let record = [1u16, 1, 5, 5].map(u16::to_le_bytes);
+        long_book.book.extend(record.as_flattened());
+    }
+    inputs.push(long_book.clone());
+    let last = long_book.book.len() - BOOK_RECORD;
+    for (offset, value) in [(0, 513), (2, 65), (4, 0), (6, 1001)] {
+        let mut late = long_book.clone();
+        set_field(&mut late.book, last + offset, value);
+        inputs.push(late);
+    }
+    rng.shuffle(&mut inputs);
+    inputs
+}
+
+fn many_students(students: usize) -> Input {
+    let mut case = Vec::new();
+    for number in 1..=students {
+        push_case_record(&mut case, 1, &[number as u16, 1, 1]);
+    }
+    push_case_record(&mut case, 2, &[1, 1, 1]);
+    Input {
+        case,
+        book: Vec::new(),
+        lent: Lengths::ample(),
+    }
+}
+
+/// All pairs, every quota at 512, an empty book.
+fn crowded_pairs(students: usize, workshops: usize) -> Input {
+    let mut case = Case {
+        students: vec![Student { stage: 1, line: 2 }; students],
+        workshops: vec![
+            Workshop {
+                quota: 512,
+                line: 2
+            };
+            workshops
+        ],
+        pairs: Vec::new(),
+    };
+    for s in 1..=students as u16 {
+        for w in 1..=workshops as u16 {
+            case.pairs.push(Pair {
+                student: s,
+                workshop: w,
+                student_group: 1,
+                workshop_group: 1,
+            });
+        }
+    }
+    case.input(&[])
+}

@@ -1,0 +1,15 @@
+//! Reference for the placing engine, written from the papers alone.
+
+pub mod brute;
+pub mod fast;
+pub mod gen;
+pub mod lending;
+pub mod literal;
+pub mod model;
+pub mod mutants;
+pub mod program;
+pub mod proved;
+pub mod tally;
+
+#[cfg(feature = "engine")]
+pub mod engine;

@@ -1,0 +1,489 @@
+//! Runs all groups of tests. The last line is `N passed, M failed`.
+//!
+//! `--quick` runs fewer cases; `--seed N` chooses other random ones.
+
+use reference::brute::{Effort, World};
+use reference::fast::Fast;
+use reference::gen::{self, Rng, Shape};
+use reference::lending::{self, Call, Loan};
+use reference::model::*;
+use reference::mutants::{self, Mutant};
+use reference::tally::Tally;
+use reference::{literal, program, proved};
+use std::path::Path;
+use std::process::ExitCode;
+
+struct Options {
+    quick: bool,
+    seed: u64,
+}
+
+impl Options {
+    fn parse() -> Result<Options, String> {
+        let mut options = Options {
+            quick: false,
+            seed: 1,
+        };
+        let mut arguments = std::env::args().skip(1);
+        while let Some(argument) = arguments.next() {
+            match argument.as_str() {
+                "--quick" => options.quick = true,
+                "--seed" => {
+                    let number = arguments.next().and_then(|text| text.parse().ok());
+                    options.seed = number.ok_or("--seed needs a number")?;
+                }
+                other => return Err(format!("unknown argument {other}")),
+            }
+        }
+        Ok(options)
+    }
+
+    /// How many cases to run, of so many in a full run.
+    fn count(&self, full: usize) -> usize {
+        if self.quick {
+            full.div_ceil(20)
+        } else {
+            full
+        }
+    }
+
+    /// A generator of its own for each group.
+    fn rng(&self, group: u64) -> Rng {
+        Rng::new(self.seed.wrapping_mul(1000).wrapping_add(group))
+    }
+}
+
+/// The real engine, if it is linked.
+fn engine_under_test() -> Option<Call<'static>> {
+    #[cfg(feature = "engine")]
+    return Some(&reference::engine::call);
+    #[cfg(not(feature = "engine"))]
+    return None;
+}
+
+/// Compares everything there is with the literal reference.
+struct Comparison {
+    fast: Fast,
+    engine: Option<Call<'static>>,
+    rng: Rng,
+}
+
+impl Comparison {
+    fn new(rng: Rng) -> Comparison {
+        Comparison {
+            fast: Fast::default(),
+            engine: engine_under_test(),
+            rng,
+        }
+    }
+
+    /// Gives the literal answer.
+    fn check(&mut self, tally: &mut Tally, input: &Input) -> Answer {
+        let expected = literal::answer(input);
+        let got = self.fast.answer(input);
+        tally.check(got == expected, || {
+            format!("fast: {got:?}\nliteral: {expected:?}\n{}", input.describe())
+        });
+        if let Some(engine) = self.engine {
+            let found = lending::check(engine, input, &expected, &mut self.rng);
+            tally.check(found.is_ok(), || {
+                let input = input.describe();
+                format!("engine: {found:?}\nliteral: {expected:?}\n{input}")
+            });
+        }
+        expected
+    }
+}
+
+fn main() -> ExitCode {
+    let options = match Options::parse() {
+        Ok(options) => options,
+        Err(message) => {
+            eprintln!("{message}");
+            return ExitCode::FAILURE;
+        }
+    };
+    let mut tally = Tally::default();
+    run_groups(&mut tally, &options);
+    println!("{} passed, {} failed", tally.passed, tally.failed);
+    if tally.failed == 0 {
+        ExitCode::SUCCESS
+    } else {
+        ExitCode::FAILURE
+    }
+}
+
+fn run_groups(tally: &mut Tally, options: &Options) {
+    tally.group("proved cases", |tally| proved_cases(tally, options));
+    tally.group("small cases", |tally| small_cases(tally, options));
+    tally.group("middle cases", |tally| middle_cases(tally, options));
+    tally.group("large cases", |tally| large_cases(tally, options));
+    tally.group("byte sweeps", |tally| byte_sweeps(tally, options));
+    tally.group("damaged input", |tally| damaged_input(tally, options));
+    tally.group("oversized input", |tally| oversized_input(tally, options));
+    tally.group("visit by visit", |tally| visit_by_visit(tally, options));
+    tally.group("all strict orders", |tally| {
+        all_strict_orders(tally, options)
+    });
+    tally.group("slips break demands", |tally| {
+        slips_break_demands(tally, options)
+    });
+    tally.group("mutants", |tally| mutants_told_apart(tally, options));
+    tally.group("flaws of engines", |tally| flaws_found(tally, options));
+    match std::env::var_os("PLACE_BIN") {
+        Some(path) => tally.group("program", |tally| {
+            let count = options.count(200);
+            program::run(tally, Path::new(&path), options.seed, count);
+        }),
+        None => println!("program: skipped, PLACE_BIN is not set"),
+    }
+}
+
+fn proved_cases(tally: &mut Tally, options: &Options) {
+    let mut comparison = Comparison::new(options.rng(0));
+    let table = proved::table();
+    tally.check(table.len() == 15, || "the table has 15 cases".to_string());
+    for proved in table {
+        let answer = comparison.check(tally, &proved.input);
+        tally.check(proved.expected.holds(&answer), || {
+            format!("{}: {answer:?}", proved.name)
+        });
+    }
+    let (case, book) = proved::example();
+    let text = literal::answer(&case.input(&book)).text();
+    let lines = [
+        "place 1 1",
+        "place 2 0",
+        "place 3 2",
+        "visits 4",
+        "visit 1 1",
+        "visit 1 2",
+        "visit 2 2",
+        "visit 3 2",
+    ];
+    tally.check(text.lines().eq(lines), || text);
+}
+
+fn small_cases(tally: &mut Tally, options: &Options) {
+    let mut rng = options.rng(1);
+    let mut comparison = Comparison::new(options.rng(101));
+    let (mut placed, mut next) = (0, 0);
+    for _ in 0..options.count(100_000) {
+        let input = gen::small_input(&mut rng);
+        match comparison.check(tally, &input) {
+            Answer::Placed { .. } => placed += 1,
+            Answer::Next { .. } => next += 1,
+            Answer::Refused { .. } => tally.check(false, || input.describe()),
+        }
+    }
+    println!("  {placed} placed, {next} with a next visit");
+    tally.check(placed > 100 && next > 100, || "one kind is rare".into());
+}
+
+fn middle_cases(tally: &mut Tally, options: &Options) {
+    let mut rng = options.rng(10);
+    let mut comparison = Comparison::new(options.rng(110));
+    for _ in 0..options.count(5000) {
+        let shape = Shape::middle(&mut rng);
+        comparison.check(tally, &gen::input(&mut rng, &shape));
+    }
+}
+
+fn large_cases(tally: &mut Tally, options: &Options) {
+    let mut rng = options.rng(2);
+    let mut comparison = Comparison::new(options.rng(102));
+    let mut visits = 0;
+    for _ in 0..options.count(300) {
+        let shape = Shape::large(&mut rng);
+        let input = gen::input(&mut rng, &shape);
+        visits += comparison.check(tally, &input).visits().len();
+    }
+    for (d, e) in [(1, 1), (1, 8), (4, 1), (4, 8), (64, 512)] {
+        let case = gen::experiment(&mut rng, 512, 64, d, e);
+        let book = gen::full_book(&mut rng, &case, MAX_MARK);
+        visits += comparison.check(tally, &case.input(&book)).visits().len();
+    }
+    println!("  {visits} visits");
+}
+
+fn byte_sweeps(tally: &mut Tally, options: &Options) {
+    let mut rng = options.rng(3);
+    let mut comparison = Comparison::new(options.rng(103));
+    let (case, book) = proved::example();
+    let mut bases = vec![case.input(&book)];
+    for _ in 0..options.count(20) {
+        bases.push(gen::small_input(&mut rng));
+    }
+    for base in bases {
+        for input in gen::sweep(&base).iter().chain(&gen::buffer_sweep(&base)) {
+            comparison.check(tally, input);
+        }
+    }
+}
+
+fn damaged_input(tally: &mut Tally, options: &Options) {
+    let mut rng = options.rng(4);
+    let mut comparison = Comparison::new(options.rng(104));
+    let mut seen = [0; 12];
+    let mut later_record = [false; 12];
+    for _ in 0..options.count(200_000) {
+        let input = gen::damaged_input(&mut rng);
+        let (number, place) = match comparison.check(tally, &input) {
+            Answer::Refused { number, place } => (usize::from(number), place),
+            _ => (0, 0),
+        };
+        seen[number] += 1;
+        later_record[number] |= place > 0;
+    }
+    println!(
+        "  good input {}, refusals 1 to 11 {:?}",
+        seen[0],
+        &seen[1..]
+    );
+    for number in 1..=11 {
+        let of_record = !matches!(number, 1 | 4 | 6 | 7);
+        tally.check(seen[number] >= 20, || format!("refusal {number} is rare"));
+        tally.check(later_record[number] == of_record, || {
+            format!("places of refusal {number}")
+        });
+    }
+}
+
+fn oversized_input(tally: &mut Tally, options: &Options) {
+    let mut comparison = Comparison::new(options.rng(105));
+    let mut farthest = 0;
+    for input in gen::oversized_inputs(&mut options.rng(5)) {
+        if let Answer::Refused { place, .. } = comparison.check(tally, &input) {
+            farthest = farthest.max(place);
+        }
+    }
+    tally.check(farthest > 65_535, || "no far record".to_string());
+}
+
+/// Feeds the book what is asked for until everybody is placed.
+fn visit_by_visit(tally: &mut Tally, options: &Options) {
+    let mut rng = options.rng(6);
+    let mut comparison = Comparison::new(options.rng(106));
+    for _ in 0..options.count(10_000) {
+        drive(tally, &mut comparison, &mut rng, Shape::small);
+    }
+    for _ in 0..options.count(20) {
+        drive(tally, &mut comparison, &mut rng, Shape::middle);
+    }
+}
+
+fn drive(
+    tally: &mut Tally,
+    comparison: &mut Comparison,
+    rng: &mut Rng,
+    shape: fn(&mut Rng) -> Shape,
+) {
+    let shape = shape(rng);
+    let case = gen::case(rng, &shape);
+    let hidden = gen::full_book(rng, &case, shape.reach);
+    let mut book: Vec<Record> = Vec::new();
+    loop {
+        let answer = comparison.check(tally, &case.input(&book));
+        let asked: Vec<(u16, u16)> = book.iter().map(|r| (r.student, r.workshop)).collect();
+        tally.check(answer.visits() == asked, || {
+            format!("listed visits are not those asked for: {answer:?}")
+        });
+        match answer {
+            Answer::Next {
+                student, workshop, ..
+            } => {
+                let result = hidden
+                    .iter()
+                    .find(|r| (r.student, r.workshop) == (student, workshop));
+                book.push(*result.expect("only pairs are asked for"));
+            }
+            last => {
+                let whole = comparison.check(tally, &case.input(&hidden));
+                tally.check(last == whole, || format!("{last:?}\nfull book: {whole:?}"));
+                return;
+            }
+        }
+    }
+}
+
+/// Demands 2 and 3 on tiny cases, and that wrong answers break them.
+fn all_strict_orders(tally: &mut Tally, options: &Options) {
+    let mut rng = options.rng(7);
+    let mut effort = Effort::default();
+    let (mut finished, mut agreeing, mut orders) = (0, 0, 0);
+    while finished < options.count(4000) {
+        let shape = Shape::tiny(&mut rng);
+        let case = gen::case(&mut rng, &shape);
+        let book = gen::some_book(&mut rng, &case, &shape);
+        let Answer::Placed { places, visits } = literal::answer(&case.input(&book)) else {
+            continue;
+        };
+        let Some(world) = World::new(&case) else {
+            continue;
+        };
+        finished += 1;
+        orders += world.orders();
+        let trial = Trial {
+            world: &world,
+            case: &case,
+            book: &book,
+        };
+        trial.demand_two(tally, &places, &visits);
+        if case.stages_agree() {
+            agreeing += 1;
+            trial.demand_three(tally, &places, &visits, &mut effort);
+        }
+    }
+    println!("  {finished} finished runs, {agreeing} with agreeing stages, {orders} full orders");
+    println!(
+        "  sets of visits with the placed pairs: {} sure, {} not sure",
+        effort.sure_sets, effort.unsure_sets
+    );
+    tally.check(agreeing * 2 > finished, || "few stages agree".to_string());
+    tally.check(effort.unsure_sets > 0, || "all sets are sure".to_string());
+}
+
+/// One tiny case with everything that could be true of it.
+struct Trial<'a> {
+    world: &'a World,
+    case: &'a Case,
+    book: &'a [Record],
+}
+
+impl Trial<'_> {
+    fn describe(&self) -> String {
+        format!("{:?}\nbook {:?}", self.case, self.book)
+    }
+
+    fn demand_two(&self, tally: &mut Tally, places: &[u16], visits: &[(u16, u16)]) {
+        let good = self.world.demand_two(self.book, places, visits);
+        tally.check(good, || format!("demand 2: {}", self.describe()));
+        let sufficient = self.world.list_suffices(self.book, places, visits);
+        tally.check(sufficient, || format!("own list: {}", self.describe()));
+        for student in 0..places.len() {
+            let mut other = places.to_vec();
+            other[student] = if other[student] == 0 { 1 } else { 0 };
+            let caught = !self.world.demand_two(self.book, &other, visits);
+            tally.check(caught, || format!("wrong places pass: {}", self.describe()));
+        }
+    }
+
+    fn demand_three(
+        &self,
+        tally: &mut Tally,
+        places: &[u16],
+        visits: &[(u16, u16)],
+        effort: &mut Effort,
+    ) {
+        let least = self.world.list_is_least(self.book, places, visits, effort);
+        tally.check(least, || format!("demand 3: {}", self.describe()));
+        for left_out in 0..visits.len() {
+            let mut fewer = visits.to_vec();
+            fewer.remove(left_out);
+            let caught = !self.world.list_suffices(self.book, places, &fewer);
+            tally.check(caught, || format!("short list passes: {}", self.describe()));
+        }
+        let pairs = self.case.pairs.iter();
+        let unvisited = pairs
+            .map(|pair| (pair.student, pair.workshop))
+            .find(|pair| !visits.contains(pair));
+        if let Some(extra) = unvisited {
+            let more = [visits, &[extra]].concat();
+            let ignored = &mut Effort::default();
+            let caught = !self.world.list_is_least(self.book, places, &more, ignored);
+            tally.check(caught, || format!("long list passes: {}", self.describe()));
+        }
+    }
+}
+
+/// Each slip of a careful hand gives a placement that breaks demand 2 or demand 3.
+fn slips_break_demands(tally: &mut Tally, options: &Options) {
+    const MOST: usize = 100_000;
+    for slip in mutants::slips_of_a_careful_hand() {
+        let mut rng = options.rng(11);
+        let needed = (1..=MOST).find(|_| breaks_a_demand(&mut rng, &slip));
+        match needed {
+            Some(cases) => println!("  {cases:6} cases needed: {}", slip.name),
+            None => println!("  never: {}", slip.name),
+        }
+        tally.check(needed.is_some(), || {
+            format!("breaks nothing: {}", slip.name)
+        });
+    }
+}
+
+/// Whether the slip shows as a broken demand in the next tiny case.
+fn breaks_a_demand(rng: &mut Rng, slip: &Mutant) -> bool {
+    let shape = Shape::tiny(rng);
+    let case = gen::case(rng, &shape);
+    let book = gen::some_book(rng, &case, &shape);
+    let input = case.input(&book);
+    let answer = (slip.answer)(&input);
+    if answer == literal::answer(&input) {
+        return false;
+    }
+    let (Answer::Placed { places, visits }, Some(world)) = (answer, World::new(&case)) else {
+        return false;
+    };
+    let effort = &mut Effort::default();
+    !world.demand_two(&book, &places, &visits)
+        || case.stages_agree() && !world.list_is_least(&book, &places, &visits, effort)
+}
+
+fn mutants_told_apart(tally: &mut Tally, options: &Options) {
+    let mut rng = options.rng(8);
+    let inputs: Vec<Input> = (0..options.count(20_000).max(5000))
+        .map(|_| match rng.chance(50) {
+            true => gen::small_input(&mut rng),
+            false => gen::damaged_input(&mut rng),
+        })
+        .collect();
+    let expected: Vec<Answer> = inputs.iter().map(literal::answer).collect();
+    let differing = |mutant: &Mutant| {
+        let pairs = inputs.iter().zip(&expected);
+        pairs
+            .filter(|(input, expected)| (mutant.answer)(input) != **expected)
+            .count()
+    };
+    let control = differing(&mutants::control());
+    tally.check(control == 0, || {
+        format!("the control differs {control} times")
+    });
+    println!("  {} inputs, told apart by:", inputs.len());
+    for mutant in mutants::all() {
+        let count = differing(&mutant);
+        println!("  {count:6} {}", mutant.name);
+        tally.check(count > 0, || format!("not told apart: {}", mutant.name));
+    }
+}
+
+/// The check of lent buffers accepts an honest engine and finds every flaw.
+fn flaws_found(tally: &mut Tally, options: &Options) {
+    let mut rng = options.rng(9);
+    let inputs: Vec<Input> = (0..options.count(2000).max(200))
+        .map(|_| {
+            let mut input = gen::damaged_input(&mut rng);
+            gen::longer_buffers(&mut rng, &mut input);
+            input
+        })
+        .collect();
+    let mut count_found = |engine: Call| {
+        let found = inputs.iter().filter(|input| {
+            let expected = literal::answer(input);
+            lending::check(engine, input, &expected, &mut rng).is_err()
+        });
+        found.count()
+    };
+    let blamed = count_found(&lending::honest);
+    tally.check(blamed == 0, || format!("honest, blamed {blamed} times"));
+    println!("  {} inputs, found by:", inputs.len());
+    for flaw in &lending::FLAWS {
+        let found = count_found(&|case: &[u8], book: &[u8], loan: &Loan| {
+            let outcome = lending::honest(case, book, loan);
+            (flaw.spoil)(loan, &outcome);
+            outcome
+        });
+        println!("  {found:6} {}", flaw.name);
+        tally.check(found > 0, || format!("not found: {}", flaw.name));
+    }
+}

@@ -1,0 +1,561 @@
+//! Broken references. The suite must tell each of them from the literal one.
+
+use crate::literal::{self, PairTable};
+use crate::model::*;
+use crate::proved;
+use std::collections::HashSet;
+
+pub struct Mutant {
+    pub name: &'static str,
+    pub answer: Box<dyn Fn(&Input) -> Answer>,
+}
+
+/// Slips inside the staged rule.
+#[derive(Clone, Copy, PartialEq, Eq)]
+enum Slip {
+    /// No slip: the control, which must agree with the literal reference.
+    Nothing,
+    DeleteOnlyVisited,
+    OpenWhileOpen,
+    MarksAcrossGroups,
+    StudentNegativeIsNo,
+    WorkshopNegativeIsNo,
+    DeleteBeforeFull,
+    UnsignedMarks,
+    QuotaOneMore,
+    QuotaOneLess,
+    FallingVisits,
+    StagesIgnored,
+    FirstStageOnly,
+    DroppedWaits,
+    StudentLineIgnored,
+    WorkshopLineIgnored,
+    ClosedVisited,
+    BeyondLineVisited,
+    DeleteByUnvisitedMarks,
+    DeleteWholeGroup,
+    PastOwnLine,
+}
+
+/// A rule without a slip; it must never differ.
+pub fn control() -> Mutant {
+    rule("no slip", Slip::Nothing)
+}
+
+pub fn all() -> Vec<Mutant> {
+    let mut mutants = slips_of_a_careful_hand();
+    mutants.extend(other_slips_of_the_rule());
+    mutants.extend(bad_engines());
+    mutants.extend(slips_of_refusal());
+    mutants
+}
+
+/// The slips that document 01 lists; each of them breaks demand 2 or demand 3.
+pub fn slips_of_a_careful_hand() -> Vec<Mutant> {
+    vec![
+        rule("deletes only visited students", Slip::DeleteOnlyVisited),
+        rule("opens a group while one is open", Slip::OpenWhileOpen),
+        rule("compares marks across groups", Slip::MarksAcrossGroups),
+        rule("student's negative mark is a no", Slip::StudentNegativeIsNo),
+        rule(
+            "workshop's negative mark is a no",
+            Slip::WorkshopNegativeIsNo,
+        ),
+        rule("deletes before full", Slip::DeleteBeforeFull),
+    ]
+}
+
+fn other_slips_of_the_rule() -> Vec<Mutant> {
+    vec![
+        rule("compares marks unsigned", Slip::UnsignedMarks),
+        rule("quota one more", Slip::QuotaOneMore),
+        rule("quota one less", Slip::QuotaOneLess),
+        rule("visits in falling number", Slip::FallingVisits),
+        rule("ignores the stages", Slip::StagesIgnored),
+        rule("runs the first stage only", Slip::FirstStageOnly),
+        rule("dropped student waits", Slip::DroppedWaits),
+        rule("ignores the student's line mark", Slip::StudentLineIgnored),
+        rule(
+            "ignores the workshop's line mark",
+            Slip::WorkshopLineIgnored,
+        ),
+        rule("visits where the quota is 0", Slip::ClosedVisited),
+        rule("visits beyond the workshop's line", Slip::BeyondLineVisited),
+        rule("deletes by unvisited marks", Slip::DeleteByUnvisitedMarks),
+        rule("deletes the whole last group", Slip::DeleteWholeGroup),
+        rule("goes past the student's line", Slip::PastOwnLine),
+    ]
+}
+
+fn bad_engines() -> Vec<Mutant> {
+    vec![
+        on_placed("made-up visits", |case, (places, visits)| {
+            let pairs = case.pairs.iter().rev().take(visits.len());
+            let made_up = pairs.map(|pair| (pair.student, pair.workshop)).collect();
+            (places, made_up)
+        }),
+        on_placed("one visit too few", |_, (places, mut visits)| {
+            visits.pop();
+            (places, visits)
+        }),
+        on_placed("writes no placement", |_, (places, visits)| {
+            (vec![0; places.len()], visits)
+        }),
+        mutant("next visit before running", next_before_running),
+        mutant("one placement for all cases", |_| {
+            let (case, book) = proved::example();
+            literal::run(&case, &book)
+        }),
+        mutant("refuses all cases", |_| Answer::Refused {
+            number: 1,
+            place: 0,
+        }),
+    ]
+}
+
+fn slips_of_refusal() -> Vec<Mutant> {
+    vec![
+        on_refused("swaps causes 10 and 11", |_, number, place| {
+            let number = match number {
+                10 => 11,
+                11 => 10,
+                other => other,
+            };
+            (number, place)
+        }),
+        on_refused("counts records from 1", |_, number, place| {
+            let of_record = matches!(number, 2 | 3 | 5 | 8..=11);
+            (number, place + usize::from(of_record))
+        }),
+        on_refused("all causes record by record", first_bad_record),
+        on_refused("ranges before counts", |input, number, place| {
+            let records = input.case.chunks_exact(CASE_RECORD).collect::<Vec<_>>();
+            match literal::first_out_of_range(&records) {
+                Some(bad) if number == 4 => (5, bad),
+                _ => (number, place),
+            }
+        }),
+        on_refused("gives the earlier of two records", earlier_record),
+        mutant("tests the buffers last", buffers_last),
+        mutant("forgets the buffers", |input| {
+            literal::answer(&with_ample_buffers(input))
+        }),
+        mutant("forgets equal marks", |input| {
+            let (number, _) = refusal_of(input);
+            match literal::read(&without_equal_marks(input)) {
+                Ok((case, book)) if number == 11 => literal::run(&case, &book),
+                _ => literal::answer(input),
+            }
+        }),
+        mutant("equal marks across groups", equal_across_groups),
+    ]
+}
+
+fn mutant(name: &'static str, answer: impl Fn(&Input) -> Answer + 'static) -> Mutant {
+    Mutant {
+        name,
+        answer: Box::new(answer),
+    }
+}
+
+fn rule(name: &'static str, slip: Slip) -> Mutant {
+    mutant(name, move |input| match literal::read(input) {
+        Ok((case, book)) => Sloppy::new(&case, &book, slip).run(),
+        Err(_) => literal::answer(input),
+    })
+}
+
+/// Places and visits.
+type Placing = (Vec<u16>, Vec<(u16, u16)>);
+
+/// The right answer with its placement changed.
+fn on_placed(name: &'static str, change: fn(&Case, Placing) -> Placing) -> Mutant {
+    mutant(name, move |input| match literal::answer(input) {
+        Answer::Placed { places, visits } => {
+            let (case, _) = literal::read(input).expect("it was placed");
+            let (places, visits) = change(&case, (places, visits));
+            Answer::Placed { places, visits }
+        }
+        other => other,
+    })
+}
+
+/// The right answer with its refusal changed.
+fn on_refused(name: &'static str, change: fn(&Input, u16, usize) -> (u16, usize)) -> Mutant {
+    mutant(name, move |input| match literal::answer(input) {
+        Answer::Refused { number, place } => {
+            let (number, place) = change(input, number, place);
+            Answer::Refused { number, place }
+        }
+        other => other,
+    })
+}
+
+/// Names the first pair of the file that has no result, before running.
+fn next_before_running(input: &Input) -> Answer {
+    let Ok((case, book)) = literal::read(input) else {
+        return literal::answer(input);
+    };
+    let unanswered = case.pairs.iter().find(|pair| {
+        !book
+            .iter()
+            .any(|record| (record.student, record.workshop) == (pair.student, pair.workshop))
+    });
+    match unanswered {
+        Some(pair) => Answer::Next {
+            student: pair.student,
+            workshop: pair.workshop,
+            visits: Vec::new(),
+        },
+        None => literal::run(&case, &book),
+    }
+}
+
+/// The first record with any fault of form, order or range.
+fn first_bad_record(input: &Input, number: u16, place: usize) -> (u16, usize) {
+    if !matches!(number, 2 | 3 | 5) {
+        return (number, place);
+    }
+    let records: Vec<&[u8]> = input.case.chunks(CASE_RECORD).collect();
+    [
+        (literal::first_misformed(&records), 2),
+        (literal::first_out_of_order(&records), 3),
+        (literal::first_out_of_range(&records), 5),
+    ]
+    .into_iter()
+    .filter_map(|(bad, cause)| Some((bad?, cause)))
+    .min()
+    .map_or((number, place), |(bad, cause)| (cause, bad))
+}
+
+fn earlier_record(input: &Input, number: u16, place: usize) -> (u16, usize) {
+    if number != 10 {
+        return (number, place);
+    }
+    let pair_at = |at: usize| &input.book[at * BOOK_RECORD..][..4];
+    let earlier = (0..place).find(|&at| pair_at(at) == pair_at(place));
+    (number, earlier.unwrap_or(place))
+}
+
+fn refusal_of(input: &Input) -> (u16, usize) {
+    match literal::answer(input) {
+        Answer::Refused { number, place } => (number, place),
+        _ => (0, 0),
+    }
+}
+
+fn with_ample_buffers(input: &Input) -> Input {
+    Input {
+        lent: Lengths::ample(),
+        ..input.clone()
+    }
+}
+
+fn buffers_last(input: &Input) -> Answer {
+    match literal::answer(&with_ample_buffers(input)) {
+        refused @ Answer::Refused { .. } => refused,
+        _ => literal::answer(input),
+    }
+}
+
+/// The input without the records that repeat a mark.
+fn without_equal_marks(input: &Input) -> Input {
+    let mut input = input.clone();
+    while let (11, place) = refusal_of(&input) {
+        input
+            .book
+            .drain(place * BOOK_RECORD..(place + 1) * BOOK_RECORD);
+    }
+    input
+}
+
+/// Takes an equal mark in another group for a fault too.
+fn equal_across_groups(input: &Input) -> Answer {
+    let Ok((_, book)) = literal::read(input) else {
+        return literal::answer(input);
+    };
+    let mut given = HashSet::new();
+    let repeated = book.iter().position(|record| {
+        let first = given.insert((0, record.student, record.student_mark));
+        let second = given.insert((1, record.workshop, record.workshop_mark));
+        !first || !second
+    });
+    match repeated {
+        Some(place) => Answer::Refused { number: 11, place },
+        None => literal::answer(input),
+    }
+}
+
+// ---- The rule with a slip ----
+
+#[derive(Clone, Default)]
+struct Cell {
+    student_group: u16,
+    workshop_group: u16,
+    /// The two marks, if the book has them.
+    marks: Option<(i32, i32)>,
+    deleted: bool,
+    visited: bool,
+    open: bool,
+}
+
+struct Sloppy<'a> {
+    slip: Slip,
+    case: &'a Case,
+    /// By student and workshop from 0; `None` where there is no pair.
+    cells: Vec<Vec<Option<Cell>>>,
+    none_open: Vec<bool>,
+    reached: Vec<u16>,
+    holders: Vec<Vec<usize>>,
+    visits: Vec<(u16, u16)>,
+}
+
+impl<'a> Sloppy<'a> {
+    fn new(case: &'a Case, book: &[Record], slip: Slip) -> Sloppy<'a> {
+        let pairs = PairTable::new(case);
+        let students = case.students.len();
+        let cell = |s: usize, w: usize| {
+            let (student_group, workshop_group) = pairs.get(s as u16 + 1, w as u16 + 1)?;
+            Some(Cell {
+                student_group,
+                workshop_group,
+                ..Cell::default()
+            })
+        };
+        let row = |s: usize| (0..case.workshops.len()).map(|w| cell(s, w)).collect();
+        let mut run = Sloppy {
+            slip,
+            case,
+            cells: (0..students).map(row).collect(),
+            none_open: vec![false; students],
+            reached: vec![0; students],
+            holders: vec![Vec::new(); case.workshops.len()],
+            visits: Vec::new(),
+        };
+        run.enter(book);
+        run.delete_hopeless();
+        run
+    }
+
+    fn has(&self, slip: Slip) -> bool {
+        self.slip == slip
+    }
+
+    fn enter(&mut self, book: &[Record]) {
+        let unsigned = self.has(Slip::UnsignedMarks);
+        let read = |mark: i16| {
+            if unsigned {
+                i32::from(mark as u16)
+            } else {
+                i32::from(mark)
+            }
+        };
+        for record in book {
+            let marks = (read(record.student_mark), read(record.workshop_mark));
+            let (s, w) = (usize::from(record.student), usize::from(record.workshop));
+            let cell = self.cells[s - 1][w - 1].as_mut();
+            cell.expect("the book was checked").marks = Some(marks);
+        }
+    }
+
+    fn delete_hopeless(&mut self) {
+        let closed_too = !self.has(Slip::ClosedVisited);
+        let beyond_too = !self.has(Slip::BeyondLineVisited);
+        for row in &mut self.cells {
+            for (cell, workshop) in row.iter_mut().zip(&self.case.workshops) {
+                if let Some(cell) = cell {
+                    cell.deleted = (closed_too && workshop.quota == 0)
+                        || (beyond_too && cell.workshop_group > workshop.line);
+                }
+            }
+        }
+    }
+
+    fn run(mut self) -> Answer {
+        let mut queue = self.turns();
+        queue.reverse();
+        while let Some(s) = queue.pop() {
+            match self.take_in_hand(s) {
+                Ok(None) => (),
+                Ok(Some(dropped)) if self.has(Slip::DroppedWaits) => queue.insert(0, dropped),
+                Ok(Some(dropped)) => queue.push(dropped),
+                Err(w) => {
+                    return Answer::Next {
+                        student: s as u16 + 1,
+                        workshop: w as u16 + 1,
+                        visits: self.visits,
+                    }
+                }
+            }
+        }
+        let mut places = vec![0; self.case.students.len()];
+        for (w, holders) in self.holders.iter().enumerate() {
+            for &s in holders {
+                places[s] = w as u16 + 1;
+            }
+        }
+        Answer::Placed {
+            places,
+            visits: self.visits,
+        }
+    }
+
+    fn turns(&self) -> Vec<usize> {
+        let mut turns: Vec<usize> = (0..self.case.students.len()).collect();
+        let stage = |s: usize| self.case.students[s].stage;
+        if !self.has(Slip::StagesIgnored) {
+            turns.sort_by_key(|&s| stage(s));
+        }
+        if self.has(Slip::FirstStageOnly) {
+            let first = stage(turns[0]);
+            turns.retain(|&s| stage(s) == first);
+        }
+        turns
+    }
+
+    /// Steps 1 to 4; gives the dropped student, or the unanswered workshop as the error.
+    fn take_in_hand(&mut self, s: usize) -> Result<Option<usize>, usize> {
+        let mut must_open = self.has(Slip::OpenWhileOpen) && !self.none_open[s];
+        while must_open || !self.has_open(s) {
+            must_open = false;
+            let Some(group) = self.next_group(s) else {
+                return Ok(None);
+            };
+            self.open_group(s, group)?;
+        }
+        match self.best_open(s) {
+            Some(w) => Ok(self.apply(s, w)),
+            None => Ok(None),
+        }
+    }
+
+    fn has_open(&self, s: usize) -> bool {
+        self.none_open[s] || self.cells[s].iter().flatten().any(|cell| cell.open)
+    }
+
+    fn next_group(&self, s: usize) -> Option<u16> {
+        let groups = self.cells[s]
+            .iter()
+            .flatten()
+            .map(|cell| cell.student_group);
+        groups
+            .chain([self.case.students[s].line])
+            .filter(|&group| group > self.reached[s])
+            .min()
+    }
+
+    fn open_group(&mut self, s: usize, group: u16) -> Result<(), usize> {
+        self.reached[s] = group;
+        let mut workshops: Vec<usize> = (0..self.case.workshops.len()).collect();
+        if self.has(Slip::FallingVisits) {
+            workshops.reverse();
+        }
+        for w in workshops {
+            let visited = |cell: &Cell| cell.student_group == group && !cell.deleted;
+            if self.cells[s][w].as_ref().is_some_and(visited) {
+                self.visit(s, w)?;
+            }
+        }
+        if group == self.case.students[s].line && !self.has(Slip::PastOwnLine) {
+            self.none_open[s] = true;
+        }
+        Ok(())
+    }
+
+    fn visit(&mut self, s: usize, w: usize) -> Result<(), usize> {
+        let line = self.case.workshops[w].line;
+        let anywhere = self.has(Slip::WorkshopNegativeIsNo);
+        let nowhere = self.has(Slip::WorkshopLineIgnored);
+        let student_too = self.has(Slip::StudentNegativeIsNo);
+        let cell = self.cells[s][w].as_mut().expect("they have a pair");
+        let (student_mark, workshop_mark) = cell.marks.ok_or(w)?;
+        let decides = (cell.workshop_group == line || anywhere) && !nowhere;
+        let refused = decides && workshop_mark < 0;
+        let declined = student_too && student_mark < 0;
+        cell.open = !refused && !declined;
+        cell.visited = true;
+        self.visits.push((s as u16 + 1, w as u16 + 1));
+        Ok(())
+    }
+
+    fn best_open(&self, s: usize) -> Option<usize> {
+        let row = self.cells[s].iter().enumerate();
+        let open = row.filter_map(|(w, cell)| Some((w, cell.as_ref().filter(|cell| cell.open)?)));
+        let (best, group, mark) = open
+            .map(|(w, cell)| (w, cell.student_group, cell.marks.map_or(0, |marks| marks.0)))
+            .max_by_key(|&(_, group, mark)| (std::cmp::Reverse(group), mark))?;
+        let in_line_group = group == self.case.students[s].line && self.none_open[s];
+        let none_is_better = in_line_group && mark < 0 && !self.has(Slip::StudentLineIgnored);
+        (!none_is_better).then_some(best)
+    }
+
+    fn quota(&self, w: usize) -> usize {
+        let quota = usize::from(self.case.workshops[w].quota);
+        match self.slip {
+            Slip::QuotaOneMore => quota + 1,
+            Slip::QuotaOneLess => quota.saturating_sub(1),
+            _ => quota,
+        }
+    }
+
+    fn apply(&mut self, s: usize, w: usize) -> Option<usize> {
+        self.holders[w].push(s);
+        let mut dropped = None;
+        if self.holders[w].len() > self.quota(w) {
+            let lowest = self.lowest(w)?;
+            self.holders[w].retain(|&holder| holder != lowest);
+            self.close(lowest, w);
+            dropped = Some(lowest);
+        }
+        if self.holders[w].len() == self.quota(w) || self.has(Slip::DeleteBeforeFull) {
+            if let Some(lowest) = self.lowest(w) {
+                self.delete_below(w, lowest);
+            }
+        }
+        dropped
+    }
+
+    fn close(&mut self, s: usize, w: usize) {
+        let cell = self.cells[s][w].as_mut().expect("they have a pair");
+        cell.deleted = true;
+        cell.open = false;
+    }
+
+    fn lowest(&self, w: usize) -> Option<usize> {
+        let across = self.has(Slip::MarksAcrossGroups);
+        self.holders[w].iter().copied().max_by_key(|&s| {
+            let cell = self.cells[s][w].as_ref().expect("they have a pair");
+            let group = if across { 0 } else { cell.workshop_group };
+            (group, -cell.marks.map_or(0, |marks| marks.1))
+        })
+    }
+
+    fn delete_below(&mut self, w: usize, lowest: usize) {
+        let lowest = self.cells[lowest][w].clone().expect("they have a pair");
+        for s in 0..self.case.students.len() {
+            if self.cells[s][w]
+                .as_ref()
+                .is_some_and(|cell| self.below(cell, &lowest))
+            {
+                self.close(s, w);
+            }
+        }
+    }
+
+    fn below(&self, cell: &Cell, lowest: &Cell) -> bool {
+        let lower_mark = match (cell.marks, lowest.marks) {
+            (Some(mine), Some(its)) => mine.1 < its.1,
+            _ => false,
+        };
+        let by_mark = cell.visited && lower_mark;
+        let by_group = cell.workshop_group > lowest.workshop_group;
+        let same_group = cell.workshop_group == lowest.workshop_group;
+        match self.slip {
+            Slip::DeleteOnlyVisited => cell.visited && (by_group || same_group && by_mark),
+            Slip::MarksAcrossGroups if cell.visited => by_mark,
+            Slip::DeleteByUnvisitedMarks => by_group || same_group && lower_mark,
+            Slip::DeleteWholeGroup => by_group || same_group && (by_mark || !cell.visited),
+            _ => by_group || same_group && by_mark,
+        }
+    }
+}
