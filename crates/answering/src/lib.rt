@@ -34,13 +34,13 @@ pub struct Report {
 }
 
 // Zeros over the whole slice.
-pub fn clear(s: &mut [u16])
+fn clear(s: &mut [u16])
     ensures { λ _. ⌜ now (s .exit) ≡ replicate (length (now (s .entry))) 0 ⌝ }
 {
-    let mut i = 0;
-    while i < s.len() {
-        s[i] = 0;
-        i += 1;
+    let mut k = 0;
+    while k < s.len() {
+        s[k] = 0;
+        k += 1;
     }
 }
 
@@ -186,13 +186,7 @@ fn place_seated(case: &[u8], seats: &[u16], places: &mut [u16], students: usize,
 }
 
 // The places of students 1 to n, read off the seats.
-pub fn fill_places(
-    case: &[u8],
-    seats: &[u16],
-    places: &mut [u16],
-    students: usize,
-    workshops: usize,
-)
+fn fill_places(case: &[u8], seats: &[u16], places: &mut [u16], students: usize, workshops: usize)
     requires { ⌜ Seated (now case) (now seats) (now places) students workshops ⌝ }
     ensures { λ _. ⌜ now (places .exit) ≡ fromSeats (marketIn (now (case .entry))) (now (seats .entry)) workshops (noPlaces students (now (places .entry))) ⌝ }
 {

@@ -10,9 +10,9 @@ use Rattle.base.specs.Lists.{tabulate}
 use Rattle.base.proofs.Below.{tabulate-length, tabulate-at}
 use Rattle.lgs.specs.Rule.{Interview}
 use Rattle.format.specs.Engine.{Answer, placed, next, refused}
-use Rattle.format.specs.Buffers.{flat, withHead, placesAfter, visitsAfter}
+use Rattle.format.specs.Buffers.{flat, withHead, placesAfter, visitsAfter, values}
 use Rattle.format.specs.Printed.{placeLines, visitsText, printed}
-use Rattle.answers.specs.Report.{reportOf, interviewsAt, textOf}
+use Rattle.answers.specs.Report.{reportOf, valuesOf, interviewsAt, textOf}
 
 flat-first : (vs : List Interview) (rest : List ℕ) (i : ℕ) → i < length vs → getD (flat vs ++ rest) (2 * i) 0 ≡ getD vs i (0, 0) .0
 unfolding flat
@@ -54,3 +54,10 @@ text-printed (placed ps vs) n places visits e =
     rw (interviews-back vs (drop (length (flat vs)) visits), ← e, take-append-seam ps (drop (length ps) places))
 text-printed (next s w vs) n places visits e = rw (interviews-back vs (drop (length (flat vs)) visits))
 text-printed (refused k i) n places visits e = refl
+
+-- the enum's values are those of the answer
+pub values-same : (a : Answer) → valuesOf (reportOf a) ≡ values a
+unfolding valuesOf reportOf values
+values-same (placed ps vs) = refl
+values-same (next s w vs) = refl
+values-same (refused k i) = refl

@@ -13,7 +13,7 @@ use model::Run;
 use model::StudentState;
 
 // Every state is set to zero.
-pub fn clear_states(states: &mut [StudentState])
+fn clear_states(states: &mut [StudentState])
     ensures { λ _. ⌜ now (states .exit) ≡ replicate (length (now (states .entry))) zeroState ⌝ }
 {
     let mut i: usize = 0;
@@ -28,7 +28,7 @@ pub fn clear_states(states: &mut [StudentState])
 }
 
 // Turns are taken until no student is in hand.
-pub fn run_all(
+fn run_all(
     case: &[u8],
     book: &[u8],
     index: &mut [u16],

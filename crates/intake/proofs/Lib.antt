@@ -5,3 +5,4 @@ pub mod Indexing
 pub mod Lowering
 pub mod Interviews
 pub mod Sides
+pub mod Seeing

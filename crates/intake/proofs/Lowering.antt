@@ -2,16 +2,11 @@
 use Prim.Native.Nat.{ℕ, _+_, _≤_, _<_, max, min}
 use mathlib.Core.Path.{_≡_, refl, sym, ap, _∙_}
 use mathlib.Core.Logic.{_⊎_, inl, inr, ⊎-elim}
-use mathlib.Core.Bool.{false}
 use mathlib.Core.List.{List}
 use native.Mathlib.Omega.{arith}
 use lib.ListN.{length, getD, set, take, length-set}
 use lib.Seq.{getD-set-same, getD-set-other, getD-take, length-take-le}
-use lib.Dec.{eqb}
-use borrow.Author.Tests.{eq-eqb}
-use Rattle.base.specs.Below.{anyBelow}
-use Rattle.base.proofs.Tests.{less?, never}
-use Rattle.base.proofs.Below.{any-fails}
+use Rattle.base.proofs.Tests.{less?}
 use Rattle.intake.specs.Ties.{Lowered, LoweredBy}
 
 module _ (key number : ℕ → ℕ) where
@@ -52,7 +47,7 @@ module _ (key number : ℕ → ℕ) where
     earlier : (mid ≡ low) ⊎ ((k : ℕ) × (j : ℕ) × (k < i + 1) × (j < k) × (key j ≡ key k) × (mid ≡ max (number k) (number j)))
     earlier = ⊎-elim inl (λ r. inr (r .0, r .1, omega (arith, r .2), r .3, r .4, r .5)) (h .reached)
 
-    pub all-skip : anyBelow (λ j. eqb (key j) (key i)) i ≡ false → Lowered key number (i + 1) low mid
+    pub all-skip : ((j : ℕ) → j < i → key j ≡ key i → ⊥) → Lowered key number (i + 1) low mid
     all-skip f =
         record {
           least = h .least;
@@ -60,7 +55,7 @@ module _ (key number : ℕ → ℕ) where
               ⊎-elim (λ (q : k < i). h .below k j q m e)
               (λ (q : i ≤ k).
               let t : k ≡ i = omega arith in
-              never (eq-eqb (key j) (key i) (e ∙ ap key t)) (any-fails (λ j. eqb (key j) (key i)) i f j (omega arith)))
+              absurd (f j (omega arith) (e ∙ ap key t)))
               (less? k i);
           reached = earlier;
         }

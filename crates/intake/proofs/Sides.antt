@@ -247,10 +247,10 @@ module _ (case book index : List ℕ) (first : ℕ) (I : Indexed case book index
       }
 
   -- ---- both sides
-  some-tie : ℕ → ℕ → Bool
+  unfoldable pub some-tie : ℕ → ℕ → Bool
   some-tie i j = sideTies true case book i j || sideTies false case book i j
 
-  tie-is : (i : ℕ) → i < entryCount book → badTie (rows case) (entries book) i ≡ anyBelow (some-tie i) i
+  pub tie-is : (i : ℕ) → i < entryCount book → badTie (rows case) (entries book) i ≡ anyBelow (some-tie i) i
   unfolding badTie entries some-tie
   tie-is i l =
       rw (entry-is book i l)

@@ -3,3 +3,4 @@ pub mod Order
 pub mod Checked
 pub mod Index
 pub mod Ties
+pub mod Seen

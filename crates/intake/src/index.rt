@@ -4,8 +4,9 @@ ghost use mathlib.Core.Option.{none};
 ghost use Prim.Native.Nat.{_≤_};
 ghost use lib.ListN.{length, replicate};
 ghost use Rattle.base.specs.Search.{firstBad, orEnd};
-ghost use Rattle.format.specs.Layout.{rows, entries, entryCount};
+ghost use Rattle.format.specs.Layout.{rows, entries, rowCount, entryCount};
 ghost use Rattle.format.specs.Refusals.{badPair, badRepeat};
+ghost use Rattle.records.specs.Records.{pairPlace};
 ghost use Rattle.intake.specs.Checked.{CleanCase, pairCount};
 ghost use Rattle.intake.specs.Index.{lentIndex};
 
@@ -18,6 +19,16 @@ pub fn clear(index: &mut [u16])
         index[i] = 0;
         i += 1;
     }
+}
+
+// The place of the pair's record, or how many records there are: first where it stands if all pairs have a record.
+pub fn place(case: &[u8], rows: usize, students: usize, workshops: usize, s: u16, w: u16) -> usize
+    requires { ⌜ rows ≡ rowCount (now case) ⌝ }
+    requires { ⌜ CleanCase (now case) students workshops ⌝ }
+    ensures { λ r. ⌜ r ≡ pairPlace (now (case .entry)) s w ⌝ }
+{
+    let guess = students - 1 + workshops * (s as usize) + w as usize;
+    records::find_pair_at(case, rows, guess, s, w)
 }
 
 // Each book record leaves its number at its pair's place. The first record whose pair has one already, or how many there are.
@@ -35,7 +46,7 @@ pub fn fill(case: &[u8], book: &[u8], students: usize, workshops: usize, index: 
     let mut i = 0;
     while i < count {
         let e = reader::entry_of(book, i);
-        let k = records::find_pair(case, n, e.student, e.workshop) - from;
+        let k = place(case, n, students, workshops, e.student, e.workshop) - from;
         if index[k] != 0 {
             return i;
         }

@@ -56,7 +56,7 @@ fn check_case(case: &[u8], book: &[u8]) -> Checked
     if case.len() % 16 != 0 {
         return refused(1, 0);
     }
-    let form = scans::first_bad(2, case, book);
+    let form = scans::first_bad(2, case, book, 0, 0);
     if form < rows {
         return refused(2, form);
     }
@@ -70,7 +70,7 @@ fn check_case(case: &[u8], book: &[u8]) -> Checked
     if bad_counts(students, workshops) {
         return refused(4, 0);
     }
-    let range = scans::first_bad(5, case, book);
+    let range = scans::first_bad(5, case, book, 0, 0);
     if range < rows {
         return refused(5, range);
     }
@@ -99,11 +99,11 @@ fn check_book(
     if book.len() % 8 != 0 {
         return refused(7, 0);
     }
-    let pair = scans::first_bad(8, case, book);
+    let pair = scans::first_bad(8, case, book, students, workshops);
     if pair < n {
         return refused(8, pair);
     }
-    let score = scans::first_bad(9, case, book);
+    let score = scans::first_bad(9, case, book, students, workshops);
     if score < n {
         return refused(9, score);
     }

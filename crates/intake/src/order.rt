@@ -41,6 +41,9 @@ fn out_of_order(case: &[u8], i: usize, students: usize, workshops: usize) -> boo
         | ((r.kind == 2) & (first != workshops + 1));
     let rises = (p.first < r.first) | ((p.first == r.first) & (p.second < r.second));
     let nobody = ((first < 1) | (students < first)) | ((second < 1) | (workshops < second));
+    if (r.kind == 3) & (p.kind == 3) {
+        return !rises | nobody;
+    }
     ((r.kind < p.kind) | number)
         | ((((r.kind == 3) & (p.kind == 3)) & !rises) | ((r.kind == 3) & nobody))
 }

@@ -1,11 +1,12 @@
 // The causes that test each record by itself, and one scan for all of them.
+use super::index::place;
 ghost use mathlib.Core.Path.{_≡_};
 ghost use Prim.Native.Nat.{_<_};
 ghost use Rattle.base.specs.Search.{firstBad, orEnd};
 ghost use Rattle.format.specs.Layout.{rows, entries, rowCount, entryCount};
 ghost use Rattle.format.specs.Refusals.{badForm, badRange, badPair, badScores};
-ghost use Rattle.records.specs.Records.{PairsSorted};
 ghost use Rattle.intake.specs.Scans.{recordsOf, badBy};
+ghost use Rattle.intake.specs.Checked.{CleanCase};
 
 // 2: kind not 1 to 3, or a byte that should be zero.
 fn bad_form(case: &[u8], i: usize) -> bool
@@ -23,21 +24,24 @@ fn bad_range(case: &[u8], i: usize) -> bool
     ensures { λ v. ⌜ v ≡ badRange (rows (now (case .entry))) i ⌝ }
 {
     let r = records::row_at(case, i);
+    let tiers = ((r.third < 1) | (65 < r.third)) | ((r.fourth < 1) | (513 < r.fourth));
+    if r.kind == 3 {
+        return tiers;
+    }
     let student = ((r.second < 1) | (512 < r.second)) | ((r.third < 1) | (65 < r.third));
     let workshop = (512 < r.second) | ((r.third < 1) | (513 < r.third));
-    let tiers = ((r.third < 1) | (65 < r.third)) | ((r.fourth < 1) | (513 < r.fourth));
     ((r.kind == 1) & student) | (((r.kind == 2) & workshop) | ((r.kind == 3) & tiers))
 }
 
 // 8: a book record without its pair.
-fn bad_pair(case: &[u8], book: &[u8], i: usize) -> bool
+fn bad_pair(case: &[u8], book: &[u8], students: usize, workshops: usize, i: usize) -> bool
     requires { ⌜ i < entryCount (now book) ⌝ }
-    requires { ⌜ PairsSorted (now case) ⌝ }
+    requires { ⌜ CleanCase (now case) students workshops ⌝ }
     ensures { λ v. ⌜ v ≡ badPair (rows (now (case .entry))) (entries (now (book .entry))) i ⌝ }
 {
     let n = records::row_count(case.len());
     let e = reader::entry_of(book, i);
-    n <= records::find_pair(case, n, e.student, e.workshop)
+    n <= place(case, n, students, workshops, e.student, e.workshop)
 }
 
 // 9: a score that is 0 or out of range.
@@ -50,15 +54,15 @@ fn bad_scores(case: &[u8], book: &[u8], i: usize) -> bool
 }
 
 // What the cause tests of record i.
-fn is_bad(cause: u16, case: &[u8], book: &[u8], i: usize) -> bool
+fn is_bad(cause: u16, case: &[u8], book: &[u8], students: usize, workshops: usize, i: usize) -> bool
     requires { ⌜ i < recordsOf cause (now case) (now book) ⌝ }
-    requires { ⌜ (cause ≡ 8 → PairsSorted (now case)) ⌝ }
+    requires { ⌜ (cause ≡ 8 → CleanCase (now case) students workshops) ⌝ }
     ensures { λ v. ⌜ v ≡ badBy cause (now (case .entry)) (now (book .entry)) i ⌝ }
 {
     match cause {
         2 => bad_form(case, i),
         5 => bad_range(case, i),
-        8 => bad_pair(case, book, i),
+        8 => bad_pair(case, book, students, workshops, i),
         9 => bad_scores(case, book, i),
         _ => false,
     }
@@ -75,16 +79,16 @@ fn records_of(cause: u16, case: &[u8], book: &[u8]) -> usize
     }
 }
 
-// The first record that the cause finds, or how many there are.
-pub fn first_bad(cause: u16, case: &[u8], book: &[u8]) -> usize
-    requires { ⌜ (cause ≡ 8 → PairsSorted (now case)) ⌝ }
+// The first record that the cause finds, or how many there are. The counts of the case matter to cause 8 alone.
+pub fn first_bad(cause: u16, case: &[u8], book: &[u8], students: usize, workshops: usize) -> usize
+    requires { ⌜ (cause ≡ 8 → CleanCase (now case) students workshops) ⌝ }
     ensures { λ r. ⌜ r ≡ orEnd (recordsOf cause (now (case .entry)) (now (book .entry)))
         (firstBad (badBy cause (now (case .entry)) (now (book .entry))) (recordsOf cause (now (case .entry)) (now (book .entry)))) ⌝ }
 {
     let n = records_of(cause, case, book);
     let mut i = 0;
     while i < n {
-        if is_bad(cause, case, book, i) {
+        if is_bad(cause, case, book, students, workshops, i) {
             return i;
         }
         i += 1;

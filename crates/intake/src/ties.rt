@@ -1,32 +1,36 @@
 // Cause 11: one person gave an equal score earlier in the same tier. Person by person, the interviews are compared by keys; of all records that
 // tie with an earlier one the lowest is kept, counted from 1.
+use super::index::place;
 ghost use mathlib.Core.Path.{_≡_};
 ghost use mathlib.Core.Bool.{not, cond};
 ghost use Prim.Native.Nat.{suc, _+_, _*_, _≤_, _<_, max, min};
 ghost use lib.ListN.{length, getD};
-ghost use lib.Dec.{eqb};
-ghost use Rattle.base.specs.Below.{anyBelow};
 ghost use Rattle.base.specs.Search.{firstBad, orEnd};
 ghost use Rattle.format.specs.Layout.{rows, entries, entryCount};
 ghost use Rattle.format.specs.Refusals.{badTie};
 ghost use Rattle.format.specs.Engine.{marketIn};
 ghost use Rattle.intake.specs.Ties.{Indexed, personsOf, numberOf, keyOf, Lowered, LoweredBy, LoweredOn};
+ghost use Rattle.intake.specs.Seen.{Met, slotOf};
 
 // ---- one person's interviews, by their keys and the numbers of their records
 
-// An earlier interview has the key of interview i. No way out of the loop: it is the one that runs longest.
-fn repeats(keys: &[u32], i: usize) -> bool
-    requires { ⌜ i < length (now keys) ⌝ }
-    ensures { λ r. ⌜ r ≡ anyBelow (λ j. eqb (getD (now (keys .entry)) j 0) (getD (now (keys .entry)) i 0)) i ⌝ }
+// Whether the slot was met before. It is from now on.
+fn met(seen: &mut [u64], slot: usize) -> bool
+    requires { ⌜ slot < 64 * length (now seen) ⌝ }
+    ensures { λ r. ⌜ Met (now (seen .entry)) (now (seen .exit)) slot r ⌝ }
 {
-    let key = keys[i];
-    let mut found = false;
-    let mut j = 0;
-    while j < i {
-        found = found | (keys[j] == key);
-        j += 1;
-    }
-    found
+    let at = slot / 64;
+    let digit = slot % 64;
+    let word = seen[at];
+    seen[at] = word | (1u64 << digit);
+    (word >> digit) % 2 == 1
+}
+
+// The slot of a key. Two keys may share one.
+fn slot_of(key: u32) -> usize
+    ensures { λ r. ⌜ r ≡ slotOf key ⌝ }
+{
+    (key as usize / 65536 * 2048 + key as usize % 2048) % 16384
 }
 
 fn later(a: u16, b: u16) -> usize
@@ -59,15 +63,16 @@ fn lower(keys: &[u32], numbers: &[u16], i: usize, low: usize) -> usize
     after
 }
 
-// The same for all interviews.
-fn lowest(keys: &[u32], numbers: &[u16], low: usize) -> usize
+// The same for all interviews. Where a key's slot was not met there is no earlier interview with the key.
+fn lower_all(keys: &[u32], numbers: &[u16], seen: &mut [u64], low: usize) -> usize
     requires { ⌜ length (now numbers) ≡ length (now keys) ⌝ }
+    requires { ⌜ length (now seen) ≡ 256 ⌝ }
     ensures { λ r. ⌜ Lowered (λ k. getD (now (keys .entry)) k 0) (λ k. getD (now (numbers .entry)) k 0) (length (now (keys .entry))) low r ⌝ }
 {
     let mut after = low;
     let mut i = 0;
     while i < keys.len() {
-        if repeats(keys, i) {
+        if met(seen, slot_of(keys[i])) {
             after = lower(keys, numbers, i, after);
             i += 1;
         } else {
@@ -75,6 +80,15 @@ fn lowest(keys: &[u32], numbers: &[u16], low: usize) -> usize
         }
     }
     after
+}
+
+// The same, no slot met at first.
+fn lowest(keys: &[u32], numbers: &[u16], low: usize) -> usize
+    requires { ⌜ length (now numbers) ≡ length (now keys) ⌝ }
+    ensures { λ r. ⌜ Lowered (λ k. getD (now (keys .entry)) k 0) (λ k. getD (now (numbers .entry)) k 0) (length (now (keys .entry))) low r ⌝ }
+{
+    let mut seen = [0u64; 256];
+    lower_all(keys, numbers, &mut seen, low)
 }
 
 // ---- a person's interviews from the case, the book and the index
@@ -91,6 +105,15 @@ fn pick(first: bool, x: u16, y: u16) -> u16
     if first { x } else { y }
 }
 
+fn no_interview(y: u16) -> Interview
+    ensures { λ r. ⌜ (r .number ≡ 0) × (r .key ≡ y) ⌝ }
+{
+    Interview {
+        number: 0,
+        key: y as u32,
+    }
+}
+
 fn joined(tier: u16, score: u16) -> u32
     ensures { λ r. ⌜ r ≡ tier * 65536 + score ⌝ }
 {
@@ -103,27 +126,25 @@ fn interview_of(
     book: &[u8],
     index: &[u16],
     from: usize,
+    workshops: usize,
     student: bool,
     x: u16,
     y: u16,
 ) -> Interview
     requires { ⌜ Indexed (now case) (now book) (now index) from ⌝ }
+    requires { ⌜ workshops ≡ marketIn (now case) .workshops ⌝ }
     ensures { λ r. ⌜ (r .number ≡ numberOf student (now (book .entry)) x y) × (r .key ≡ keyOf student (now (case .entry)) (now (book .entry)) x y) ⌝ }
 {
     let n = records::row_count(case.len());
-    let p = records::find_pair(case, n, pick(student, x, y), pick(student, y, x));
+    let s = pick(student, x, y);
+    let w = pick(student, y, x);
+    let p = place(case, n, from - workshops, workshops, s, w);
     if n <= p {
-        return Interview {
-            number: 0,
-            key: y as u32,
-        };
+        return no_interview(y);
     }
     let number = index[p - from];
     if number < 1 {
-        return Interview {
-            number: 0,
-            key: y as u32,
-        };
+        return no_interview(y);
     }
     let r = records::row_at(case, p);
     let at = 8 * (number as usize - 1);
@@ -145,20 +166,30 @@ fn tie_of(
     book: &[u8],
     index: &[u16],
     from: usize,
+    workshops: usize,
     student: bool,
     x: u16,
     others: usize,
     low: usize,
 ) -> usize
     requires { ⌜ Indexed (now case) (now book) (now index) from ⌝ }
-    requires { ⌜ others ≤ 512 ⌝ }
+    requires { ⌜ (others ≤ 512) × (workshops ≡ marketIn (now case) .workshops) ⌝ }
     ensures { λ r. ⌜ Lowered (λ k. keyOf student (now (case .entry)) (now (book .entry)) x (suc k)) (λ k. numberOf student (now (book .entry)) x (suc k)) others low r ⌝ }
 {
     let mut keys = [0u32; 512];
     let mut numbers = [0u16; 512];
     let mut k = 0;
     while k < others {
-        let v = interview_of(case, book, index, from, student, x, (k + 1) as u16);
+        let v = interview_of(
+            case,
+            book,
+            index,
+            from,
+            workshops,
+            student,
+            x,
+            (k + 1) as u16,
+        );
         keys[k] = v.key;
         numbers[k] = v.number;
         k += 1;
@@ -172,13 +203,14 @@ fn ties_on(
     book: &[u8],
     index: &[u16],
     from: usize,
+    workshops: usize,
     student: bool,
     persons: usize,
     others: usize,
     low: usize,
 ) -> usize
     requires { ⌜ Indexed (now case) (now book) (now index) from ⌝ }
-    requires { ⌜ (persons ≡ personsOf student (now case)) × (others ≡ personsOf (not student) (now case)) ⌝ }
+    requires { ⌜ (persons ≡ personsOf student (now case)) × (others ≡ personsOf (not student) (now case)) × (workshops ≡ marketIn (now case) .workshops) ⌝ }
     ensures { λ r. ⌜ LoweredOn student (now (case .entry)) (now (book .entry)) persons low r ⌝ }
 {
     let mut after = low;
@@ -189,6 +221,7 @@ fn ties_on(
             book,
             index,
             from,
+            workshops,
             student,
             (x + 1) as u16,
             others,
@@ -199,7 +232,7 @@ fn ties_on(
     after
 }
 
-// The first record that ties with an earlier one, or how many there are.
+// The first record that ties with an earlier one, or how many there are, from the lowest of both sides.
 pub fn first_tie(
     case: &[u8],
     book: &[u8],
@@ -214,6 +247,27 @@ pub fn first_tie(
 {
     let n = records::entry_count(book.len());
     let from = students + workshops;
-    let low = ties_on(case, book, index, from, true, students, workshops, n + 1);
-    ties_on(case, book, index, from, false, workshops, students, low) - 1
+    let low = ties_on(
+        case,
+        book,
+        index,
+        from,
+        workshops,
+        true,
+        students,
+        workshops,
+        n + 1,
+    );
+    ties_on(
+        case,
+        book,
+        index,
+        from,
+        workshops,
+        false,
+        workshops,
+        students,
+        low,
+    )
+        - 1
 }

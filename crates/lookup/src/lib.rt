@@ -6,9 +6,9 @@ ghost use Rattle.base.specs.Words.{biased};
 ghost use Rattle.lgs.specs.Market.{studentOutside, workshopOutside};
 ghost use Rattle.format.specs.Layout.{rowAt, rowCount, entryAt, entryCount};
 ghost use Rattle.format.specs.Engine.{marketIn, resultsIn};
-ghost use Rattle.records.specs.Records.{PairsSorted, pairPlace};
+ghost use Rattle.records.specs.Records.{pairPlace};
 ghost use Rattle.model.specs.Ready.{Booked};
-ghost use Rattle.lookup.specs.Clean.{StudentAt, WorkshopAt, Clean};
+ghost use Rattle.lookup.specs.Clean.{StudentAt, WorkshopAt, PairsFound, Clean};
 
 // ---- a student's and a workshop's own record
 
@@ -42,13 +42,15 @@ pub fn workshop_outside(case: &[u8], students: usize, w: usize) -> u16
 
 // ---- a pair's record
 
-// The number of the pair's record, or how many records there are.
-pub fn pair_of(case: &[u8], s: usize, w: usize) -> usize
-    requires { ⌜ (s < 65536) × (w < 65536) ⌝ }
-    requires { ⌜ PairsSorted (now case) ⌝ }
+// The number of the pair's record, or how many records there are. Where all pairs stand in the case it is known; else it is searched.
+pub fn pair_of(case: &[u8], students: usize, workshops: usize, s: usize, w: usize) -> usize
+    requires { ⌜ (s < 65536) × (1 ≤ w) × (w < 65536) ⌝ }
+    requires { ⌜ PairsFound (now case) students workshops ⌝ }
     ensures { λ r. ⌜ r ≡ pairPlace (now (case .entry)) s w ⌝ }
 {
-    records::find_pair(case, records::row_count(case.len()), s as u16, w as u16)
+    let guess = students + s * workshops + w - 1;
+    let rows = records::row_count(case.len());
+    records::find_pair_at(case, rows, guess, s as u16, w as u16)
 }
 
 // The student's tier for the workshop, from the pair's record.
@@ -79,7 +81,7 @@ pub fn entry_of(index: &[u16], first: usize, pair: usize) -> usize
 }
 
 // The score that the student gave, from book record e - 1.
-pub fn student_score(book: &[u8], e: usize) -> i16
+fn student_score(book: &[u8], e: usize) -> i16
     requires { ⌜ (1 ≤ e) × (e ≤ entryCount (now book)) ⌝ }
     ensures { λ r. ⌜ biased r ≡ entryAt (now (book .entry)) (e - 1) .studentScore ⌝ }
 {
@@ -108,7 +110,7 @@ pub fn student_score_of(
     requires { ⌜ Booked (marketIn (now case)) (resultsIn (now book)) s w ⌝ }
     ensures { λ r. ⌜ biased r ≡ resultsIn (now (book .entry)) .studentScore s w ⌝ }
 {
-    let pair = pair_of(case, s, w);
+    let pair = pair_of(case, students, workshops, s, w);
     student_score(book, entry_of(index, students + workshops, pair))
 }
 
@@ -132,7 +134,7 @@ pub fn standing_of(
     ensures { λ r. ⌜ r .tier ≡ marketIn (now (case .entry)) .workshopTier w s ⌝ }
     ensures { λ r. ⌜ biased (r .score) ≡ resultsIn (now (book .entry)) .workshopScore w s ⌝ }
 {
-    let pair = pair_of(case, s, w);
+    let pair = pair_of(case, students, workshops, s, w);
     Standing {
         tier: workshop_tier(case, pair),
         score: workshop_score(book, entry_of(index, students + workshops, pair)),

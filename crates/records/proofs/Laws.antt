@@ -15,13 +15,13 @@ use mir.Val.{SFits, toZ, ofZ}
 use borrow.Author.Tests.{lt-ltb, le-ltb, ltb-true, eq-eqb, ne-eqb}
 use Rattle.base.specs.Words.{biased, word}
 use Rattle.base.specs.Search.{firstBad}
-use Rattle.base.proofs.Tests.{bool-cases, eq?}
-use Rattle.base.proofs.Search.{scan-same, is-key, Halved, halve-found, halve-none}
+use Rattle.base.proofs.Tests.{bool-cases, is-false, eq?}
+use Rattle.base.proofs.Search.{scan-none, scan-found, scan-same, is-key, Halved, halve-found, halve-none}
 use Rattle.base.proofs.Signed.{code-less, code-zero}
 use Rattle.format.specs.Layout.{Row, rowAt, rowCount, isPair}
 use Rattle.format.specs.Refusals.{badScore}
-use Rattle.format.proofs.Positions.{Clean, Before, kind-rises, kind-within, pair-rises}
-use Rattle.records.specs.Records.{pairKey, PairsSorted, pairPlace}
+use Rattle.format.proofs.Positions.{Clean, Before, kind-rises, kind-within, pair-rises, pair-only}
+use Rattle.records.specs.Records.{pairKey, PairsSorted, PairsOnce, pairPlace}
 
 -- -1000 to 1000 and not 0
 module _ (a : ℤ) (f : SFits w16 a) where
@@ -91,6 +91,20 @@ module _ (case : List ℕ) (s w x : ℕ) (f : (k : ℕ) → getD case k 0 < 256)
 
     pub missing : PairsSorted case → hi ≤ lo → (lo < rowCount case → keysOf case lo ≡ x → ⊥) → rowCount case ≡ pairPlace case s w
     missing r a q = sym (rw (by-key, halve-none (keysOf case) (rowCount case) x r lo hi h a q))
+
+  -- a record with the pair's key is the one that the search finds
+  pub guessed : PairsOnce case → (g : ℕ) → g < rowCount case → keysOf case g ≡ x → g ≡ pairPlace case s w
+  guessed o g l q =
+      let p : isPair s w (rowAt case g) ≡ true = pair-by-key (rowAt case g) s w (second-fits case f g) b ∙ eq-eqb (keysOf case g) (s * 65536 + w + 1) (q ∙ e) in
+      sym
+      (rw
+      (scan-found (λ i. isPair s w (rowAt case i)) g (rowCount case)
+      (scan-none (λ i. isPair s w (rowAt case i)) g (λ k m. is-false (isPair s w (rowAt case k)) (λ t. omega (arith, o .once s w k g (omega arith) l t p))))
+      p l))
+
+-- the pairs of a case that passes causes 2 and 3 have one record each
+pub pairs-once : (case : List ℕ) → Clean case (rowCount case) → PairsOnce case
+pairs-once case c = record { once = λ s w i j a d p q. pair-only case c s w i j a d p q }
 
 -- the records of a case that passes causes 2 and 3 stand in the order of their keys
 pub pairs-sorted : (case : List ℕ) → ((k : ℕ) → getD case k 0 < 256) → Clean case (rowCount case) → PairsSorted case

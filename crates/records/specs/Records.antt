@@ -1,6 +1,7 @@
 -- The code's records as the layout's, and the order in which a pair is looked up.
-use Prim.Native.Nat.{ℕ, suc, _+_, _*_}
-use mathlib.Core.Bool.{cond}
+use Prim.Native.Nat.{ℕ, suc, _+_, _*_, _<_}
+use mathlib.Core.Path.{_≡_}
+use mathlib.Core.Bool.{true, cond}
 use mathlib.Core.List.{List}
 use lib.Dec.{eqb}
 use Rattle.base.specs.Words.{biased}
@@ -40,6 +41,10 @@ pairKey r = cond (eqb (r .kind) 3) (suc (r .first * 65536 + r .second)) 0
 -- the records stand in that order: so it is where causes 2 and 3 find nothing
 abbrev pub PairsSorted : List ℕ → Type 0
 PairsSorted case = NotFalling (λ i. pairKey (rowAt case i)) (rowCount case)
+
+-- no pair has two records: so it is where causes 2 and 3 find nothing
+pub record PairsOnce (case : List ℕ) : Type 0 where
+  pub once : (s w i j : ℕ) → i < rowCount case → j < rowCount case → isPair s w (rowAt case i) ≡ true → isPair s w (rowAt case j) ≡ true → i ≡ j
 
 -- the place of the pair's record, or how many records there are
 abbrev pub pairPlace : List ℕ → ℕ → ℕ → ℕ

@@ -7,7 +7,7 @@ ghost use lib.Dec.{ltb};
 ghost use Rattle.base.specs.Words.{word, signed, biased};
 ghost use Rattle.format.specs.Layout.{rowAt, entryAt, rowCount, entryCount, outsideScore};
 ghost use Rattle.format.specs.Refusals.{badScore};
-ghost use Rattle.records.specs.Records.{rowOf, entryOf, pairKey, PairsSorted, pairPlace};
+ghost use Rattle.records.specs.Records.{rowOf, entryOf, pairKey, PairsSorted, PairsOnce, pairPlace};
 
 // A record of the case, as the layout has it: `rest` is the sum of the three fields from byte 10.
 pub struct Row {
@@ -46,7 +46,7 @@ pub fn u16_at(bytes: &[u8], at: usize) -> u16
 // ---- scores
 
 // Two stored bytes become a score.
-pub fn score_of(v: u16) -> i16
+fn score_of(v: u16) -> i16
     ensures { λ r. ⌜ biased r ≡ (v + 32768) % 65536 ⌝ }
 {
     if v < 32768 {
@@ -175,7 +175,7 @@ fn key_at(case: &[u8], i: usize) -> u64
 }
 
 // The number of the pair's record, or `rows` where there is none: by halving, what a search from the front finds.
-pub fn find_pair(case: &[u8], rows: usize, s: u16, w: u16) -> usize
+fn find_pair(case: &[u8], rows: usize, s: u16, w: u16) -> usize
     requires { ⌜ rows ≡ rowCount (now case) ⌝ }
     requires { ⌜ PairsSorted (now case) ⌝ }
     ensures { λ r. ⌜ r ≡ pairPlace (now (case .entry)) s w ⌝ }
@@ -197,4 +197,19 @@ pub fn find_pair(case: &[u8], rows: usize, s: u16, w: u16) -> usize
         }
     }
     rows
+}
+
+// Record `guess` where it is the pair's, and else what the lookup finds.
+pub fn find_pair_at(case: &[u8], rows: usize, guess: usize, s: u16, w: u16) -> usize
+    requires { ⌜ rows ≡ rowCount (now case) ⌝ }
+    requires { ⌜ PairsSorted (now case) ⌝ }
+    requires { ⌜ PairsOnce (now case) ⌝ }
+    ensures { λ r. ⌜ r ≡ pairPlace (now (case .entry)) s w ⌝ }
+{
+    if guess < rows {
+        if key_at(case, guess) == key_of(s, w) {
+            return guess;
+        }
+    }
+    find_pair(case, rows, s, w)
 }

@@ -2,15 +2,17 @@
 use Prim.Native.Nat.{ℕ, zero, suc, _+_, _-_, _≤_, _<_, min}
 use mathlib.Core.Path.{_≡_, refl, sym, ap, _∙_}
 use mathlib.Core.Logic.{⊎-elim}
-use mathlib.Core.Bool.{true, false}
+use mathlib.Core.Bool.{Bool, true, false, _&&_, _||_}
 use mathlib.Core.List.{List, [], _∷_, _++_, append-nil}
 use native.Mathlib.Omega.{arith}
 use native.Mathlib.Numerals.{add-one}
 use lib.ListN.{length, getD, take, drop, set, length-set, length-take, drop-of-length-le}
 use lib.Seq.{drop-cons, drop-drop, take-suc, take-all, append-snoc, getD-drop, set-split, take-suc-set, drop-set-lt}
-use lib.Dec.{eqb}
+use lib.Dec.{eqb, ltb}
+use lib.IntN.{ℤ}
 use borrow.Author.Tests.{eq-eqb, ne-eqb}
 use Rattle.base.specs.Lists.{total}
+use Rattle.base.specs.Words.{biased}
 use Rattle.base.proofs.Tests.{less?}
 use Rattle.lgs.specs.Market.{Market, Results}
 use Rattle.model.specs.Model.{before}
@@ -18,6 +20,15 @@ use Rattle.model.specs.Store.{pushPadded, seatsFrom, part, lastOf}
 
 pub positive : (y : ℕ) → (y ≡ 0 → ⊥) → 0 < y
 positive y f = ⊎-elim (λ (l : 0 < y). l) (λ (l : y ≤ 0). absurd (f (omega arith))) (less? 0 y)
+
+-- student x stands in tier t at workshop w, with the score a
+pub record Stands (M : Market) (B : Results) (w x t : ℕ) (a : ℤ) : Type 0 where
+  pub tier : t ≡ M .workshopTier w x
+  pub score : biased a ≡ B .workshopScore w x
+
+pub before-by : (M : Market) (B : Results) (w x y t u : ℕ) (a b : ℤ) → Stands M B w x t a → Stands M B w y u b → (r : Bool) → r ≡ (ltb t u || (eqb t u && ltb (biased b) (biased a))) → before M B w x y ≡ r
+unfolding before
+before-by M B w x y t u a b p q r e = sym (e ∙ rw (p .tier, p .score, q .tier, q .score))
 
 -- x walks through the seats l: so far the part has become `part`, and after the first i seats `hand` is the one without a seat
 pub record Pushing (M : Market) (B : Results) (w x : ℕ) (l part : List ℕ) (i hand : ℕ) : Type 0 where

@@ -1,37 +1,26 @@
 // A workshop's seats: who ranks before whom, who takes a seat and who loses it, and where the workshop's part of the seat slice lies.
 ghost use mathlib.Core.Path.{_≡_};
+ghost use mathlib.Core.Bool.{_&&_, _||_};
 ghost use Prim.Native.Nat.{ℕ, _+_, _≤_, _<_};
 ghost use lib.ListN.{length, getD};
+ghost use lib.Dec.{eqb, ltb};
 ghost use Rattle.base.specs.Lists.{total};
+ghost use Rattle.base.specs.Words.{biased};
+ghost use Rattle.lgs.specs.Market.{Market};
 ghost use Rattle.format.specs.Engine.{marketIn, resultsIn};
-ghost use Rattle.model.specs.Model.{before};
 ghost use Rattle.model.specs.Store.{pushPadded, seatsFrom, part, putPart, lastOf};
 ghost use Rattle.model.specs.Ready.{Booked};
 ghost use Rattle.lookup.specs.Clean.{WorkshopAt, Clean};
 
-// Workshop w ranks student x before student y: by tier, and inside a tier by score.
-pub fn ranks_before(
-    case: &[u8],
-    book: &[u8],
-    index: &[u16],
-    students: usize,
-    workshops: usize,
-    w: usize,
-    x: usize,
-    y: usize,
-) -> bool
-    requires { ⌜ Clean (now case) (now book) (now index) students workshops ⌝ }
-    requires { ⌜ Booked (marketIn (now case)) (resultsIn (now book)) x w ⌝ }
-    requires { ⌜ Booked (marketIn (now case)) (resultsIn (now book)) y w ⌝ }
-    ensures { λ r. ⌜ r ≡ before (marketIn (now (case .entry))) (resultsIn (now (book .entry))) w x y ⌝ }
+// Whoever stands in tier t with score a ranks before whoever stands in tier u with score b: by tier, and inside a tier by score.
+fn ranks_before(t: u16, a: i16, u: u16, b: i16) -> bool
+    ensures { λ r. ⌜ r ≡ (ltb t u || (eqb t u && ltb (biased b) (biased a))) ⌝ }
 {
-    let a = lookup::standing_of(case, book, index, students, workshops, x, w);
-    let b = lookup::standing_of(case, book, index, students, workshops, y, w);
-    (a.tier < b.tier) | ((a.tier == b.tier) & records::above(a.score, b.score))
+    (t < u) | ((t == u) & records::above(a, b))
 }
 
 // Student x takes her place in workshop w's part of the seats, best first. Whoever has no seat left is handed back, or 0.
-pub fn seat(
+fn seat(
     part: &mut [u16],
     case: &[u8],
     book: &[u8],
@@ -47,7 +36,10 @@ pub fn seat(
     ensures { λ r. ⌜ now (part .exit) ≡ pushPadded (marketIn (now (case .entry))) (resultsIn (now (book .entry))) w x (now (part .entry)) .0 ⌝ }
     ensures { λ r. ⌜ r ≡ pushPadded (marketIn (now (case .entry))) (resultsIn (now (book .entry))) w x (now (part .entry)) .1 ⌝ }
 {
+    let own = lookup::standing_of(case, book, index, students, workshops, x as usize, w);
     let mut hand = x;
+    let mut tier = own.tier;
+    let mut score = own.score;
     let mut i = 0;
     while i < part.len() {
         let y = part[i];
@@ -55,18 +47,12 @@ pub fn seat(
             part[i] = hand;
             return 0;
         }
-        if ranks_before(
-            case,
-            book,
-            index,
-            students,
-            workshops,
-            w,
-            hand as usize,
-            y as usize,
-        ) {
+        let other = lookup::standing_of(case, book, index, students, workshops, y as usize, w);
+        if ranks_before(tier, score, other.tier, other.score) {
             part[i] = hand;
             hand = y;
+            tier = other.tier;
+            score = other.score;
             i += 1;
         } else {
             i += 1;
@@ -76,7 +62,7 @@ pub fn seat(
 }
 
 // Where the part of workshop w starts: the seats of the workshops before it.
-pub fn start_of(case: &[u8], students: usize, w: usize) -> usize
+fn start_of(case: &[u8], students: usize, w: usize) -> usize
     requires { ⌜ (1 ≤ w) × (w ≤ 64) ⌝ }
     requires { ⌜ ((v : ℕ) → 1 ≤ v → v ≤ w → WorkshopAt (now case) students v) ⌝ }
     ensures { λ r. ⌜ r ≡ seatsFrom (marketIn (now (case .entry))) w ⌝ }
@@ -90,18 +76,15 @@ pub fn start_of(case: &[u8], students: usize, w: usize) -> usize
     sum
 }
 
-// Who has the last seat of workshop w, or 0: nobody where it is free, or where the workshop has no seats.
-pub fn last_of(case: &[u8], seats: &[u16], students: usize, w: usize) -> u16
-    requires { ⌜ (1 ≤ w) × (w ≤ 64) ⌝ }
-    requires { ⌜ ((v : ℕ) → 1 ≤ v → v ≤ w → WorkshopAt (now case) students v) ⌝ }
-    requires { ⌜ total (marketIn (now case) .quota) w ≤ length (now seats) ⌝ }
-    ensures { λ r. ⌜ r ≡ lastOf (marketIn (now (case .entry))) (now (seats .entry)) w ⌝ }
+// Who has the last of `quota` seats from `start` on, or 0: nobody where it is free, or where there are no seats.
+pub fn last_of(seats: &[u16], start: usize, quota: usize) -> u16
+    requires { ⌜ start + quota ≤ length (now seats) ⌝ }
+    ensures { λ r. ⌜ ((M : Market) (w : ℕ) → start ≡ seatsFrom M w → quota ≡ M .quota w → r ≡ lastOf M (now (seats .entry)) w) ⌝ }
 {
-    let quota = lookup::quota_of(case, students, w) as usize;
     if quota == 0 {
         return 0;
     }
-    let at = start_of(case, students, w) + quota - 1;
+    let at = start + quota - 1;
     seats[at]
 }
 

@@ -5,14 +5,16 @@ use mathlib.Core.Logic.{⊎-elim}
 use mathlib.Core.Bool.{Bool, true, false, cond}
 use mathlib.Core.List.{List, [], _∷_, _++_}
 use native.Mathlib.Omega.{arith}
+use native.Mathlib.Numerals.{add-one}
 use lib.Dec.{eqb}
 use lib.ListN.{length, length-append}
 use borrow.Author.Tests.{eq-eqb, ne-eqb}
-use Rattle.base.specs.Lists.{one, count}
+use Rattle.base.specs.Lists.{one, count, total}
 use Rattle.base.proofs.Tests.{bool-cases, less?}
 use Rattle.lgs.specs.Market.{Market, Results}
 use Rattle.lgs.specs.Rule.{Interview, declined}
 use Rattle.format.specs.Buffers.{flat}
+use Rattle.model.specs.Store.{seatsFrom}
 use Rattle.model.specs.Turn.{RoundSoFar, dueAt, roundAt, roundTo, putAt, withMember}
 use Rattle.turning.specs.Round.{roundOf}
 use Rattle.turning.specs.declared.Round.{Round}
@@ -78,6 +80,15 @@ module _ (M : Market) (B : Results) (seats : List ℕ) (s t set : ℕ) where
     lacking : B .met s (suc k) ≡ false → soFar (suc k) ≡ record { interviews = soFar k .interviews; openings = soFar k .openings; missing = suc k }
     unfolding roundAt
     lacking m = come ∙ rw m
+
+-- the seats of the first k workshops, and of one more
+pub seats-before : (M : Market) (k : ℕ) → total (M .quota) k ≡ seatsFrom M (k + 1)
+unfolding seatsFrom
+seats-before M k = ap (total (M .quota)) (omega arith)
+
+pub seats-more : (f : ℕ → ℕ) (k : ℕ) → total f (k + 1) ≡ total f k + f (k + 1)
+unfolding total
+seats-more f k = rw (add-one k) (omega arith)
 
 -- after the first k workshops, of `held` interviews before and the visits `old`
 pub record Rounding (M : Market) (B : Results) (seats : List ℕ) (s t set held : ℕ) (old visits : List ℕ) (total openings k : ℕ) : Type 0 where

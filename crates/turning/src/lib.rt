@@ -2,7 +2,7 @@
 ghost use mathlib.Core.Path.{_≡_};
 ghost use mathlib.Core.Bool.{true, cond, _&&_, _||_};
 ghost use mathlib.Core.List.{List, [], _∷_};
-ghost use Prim.Native.Nat.{ℕ, suc, _+_, _*_, _≤_, _<_};
+ghost use Prim.Native.Nat.{ℕ, suc, _+_, _-_, _*_, _≤_, _<_};
 ghost use lib.ListN.{length};
 ghost use lib.Dec.{eqb, ltb};
 ghost use Rattle.base.specs.Lists.{count};
@@ -10,21 +10,22 @@ ghost use Rattle.base.specs.Words.{biased};
 ghost use Rattle.base.specs.Bits.{member, members};
 ghost use Rattle.lgs.specs.Market.{Market, Results};
 ghost use Rattle.lgs.specs.Rule.{declined};
+ghost use Rattle.format.specs.Layout.{rowAt, rowCount, entryAt, entryCount};
 ghost use Rattle.format.specs.Buffers.{flat};
 ghost use Rattle.format.specs.Engine.{marketIn, resultsIn};
 ghost use Rattle.model.specs.Model.{favourite, shutBy};
-ghost use Rattle.model.specs.Store.{comesAfter, nextIn, lastOf};
+ghost use Rattle.model.specs.Store.{comesAfter, nextIn, seatsFrom, lastOf};
 ghost use Rattle.model.specs.Turn.{toldState, withMember, favouriteIn, RoundSoFar, dueAt, roundTo, putAt, nextRun, afterRound, afterSeating, openTier, applyTo, turnOf, beginRun};
 ghost use Rattle.model.specs.Ready.{Booked, Ready};
-ghost use Rattle.records.specs.Records.{PairsSorted, pairPlace};
-ghost use Rattle.lookup.specs.Clean.{StudentAt, PairAt, Clean};
+ghost use Rattle.records.specs.Records.{pairPlace};
+ghost use Rattle.lookup.specs.Clean.{StudentAt, WorkshopAt, PairAt, PairsFound, Clean};
 ghost use Rattle.turning.specs.Round.{SeatsAt, SeatedAll, roundOf};
 use model::Run;
 use model::StudentState;
 use model::Turned;
 
 // The state of the student in hand after workshop `lost` has dropped her; 0: nobody has.
-pub fn told_state(lost: usize, state: StudentState) -> StudentState
+fn told_state(lost: usize, state: StudentState) -> StudentState
     requires { ⌜ lost ≤ 64 ⌝ }
     ensures { λ r. ⌜ r ≡ toldState lost state ⌝ }
 {
@@ -66,8 +67,25 @@ fn is_earlier(case: &[u8], t: usize, first: usize) -> bool
     lookup::stage_of(case, t) < lookup::stage_of(case, first)
 }
 
-// The first student after `last`, or 0.
-pub fn next_student(case: &[u8], students: usize, last: usize) -> usize
+// The first student after `last` who has the same stage, or 0 where there is none.
+fn next_in_stage(case: &[u8], students: usize, last: usize) -> usize
+    requires { ⌜ (students ≤ 512) × (1 ≤ last) × (last ≤ students) ⌝ }
+    requires { ⌜ ((t : ℕ) → 1 ≤ t → t ≤ students → StudentAt (now case) t) ⌝ }
+    ensures { λ r. ⌜ (0 < r → r ≡ nextIn (marketIn (now (case .entry)) .stage) last students) ⌝ }
+{
+    let stage = lookup::stage_of(case, last);
+    let mut t = last + 1;
+    while t <= students {
+        if lookup::stage_of(case, t) == stage {
+            return t;
+        }
+        t += 1;
+    }
+    0
+}
+
+// The first student after `last`, or 0, of all students.
+fn first_after(case: &[u8], students: usize, last: usize) -> usize
     requires { ⌜ (students ≤ 512) × (last ≤ students) ⌝ }
     requires { ⌜ ((t : ℕ) → 1 ≤ t → t ≤ students → StudentAt (now case) t) ⌝ }
     ensures { λ r. ⌜ r ≡ nextIn (marketIn (now (case .entry)) .stage) last students ⌝ }
@@ -83,6 +101,21 @@ pub fn next_student(case: &[u8], students: usize, last: usize) -> usize
         }
     }
     first
+}
+
+// The first student after `last`, or 0: the next one of her stage, where there is one.
+fn next_student(case: &[u8], students: usize, last: usize) -> usize
+    requires { ⌜ (students ≤ 512) × (last ≤ students) ⌝ }
+    requires { ⌜ ((t : ℕ) → 1 ≤ t → t ≤ students → StudentAt (now case) t) ⌝ }
+    ensures { λ r. ⌜ r ≡ nextIn (marketIn (now (case .entry)) .stage) last students ⌝ }
+{
+    if last > 0 {
+        let t = next_in_stage(case, students, last);
+        if t > 0 {
+            return t;
+        }
+    }
+    first_after(case, students, last)
 }
 
 // ---- the best of what is open
@@ -126,7 +159,7 @@ fn best_from(
     let mut best = start;
     let mut top = score_of(case, book, index, students, workshops, s, start);
     let mut rest = set;
-    while bits::count(rest) > 0 {
+    while rest > 0 {
         let w = bits::lowest(rest);
         let score = score_of(case, book, index, students, workshops, s, w);
         rest = bits::without_bit(rest, w);
@@ -139,7 +172,7 @@ fn best_from(
 }
 
 // The best of the open set, and of the outside option if it is open; 0 also where nothing is open.
-pub fn favourite(
+fn favourite(
     case: &[u8],
     book: &[u8],
     index: &[u16],
@@ -167,67 +200,98 @@ pub fn favourite(
 // ---- a round of interviews
 
 // Somebody, l, has workshop w's last seat, and stands in a better tier there; 0 is nobody.
-fn is_full_above(case: &[u8], w: usize, l: usize, tier: u16) -> bool
-    requires { ⌜ (l < 65536) × (w < 65536) ⌝ }
-    requires { ⌜ PairsSorted (now case) ⌝ }
+fn is_full_above(
+    case: &[u8],
+    students: usize,
+    workshops: usize,
+    w: usize,
+    l: usize,
+    tier: u16,
+) -> bool
+    requires { ⌜ (l < 65536) × (1 ≤ w) × (w < 65536) ⌝ }
+    requires { ⌜ PairsFound (now case) students workshops ⌝ }
     requires { ⌜ (0 < l → PairAt (now case) l w) ⌝ }
     ensures { λ r. ⌜ r ≡ (ltb 0 l && ltb (marketIn (now (case .entry)) .workshopTier w l) tier) ⌝ }
 {
     if l == 0 {
         return false; // the last seat is free
     }
-    lookup::workshop_tier(case, lookup::pair_of(case, l, w)) < tier
+    lookup::workshop_tier(case, lookup::pair_of(case, students, workshops, l, w)) < tier
 }
 
-// Workshop w is not to be interviewed by a student whom it has in this tier: it has no seats, she is beyond its outside tier, or it is full of
-// students in better tiers.
-fn is_shut(case: &[u8], seats: &[u16], students: usize, w: usize, tier: u16) -> bool
-    requires { ⌜ PairsSorted (now case) ⌝ }
+// Workshop w, whose `quota` seats stand from place `from` on, is not to be interviewed by a student whom it has in this tier: it has no seats, she is
+// beyond its outside tier, or it is full of students in better tiers.
+fn is_shut(
+    case: &[u8],
+    seats: &[u16],
+    students: usize,
+    workshops: usize,
+    w: usize,
+    from: usize,
+    quota: usize,
+    tier: u16,
+) -> bool
+    requires { ⌜ PairsFound (now case) students workshops ⌝ }
     requires { ⌜ SeatsAt (now case) (now seats) students w ⌝ }
+    requires { ⌜ (from ≡ seatsFrom (marketIn (now case)) w) × (quota ≡ marketIn (now case) .quota w) ⌝ }
     ensures { λ r. ⌜ ((B : Results) (s : ℕ) → tier ≡ marketIn (now (case .entry)) .workshopTier w s → r ≡ shutBy (marketIn (now (case .entry))) B (lastOf (marketIn (now (case .entry))) (now (seats .entry)) w) s w) ⌝ }
 {
-    if lookup::quota_of(case, students, w) == 0 {
+    if quota == 0 {
         return true;
     }
     if lookup::workshop_outside(case, students, w) < tier {
         return true;
     }
-    let l = seating::last_of(case, seats, students, w) as usize;
-    is_full_above(case, w, l, tier)
+    let l = seating::last_of(seats, from, quota) as usize;
+    is_full_above(case, students, workshops, w, l, tier)
 }
 
 // Workshop w is of this tier for a student, and to be interviewed: `pair` is the number of their pair's record, or how many records there are.
-fn is_due(case: &[u8], seats: &[u16], students: usize, w: usize, tier: u16, pair: usize) -> bool
-    requires { ⌜ PairsSorted (now case) ⌝ }
+fn is_due(
+    case: &[u8],
+    seats: &[u16],
+    students: usize,
+    workshops: usize,
+    w: usize,
+    from: usize,
+    quota: usize,
+    tier: u16,
+    pair: usize,
+) -> bool
+    requires { ⌜ PairsFound (now case) students workshops ⌝ }
     requires { ⌜ SeatsAt (now case) (now seats) students w ⌝ }
+    requires { ⌜ (from ≡ seatsFrom (marketIn (now case)) w) × (quota ≡ marketIn (now case) .quota w) ⌝ }
     ensures { λ r. ⌜ ((B : Results) (s : ℕ) → pair ≡ pairPlace (now (case .entry)) s w → (marketIn (now (case .entry)) .paired s w ≡ true → PairAt (now (case .entry)) s w) → r ≡ dueAt (marketIn (now (case .entry))) B (now (seats .entry)) s tier w) ⌝ }
 {
     if records::row_count(case.len()) <= pair {
         return false;
     }
     if lookup::student_tier(case, pair) == tier {
-        !is_shut(case, seats, students, w, lookup::workshop_tier(case, pair))
+        !is_shut(
+            case,
+            seats,
+            students,
+            workshops,
+            w,
+            from,
+            quota,
+            lookup::workshop_tier(case, pair),
+        )
     } else {
         false
     }
 }
 
-// "She is in that workshop's line group with a negative mark": workshop w does not take student s.
-fn is_declined(
-    case: &[u8],
-    book: &[u8],
-    index: &[u16],
-    students: usize,
-    workshops: usize,
-    s: usize,
-    w: usize,
-) -> bool
-    requires { ⌜ Clean (now case) (now book) (now index) students workshops ⌝ }
-    requires { ⌜ Booked (marketIn (now case)) (resultsIn (now book)) s w ⌝ }
-    ensures { λ r. ⌜ r ≡ declined (marketIn (now (case .entry))) (resultsIn (now (book .entry))) s w ⌝ }
+// "She is in that workshop's line group with a negative mark": workshop w does not take the student whose pair with it has the record `pair`, and
+// whose interview is book record e - 1.
+fn is_declined(case: &[u8], book: &[u8], students: usize, w: usize, pair: usize, e: usize) -> bool
+    requires { ⌜ WorkshopAt (now case) students w ⌝ }
+    requires { ⌜ (pair < rowCount (now case)) × (1 ≤ e) × (e ≤ entryCount (now book)) ⌝ }
+    ensures { λ r. ⌜ ((s : ℕ) → rowAt (now (case .entry)) pair .fourth ≡ marketIn (now (case .entry)) .workshopTier w s → entryAt (now (book .entry)) (e - 1) .workshopScore ≡ resultsIn (now (book .entry)) .workshopScore w s → r ≡ declined (marketIn (now (case .entry))) (resultsIn (now (book .entry))) s w) ⌝ }
 {
-    let a = lookup::standing_of(case, book, index, students, workshops, s, w);
-    (a.tier == lookup::workshop_outside(case, students, w)) & records::negative(a.score)
+    let tier = lookup::workshop_tier(case, pair);
+    let score = lookup::workshop_score(book, e);
+    (tier == lookup::workshop_outside(case, students, w)) & records::negative(score)
 }
 
 // The interview of student s with workshop w is listed after the first `count`.
@@ -247,29 +311,28 @@ pub struct Round {
     pub missing: usize,
 }
 
-// The open set after the interview of student s with workshop w: the workshop is in it, unless it declines her.
+// The open set after an interview with workshop w: the workshop is in it, unless it declines the student.
 fn opened(
     case: &[u8],
     book: &[u8],
-    index: &[u16],
     students: usize,
-    workshops: usize,
-    s: usize,
     w: usize,
+    pair: usize,
+    e: usize,
     set: u64,
 ) -> u64
-    requires { ⌜ Clean (now case) (now book) (now index) students workshops ⌝ }
-    requires { ⌜ Booked (marketIn (now case)) (resultsIn (now book)) s w ⌝ }
-    ensures { λ r. ⌜ r ≡ cond (declined (marketIn (now (case .entry))) (resultsIn (now (book .entry))) s w) set (withMember set w) ⌝ }
+    requires { ⌜ (w ≤ 64) × WorkshopAt (now case) students w ⌝ }
+    requires { ⌜ (pair < rowCount (now case)) × (1 ≤ e) × (e ≤ entryCount (now book)) ⌝ }
+    ensures { λ r. ⌜ ((s : ℕ) → rowAt (now (case .entry)) pair .fourth ≡ marketIn (now (case .entry)) .workshopTier w s → entryAt (now (book .entry)) (e - 1) .workshopScore ≡ resultsIn (now (book .entry)) .workshopScore w s → r ≡ cond (declined (marketIn (now (case .entry))) (resultsIn (now (book .entry))) s w) set (withMember set w)) ⌝ }
 {
-    if is_declined(case, book, index, students, workshops, s, w) {
+    if is_declined(case, book, students, w, pair, e) {
         return set;
     }
     bits::with_bit(set, w)
 }
 
 // Student s is interviewed by the workshops of her tier `tier`, in rising number, until an interview is missing. `held` interviews were held before.
-pub fn hold_round(
+fn hold_round(
     case: &[u8],
     book: &[u8],
     index: &[u16],
@@ -291,12 +354,15 @@ pub fn hold_round(
 {
     let mut count = held;
     let mut openings = set;
+    let mut from = 0;
     let mut done = 0;
     while done < workshops {
         let w = done + 1;
-        let pair = lookup::pair_of(case, s, w);
-        if is_due(case, seats, students, w, tier, pair) {
-            if lookup::entry_of(index, students + workshops, pair) == 0 {
+        let quota = lookup::quota_of(case, students, w) as usize;
+        let pair = lookup::pair_of(case, students, workshops, s, w);
+        if is_due(case, seats, students, workshops, w, from, quota, tier, pair) {
+            let e = lookup::entry_of(index, students + workshops, pair);
+            if e == 0 {
                 return Round {
                     count,
                     openings,
@@ -304,10 +370,12 @@ pub fn hold_round(
                 };
             }
             put_interview(visits, count, s as u16, w as u16);
-            openings = opened(case, book, index, students, workshops, s, w, openings);
+            openings = opened(case, book, students, w, pair, e, openings);
             count += 1;
+            from += quota;
             done = w;
         } else {
+            from += quota;
             done = w;
         }
     }

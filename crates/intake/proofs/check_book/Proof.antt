@@ -76,9 +76,7 @@ returns c =
     (c .refused .ensures ∙ sym (refused-as (a .case .now) (bookRefusal (a .case .now) (a .book .now)) 7 0 r), refused-none (bookRefusal (a .case .now) (a .book .now)) 7 0 r)
 
 first-bad-requires : tie.Need-first-bad-requires
-first-bad-requires c κs =
-    let a = c .before .before .before .before .before .args in
-    λ e. pairs-sorted (a .case .now) (λ k. omega (arith, c .before .before .before .before .shared-slice-known .given k)) (clean (a .case .now) (a .students) (a .workshops) (c .before .before .before .before .before .pre .0))
+first-bad-requires c κs = λ e. c .before .before .before .before .before .pre .0
 
 refused-requires-2 : tie.Need-refused-requires-2
 refused-requires-2 c κs = search needs

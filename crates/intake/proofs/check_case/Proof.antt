@@ -54,7 +54,7 @@ returns c =
     c .refused .ensures ∙ sym (refused-as case (caseRefusal case) 1 0 (case-1 case (whole-some (length case % 16) (c .before .if1 .taken))))
 
 first-bad-requires : tie.Need-first-bad-requires
-first-bad-requires c κs = search needs
+first-bad-requires c κs = λ e. absurd (omega arith)
 
 refused-requires-2 : tie.Need-refused-requires-2
 refused-requires-2 c κs = search needs
@@ -92,7 +92,7 @@ returns-4 c =
     c .refused4 .ensures ∙ sym (refused-as case (caseRefusal case) 4 0 (case-4 case (whole (c .before .before .before .before .before .before .before)) (form (c .before .before .before .before .before)) (order (c .before .before .before)) found))
 
 first-bad-requires-2 : tie.Need-first-bad-requires-2
-first-bad-requires-2 c κs = search needs
+first-bad-requires-2 c κs = λ e. absurd (omega arith)
 
 refused-requires-5 : tie.Need-refused-requires-5
 refused-requires-5 c κs = search needs

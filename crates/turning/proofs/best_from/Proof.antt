@@ -5,9 +5,7 @@ use mir.Syntax.{w16}
 use mir.Val.{toZ, ofZ}
 use mir.ValLaws.{toZ-ofZ}
 use Rattle.base.specs.Words.{biased}
-use Rattle.base.proofs.Digits.{count-empty, empty-count}
 use Rattle.format.specs.Engine.{marketIn, resultsIn}
-use Rattle.seating.proofs.Laws.{positive}
 use Rattle.turning.proofs.Laws.{Best, best-start, best-higher, best-kept, best-end}
 use Rattle.turning.proofs.best_from.Statement.{statement}
 use Rattle.turning.proofs.best_from.Tie as tie
@@ -28,14 +26,11 @@ loop-holds c =
     let e : biased (toZ w16 (ofZ w16 (c .score-of .result))) ≡ resultsIn (a .book .now) .studentScore (a .s) (a .start) = rw (toZ-ofZ w16 (c .score-of .result) (record { sfits = c .score-of .ok })) (c .score-of .ensures) in
     best-start (marketIn (a .case .now)) (resultsIn (a .book .now)) (a .s) (a .start) (a .set) _ (omega arith) e (start .pre .1 .1)
 
-count-requires : tie.Need-count-requires Inv-loop μ-loop
-count-requires c κs = tt
-
 lowest-requires : tie.Need-lowest-requires Inv-loop μ-loop
-lowest-requires c κs = let here = c .before .before .loop in positive (here .rest) (λ z. omega (arith, empty-count (here .rest) z, c .before .count .ensures))
+lowest-requires c κs = omega arith
 
 score-of-requires-2 : tie.Need-score-of-requires-2 Inv-loop μ-loop
-score-of-requires-2 c κs = let here = c .before .before .before .loop in (c .before .before .before .before .before .before .before .before .pre .0, λ l. here .inv .known (c .lowest .result) (c .lowest .ensures .set))
+score-of-requires-2 c κs = let here = c .before .before .loop in (c .before .before .before .before .before .before .before .pre .0, λ l. here .inv .known (c .lowest .result) (c .lowest .ensures .set))
 
 without-bit-requires : tie.Need-without-bit-requires Inv-loop μ-loop
 without-bit-requires c κs = (omega arith, omega arith)
@@ -48,29 +43,29 @@ loop-less c = c .before .before .without-bit .ensures .1 .1 (c .before .before .
 
 loop-again : tie.Need-loop-again Inv-loop μ-loop
 loop-again c =
-    let here = c .before .before .before .before .before .before .before .loop in
-    let a = c .before .before .before .before .before .before .before .before .before .before .before .before .args in
+    let here = c .before .before .before .before .before .before .loop in
+    let a = c .before .before .before .before .before .before .before .before .before .before .before .args in
     let w = c .before .before .before .before .lowest in
     let x = c .before .before .before .score-of2 in
     let r = c .before .before .without-bit in
     let e : biased (toZ w16 (ofZ w16 (x .result))) ≡ resultsIn (a .book .now) .studentScore (a .s) (w .result) = rw (toZ-ofZ w16 (x .result) (record { sfits = x .ok })) (x .ensures) in
-    best-higher (marketIn (a .case .now)) (resultsIn (a .book .now)) (a .s) (a .start) (a .set) (here .best) (here .rest) (r .result) (w .result) (toZ w16 (here .top)) (toZ w16 (ofZ w16 (x .result))) (here .inv) (w .ensures) (r .ensures .1 .0) (omega arith) e (sym (c .before .above .ensures) ∙ c .if2 .taken)
+    best-higher (marketIn (a .case .now)) (resultsIn (a .book .now)) (a .s) (a .start) (a .set) (here .best) (here .rest) (r .result) (w .result) (toZ w16 (here .top)) (toZ w16 (ofZ w16 (x .result))) (here .inv) (w .ensures) (r .ensures .1 .0) (omega arith) e (sym (c .before .above .ensures) ∙ c .if1 .taken)
 
 loop-less-2 : tie.Need-loop-less-2 Inv-loop μ-loop
 loop-less-2 c = c .before .before .without-bit .ensures .1 .1 (c .before .before .before .before .lowest .ensures .set)
 
 loop-again-2 : tie.Need-loop-again-2 Inv-loop μ-loop
 loop-again-2 c =
-    let here = c .before .before .before .before .before .before .before .loop in
-    let a = c .before .before .before .before .before .before .before .before .before .before .before .before .args in
+    let here = c .before .before .before .before .before .before .loop in
+    let a = c .before .before .before .before .before .before .before .before .before .before .before .args in
     let w = c .before .before .before .before .lowest in
     let x = c .before .before .before .score-of2 in
     let r = c .before .before .without-bit in
     let e : biased (toZ w16 (ofZ w16 (x .result))) ≡ resultsIn (a .book .now) .studentScore (a .s) (w .result) = rw (toZ-ofZ w16 (x .result) (record { sfits = x .ok })) (x .ensures) in
-    best-kept (marketIn (a .case .now)) (resultsIn (a .book .now)) (a .s) (a .start) (a .set) (here .best) (here .rest) (r .result) (w .result) (toZ w16 (here .top)) (toZ w16 (ofZ w16 (x .result))) (here .inv) (w .ensures) (r .ensures .1 .0) (omega arith) e (sym (c .before .above .ensures) ∙ c .if2 .left)
+    best-kept (marketIn (a .case .now)) (resultsIn (a .book .now)) (a .s) (a .start) (a .set) (here .best) (here .rest) (r .result) (w .result) (toZ w16 (here .top)) (toZ w16 (ofZ w16 (x .result))) (here .inv) (w .ensures) (r .ensures .1 .0) (omega arith) e (sym (c .before .above .ensures) ∙ c .if1 .left)
 
 returns : tie.Need-returns Inv-loop μ-loop
-returns c = let here = c .before .before .loop in let a = c .before .before .before .before .before .before .before .args in best-end (marketIn (a .case .now)) (resultsIn (a .book .now)) (a .s) (a .start) (a .set) (here .best) (here .rest) _ (here .inv) (count-empty (here .rest) (omega arith) (omega (arith, c .before .count .ensures)))
+returns c = let here = c .before .loop in let a = c .before .before .before .before .before .before .args in best-end (marketIn (a .case .now)) (resultsIn (a .book .now)) (a .s) (a .start) (a .set) (here .best) (here .rest) _ (here .inv) (omega arith)
 
 pub best-from-spec : {M : Type 1} → statement M
 best-from-spec =
@@ -80,7 +75,6 @@ best-from-spec =
     μ-loop
     score-of-requires
     loop-holds
-    count-requires
     lowest-requires
     score-of-requires-2
     without-bit-requires

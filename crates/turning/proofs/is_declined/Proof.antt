@@ -11,23 +11,32 @@ use borrow.Author.Needs.{needs}
 use Rattle.turning.proofs.is_declined.Statement.{statement}
 use Rattle.turning.proofs.is_declined.Tie as tie
 
-standing-of-requires : tie.Need-standing-of-requires
-standing-of-requires c κs = search needs
+workshop-tier-requires : tie.Need-workshop-tier-requires
+workshop-tier-requires c κs = search needs
+
+workshop-score-requires : tie.Need-workshop-score-requires
+workshop-score-requires c κs = search needs
 
 workshop-outside-requires : tie.Need-workshop-outside-requires
-workshop-outside-requires c κs = let start = c .before .before .before .before in start .pre .0 .workshop (start .args .w) (omega (arith, start .pre .1)) (omega (arith, start .pre .0, start .pre .1))
+workshop-outside-requires c κs = search needs
 
 negative-requires : tie.Need-negative-requires
 negative-requires c κs = search needs
 
 returns : tie.Need-returns
 unfolding declined resultsOf
-returns c =
-    let a = c .before .before .before .before .standing-of in
-    let f = toZ-ofZ w16 (a .result .score) (record { sfits = c .before .struct-told .given .1 .0 .1 }) in
-    let e : c .negative .result ≡ ltb (biased (a .result .score)) outsideScore = c .negative .ensures ∙ rw f in
-    rw (e, a .ensures .0, a .ensures .1, c .before .before .before .workshop-outside .ensures)
+returns c = λ s p q.
+    let a = c .before .before .workshop-score in
+    let f = toZ-ofZ w16 (a .result) (record { sfits = a .ok }) in
+    let e : c .negative .result ≡ ltb (biased (a .result)) outsideScore = c .negative .ensures ∙ rw f in
+    rw (e, c .before .before .before .workshop-tier .ensures, p, a .ensures, q, c .before .workshop-outside .ensures)
 
 pub is-declined-spec : {M : Type 1} → statement M
 is-declined-spec =
-    tie.close (tie.spec standing-of-requires workshop-outside-requires negative-requires returns)
+    tie.close
+    (tie.spec
+    workshop-tier-requires
+    workshop-score-requires
+    workshop-outside-requires
+    negative-requires
+    returns)

@@ -9,14 +9,14 @@ is-declined-requires : tie.Need-is-declined-requires
 is-declined-requires c κs = search needs
 
 returns : tie.Need-returns
-returns c = sym (rw (sym (c .before .is-declined .ensures) ∙ c .if1 .taken))
+returns c = λ s p q. sym (rw (sym (c .before .is-declined .ensures s p q) ∙ c .if1 .taken))
 
 with-bit-requires : tie.Need-with-bit-requires
 with-bit-requires c κs = search needs
 
 returns-2 : tie.Need-returns-2
 unfolding withMember
-returns-2 c = sym (rw (sym (c .before .before .is-declined .ensures) ∙ c .before .if1 .left, c .with-bit .ensures .0))
+returns-2 c = λ s p q. sym (rw (sym (c .before .before .is-declined .ensures s p q) ∙ c .before .if1 .left, c .with-bit .ensures .0))
 
 pub opened-spec : {M : Type 1} → statement M
 opened-spec = tie.close (tie.spec is-declined-requires returns with-bit-requires returns-2)

@@ -41,34 +41,32 @@ loop-holds c =
 entry-of-requires : tie.Need-entry-of-requires Inv-loop μ-loop
 entry-of-requires c κs = omega (arith, c .before .before .entry-count .ensures)
 
-find-pair-requires : tie.Need-find-pair-requires Inv-loop μ-loop
-find-pair-requires c κs =
-    let a = c .before .before .before .before .before .before .before .before .args in
-    (c .before .before .before .before .row-count .ensures, pairs-sorted (a .case .now) (λ k. omega (arith, c .before .before .before .before .before .before .before .shared-slice-known .given k)) (clean (a .case .now) (a .students) (a .workshops) (c .before .before .before .before .before .before .before .before .pre .0)))
+place-requires : tie.Need-place-requires Inv-loop μ-loop
+place-requires c κs = (c .before .before .before .before .row-count .ensures, c .before .before .before .before .before .before .before .before .pre .0)
 
 -- the place of record i's pair
-place : (c : tie.After-find-pair Inv-loop μ-loop)
-    → Placed (c .before .before .before .before .before .before .before .before .before .args .case .now) (entryAt (c .before .before .before .before .before .before .before .before .before .args .book .now) (c .before .before .before .loop .i) .student) (entryAt (c .before .before .before .before .before .before .before .before .before .args .book .now) (c .before .before .before .loop .i) .workshop) (c .find-pair .result)
-place c =
+located : (c : tie.After-place Inv-loop μ-loop)
+    → Placed (c .before .before .before .before .before .before .before .before .before .args .case .now) (entryAt (c .before .before .before .before .before .before .before .before .before .args .book .now) (c .before .before .before .loop .i) .student) (entryAt (c .before .before .before .before .before .before .before .before .before .args .book .now) (c .before .before .before .loop .i) .workshop) (c .place .result)
+located c =
     let a = c .before .before .before .before .before .before .before .before .before .args in
     let i = c .before .before .before .loop .i in
     let l : i < entryCount (a .book .now) = omega (arith, c .before .before .before .before .entry-count .ensures) in
     let b = none-fails (badPair (rows (a .case .now)) (entries (a .book .now))) (entryCount (a .book .now)) (c .before .before .before .before .before .before .before .before .before .pre .1 .0) i l in
-    let e = c .find-pair .ensures ∙ ap (λ (x : Entry). pairPlace (a .case .now) (x .student) (x .workshop)) (c .before .entry-of .ensures) in
+    let e = c .place .ensures ∙ ap (λ (x : Entry). pairPlace (a .case .now) (x .student) (x .workshop)) (c .before .entry-of .ensures) in
     rw e (placed-of (a .case .now) (a .students) (a .workshops) (c .before .before .before .before .before .before .before .before .before .pre .0) (a .book .now) i l b)
 
 -- and the index's entry for it
-spot : (c : tie.After-find-pair Inv-loop μ-loop)
-    → c .find-pair .result - (c .before .before .before .before .before .before .before .before .before .args .students + c .before .before .before .before .before .before .before .before .before .args .workshops) ≡ c .find-pair .result - pairsFrom (c .before .before .before .before .before .before .before .before .before .args .case .now)
+spot : (c : tie.After-place Inv-loop μ-loop)
+    → c .place .result - (c .before .before .before .before .before .before .before .before .before .args .students + c .before .before .before .before .before .before .before .before .before .args .workshops) ≡ c .place .result - pairsFrom (c .before .before .before .before .before .before .before .before .before .args .case .now)
 spot c = omega (arith, c .before .before .before .before .before .before .before .before .before .pre .0 .students, c .before .before .before .before .before .before .before .before .before .pre .0 .workshops)
 
 sub-k : tie.Need-sub-k Inv-loop μ-loop
-sub-k c = omega (arith, place c .from, c .before .before .before .before .before .before .before .before .before .pre .0 .students, c .before .before .before .before .before .before .before .before .before .pre .0 .workshops)
+sub-k c = omega (arith, located c .from, c .before .before .before .before .before .before .before .before .before .pre .0 .students, c .before .before .before .before .before .before .before .before .before .pre .0 .workshops)
 
 mul-if1 : tie.Need-mul-if1 Inv-loop μ-loop
 mul-if1 c =
     let a = c .before .before .before .before .before .before .before .before .before .args in
-    omega (arith, spot c, place c .within, pairs-few (a .case .now) (a .students) (a .workshops) (c .before .before .before .before .before .before .before .before .before .pre .0))
+    omega (arith, spot c, located c .within, pairs-few (a .case .now) (a .students) (a .workshops) (c .before .before .before .before .before .before .before .before .before .pre .0))
 
 slice-read-if1 : tie.Need-slice-read-if1 Inv-loop μ-loop
 slice-read-if1 c =
@@ -76,7 +74,7 @@ slice-read-if1 c =
     omega (
       arith,
       spot (c .before),
-      place (c .before) .within,
+      located (c .before) .within,
       fill-length (a .case .now) (a .students) (a .workshops) (c .before .before .before .before .before .before .before .before .before .before .pre .0) (a .book .now) (length (a .index .now)) (c .before .before .before .before .before .before .before .before .before .before .pre .1 .1 .0) (c .before .before .before .before .loop .i) (c .before .before .before .before .loop .index) (c .before .before .before .before .loop .inv),
       c .before .before .before .before .before .before .before .before .before .before .pre .1 .1 .0,
     )
@@ -92,7 +90,7 @@ returns c =
     let i = c .before .before .before .before .before .loop .i in
     let index = c .before .before .before .before .before .loop .index in
     let l : i < entryCount (a .book .now) = omega (arith, c .before .before .before .before .before .before .entry-count .ensures) in
-    let f = fill-repeat (a .case .now) (a .students) (a .workshops) (c .before .before .before .before .before .before .before .before .before .before .before .pre .0) (a .book .now) (length (a .index .now)) (c .before .before .before .before .before .before .before .before .before .before .before .pre .1 .1 .0) i index (c .before .before .before .before .before .loop .inv) l (c .before .before .find-pair .result) (place (c .before .before)) in
+    let f = fill-repeat (a .case .now) (a .students) (a .workshops) (c .before .before .before .before .before .before .before .before .before .before .before .pre .0) (a .book .now) (length (a .index .now)) (c .before .before .before .before .before .before .before .before .before .before .before .pre .1 .1 .0) i index (c .before .before .before .before .before .loop .inv) l (c .before .before .place .result) (located (c .before .before)) in
     let b = f (λ q. c .if1 .taken (ap (λ k. getD index k 0) (spot (c .before .before)) ∙ q)) in
     (sym (rw (scan-found (badRepeat (rows (a .case .now)) (entries (a .book .now))) i (entryCount (a .book .now)) (c .before .before .before .before .before .loop .inv .fresh) b l)), c .before .before .before .before .before .loop .inv .filled)
 
@@ -111,7 +109,7 @@ cast-index c =
 mul-index : tie.Need-mul-index Inv-loop μ-loop
 mul-index c =
     let a = c .before .before .before .before .before .before .before .before .before .before .before .args in
-    omega (arith, spot (c .before .before), place (c .before .before) .within, pairs-few (a .case .now) (a .students) (a .workshops) (c .before .before .before .before .before .before .before .before .before .before .before .pre .0))
+    omega (arith, spot (c .before .before), located (c .before .before) .within, pairs-few (a .case .now) (a .students) (a .workshops) (c .before .before .before .before .before .before .before .before .before .before .before .pre .0))
 
 slice-write-index : tie.Need-slice-write-index Inv-loop μ-loop
 slice-write-index c =
@@ -119,7 +117,7 @@ slice-write-index c =
     omega (
       arith,
       spot (c .before .before),
-      place (c .before .before) .within,
+      located (c .before .before) .within,
       fill-length (a .case .now) (a .students) (a .workshops) (c .before .before .before .before .before .before .before .before .before .before .before .pre .0) (a .book .now) (length (a .index .now)) (c .before .before .before .before .before .before .before .before .before .before .before .pre .1 .1 .0) (c .before .before .before .before .before .loop .i) (c .before .before .before .before .before .loop .index) (c .before .before .before .before .before .loop .inv),
       c .before .before .before .before .before .before .before .before .before .before .before .pre .1 .1 .0,
     )
@@ -136,9 +134,9 @@ loop-again c =
     let i = c .before .before .before .before .before .loop .i in
     let index = c .before .before .before .before .before .loop .index in
     let l : i < entryCount (a .book .now) = omega (arith, c .before .before .before .before .before .before .entry-count .ensures) in
-    let z : getD index (c .before .before .find-pair .result - pairsFrom (a .case .now)) 0 ≡ 0 = ap (λ k. getD index k 0) (sym (spot (c .before .before))) ∙ c .if1 .left in
+    let z : getD index (c .before .before .place .result - pairsFrom (a .case .now)) 0 ≡ 0 = ap (λ k. getD index k 0) (sym (spot (c .before .before))) ∙ c .if1 .left in
     rw (spot (c .before .before))
-    (fill-on (a .case .now) (a .students) (a .workshops) (c .before .before .before .before .before .before .before .before .before .before .before .pre .0) (a .book .now) (length (a .index .now)) (c .before .before .before .before .before .before .before .before .before .before .before .pre .1 .1 .0) i index (c .before .before .before .before .before .loop .inv) l (c .before .before .find-pair .result) (place (c .before .before)) z)
+    (fill-on (a .case .now) (a .students) (a .workshops) (c .before .before .before .before .before .before .before .before .before .before .before .pre .0) (a .book .now) (length (a .index .now)) (c .before .before .before .before .before .before .before .before .before .before .before .pre .1 .1 .0) i index (c .before .before .before .before .before .loop .inv) l (c .before .before .place .result) (located (c .before .before)) z)
 
 same-length-2 : tie.Need-same-length-2 Inv-loop μ-loop
 same-length-2 c =
@@ -163,7 +161,7 @@ fill-spec =
     entry-count-requires
     loop-holds
     entry-of-requires
-    find-pair-requires
+    place-requires
     sub-k
     mul-if1
     slice-read-if1

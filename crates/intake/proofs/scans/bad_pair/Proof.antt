@@ -12,16 +12,16 @@ row-count-requires c κs = search needs
 entry-of-requires : tie.Need-entry-of-requires
 entry-of-requires c κs = search needs
 
-find-pair-requires : tie.Need-find-pair-requires
-find-pair-requires c κs = search needs
+place-requires : tie.Need-place-requires
+place-requires c κs = search needs
 
 returns : tie.Need-returns
 unfolding badPair
 returns c =
     let a = c .before .before .before .before .before .args in
     let e = c .before .entry-of .result in
-    rw (entry-is (a .book .now) (a .i) (c .before .before .before .before .before .pre .0) ∙ sym (c .before .entry-of .ensures), pair-any (a .case .now) (e .student) (e .workshop), ← c .find-pair .ensures, ← c .before .before .row-count .ensures) (leb-not (c .before .before .row-count .result) (c .find-pair .result))
+    rw (entry-is (a .book .now) (a .i) (c .before .before .before .before .before .pre .0) ∙ sym (c .before .entry-of .ensures), pair-any (a .case .now) (e .student) (e .workshop), ← c .place .ensures, ← c .before .before .row-count .ensures) (leb-not (c .before .before .row-count .result) (c .place .result))
 
 pub bad-pair-spec : {M : Type 1} → statement M
 bad-pair-spec =
-    tie.close (tie.spec row-count-requires entry-of-requires find-pair-requires returns)
+    tie.close (tie.spec row-count-requires entry-of-requires place-requires returns)

@@ -10,10 +10,10 @@ use Rattle.intake.proofs.scans.first_bad.Statement.{statement}
 use Rattle.intake.proofs.scans.first_bad.Tie as tie
 
 abbrev Inv-loop : tie.InvT-loop
-Inv-loop cause case book n i₀ i = (i ≤ n) × (firstBad (badBy cause case book) i ≡ none)
+Inv-loop cause case book students workshops n i₀ i = (i ≤ n) × (firstBad (badBy cause case book) i ≡ none)
 
 abbrev μ-loop : tie.MeasureT-loop
-μ-loop cause case book n i₀ i = n - i
+μ-loop cause case book students workshops n i₀ i = n - i
 
 records-of-requires : tie.Need-records-of-requires Inv-loop μ-loop
 records-of-requires c κs = tt

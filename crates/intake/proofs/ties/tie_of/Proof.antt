@@ -11,10 +11,10 @@ use Rattle.intake.proofs.ties.tie_of.Statement.{statement}
 use Rattle.intake.proofs.ties.tie_of.Tie as tie
 
 abbrev Inv-loop : tie.InvT-loop
-Inv-loop case book index from student x others low keys₀ numbers₀ k₀ keys numbers k = (k ≤ others) × Gathered (λ j. keyOf student case book x (suc j)) (λ j. numberOf student book x (suc j)) k keys numbers
+Inv-loop case book index from workshops student x others low keys₀ numbers₀ k₀ keys numbers k = (k ≤ others) × Gathered (λ j. keyOf student case book x (suc j)) (λ j. numberOf student book x (suc j)) k keys numbers
 
 abbrev μ-loop : tie.MeasureT-loop
-μ-loop case book index from student x others low keys₀ numbers₀ k₀ keys numbers k = others - k
+μ-loop case book index from workshops student x others low keys₀ numbers₀ k₀ keys numbers k = others - k
 
 loop-holds : tie.Need-loop-holds Inv-loop μ-loop
 loop-holds c =
@@ -28,7 +28,7 @@ cast-interview-of : tie.Need-cast-interview-of Inv-loop μ-loop
 cast-interview-of c = omega arith
 
 interview-of-requires : tie.Need-interview-of-requires Inv-loop μ-loop
-interview-of-requires c κs = c .before .before .before .before .before .pre .0
+interview-of-requires c κs = (c .before .before .before .before .before .pre .0, c .before .before .before .before .before .pre .1 .1)
 
 mul-keys : tie.Need-mul-keys Inv-loop μ-loop
 mul-keys c = search needs
@@ -80,7 +80,7 @@ returns c =
     let a = c .before .before .before .before .before .before .before .before .args in
     let here = c .before .before .before .before .loop in
     let e : here .k ≡ a .others = omega arith in
-    gathered-low (λ j. keyOf (a .student) (a .case .now) (a .book .now) (a .x) (suc j)) (λ j. numberOf (a .student) (a .book .now) (a .x) (suc j)) (a .others) (here .keys) (here .numbers) (rw e at (here .inv .1)) (c .before .before .before .before .before .before .before .before .pre .1) (a .low) (c .lowest .result) (c .lowest .ensures)
+    gathered-low (λ j. keyOf (a .student) (a .case .now) (a .book .now) (a .x) (suc j)) (λ j. numberOf (a .student) (a .book .now) (a .x) (suc j)) (a .others) (here .keys) (here .numbers) (rw e at (here .inv .1)) (c .before .before .before .before .before .before .before .before .pre .1 .0) (a .low) (c .lowest .result) (c .lowest .ensures)
 
 pub tie-of-spec : {M : Type 1} → statement M
 tie-of-spec =

@@ -10,10 +10,10 @@ use Rattle.intake.proofs.ties.ties_on.Statement.{statement}
 use Rattle.intake.proofs.ties.ties_on.Tie as tie
 
 abbrev Inv-loop : tie.InvT-loop
-Inv-loop case book index from student persons others low after₀ x₀ after x = (x ≤ persons) × LoweredOn student case book x low after
+Inv-loop case book index from workshops student persons others low after₀ x₀ after x = (x ≤ persons) × LoweredOn student case book x low after
 
 abbrev μ-loop : tie.MeasureT-loop
-μ-loop case book index from student persons others low after₀ x₀ after x = persons - x
+μ-loop case book index from workshops student persons others low after₀ x₀ after x = persons - x
 
 loop-holds : tie.Need-loop-holds Inv-loop μ-loop
 loop-holds c =
@@ -31,7 +31,7 @@ cast-tie-of c =
 tie-of-requires : tie.Need-tie-of-requires Inv-loop μ-loop
 tie-of-requires c κs =
     let a = c .before .before .before .before .before .args in
-    (c .before .before .before .before .before .pre .0, omega (arith, c .before .before .before .before .before .pre .1 .1, persons-few (a .case .now) (a .book .now) (a .index .now) (a .from) (c .before .before .before .before .before .pre .0) (not (a .student))))
+    (c .before .before .before .before .before .pre .0, (omega (arith, c .before .before .before .before .before .pre .1 .1, persons-few (a .case .now) (a .book .now) (a .index .now) (a .from) (c .before .before .before .before .before .pre .0) (not (a .student))), c .before .before .before .before .before .pre .1 .2))
 
 add-x : tie.Need-add-x Inv-loop μ-loop
 add-x c = omega arith
