@@ -38,12 +38,12 @@ impl Options {
         Ok(options)
     }
 
-    /// How many cases to run, of so many in a full run.
-    fn count(&self, full: usize) -> usize {
+    /// How many cases to run: six times the number in a full run, a twentieth of it in a quick one.
+    fn count(&self, cases: usize) -> usize {
         if self.quick {
-            full.div_ceil(20)
+            cases.div_ceil(20)
         } else {
-            full
+            6 * cases
         }
     }
 
