@@ -9,7 +9,7 @@ use native.Mathlib.Omega.{arith}
 use lib.Dec.{lit<}
 use denote.Laws.{Is}
 use denote.Struct.Laws as LL
-use Rattle.walks.specs.Row.{Kind, kind-of}
+use Rattle.walks.proofs.Row.{Kind, kind-of}
 use Rattle.model.specs.Turn.{zeroState}
 use Rattle.model.proofs.StudentState as T
 use Rattle.model.proofs.StudentState.Laws as T′

@@ -39,8 +39,8 @@ use denote.Triple.Entry.{Vals, onEntry}
 use denote.Triple.Spec.{Meets, tripleOf}
 use denote.Triple.Table.{entered}
 use denote.Triple.Walked.{says, Stays, stay-slice, walkOf, goes-slice, Walks, ends-at, walked, walk-meets}
-use Rattle.walks.specs.Slices.{word}
-use Rattle.walks.specs.Row.{Opened, opens-row, closes-row, takes-elem, puts-elem}
+use Rattle.walks.proofs.Slices.{word}
+use Rattle.walks.proofs.Row.{Opened, opens-row, closes-row, takes-elem, puts-elem}
 use Rattle.model.specs.declared.StudentState.{StudentState}
 use Rattle.model.specs.Turn.{zeroState}
 use Rattle.model.proofs.StudentState as T

@@ -38,10 +38,10 @@ use denote.Triple.Statement.{Contract, Triple}
 use denote.Triple.Clauses.{Lasts, lasts, ensured}
 use denote.Triple.Table.{entered, cited}
 use denote.Triple.Walked.{Stays, stay-slice, stay-none-slice, walkOf, goes-slice, goes-none-slice, Walks, ends-at, walked, walk-meets}
-use Rattle.walks.specs.Slices.{Spot, spot-of, ref, sv, Loan, anew}
-use Rattle.walks.specs.Calls.{calls-out, calls-plain}
-use Rattle.walks.specs.Clauses.{says2}
-use Rattle.walks.specs.Again.{lends-on, back-on}
+use Rattle.walks.proofs.Slices.{Spot, spot-of, ref, sv, Loan, anew}
+use Rattle.walks.proofs.Calls.{calls-out, calls-plain}
+use Rattle.walks.proofs.Clauses.{says2}
+use Rattle.walks.proofs.Again.{lends-on, back-on}
 use Rattle.model.specs.declared.StudentState.{StudentState}
 use Rattle.model.proofs.StudentState as T
 use Rattle.answers.specs.declared.Answer.{Answer}

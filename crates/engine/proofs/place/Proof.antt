@@ -41,9 +41,9 @@ use denote.Triple.Statement.{Contract, Triple}
 use denote.Triple.Clauses.{Lasts, lasts}
 use denote.Triple.Table.{entered, cited}
 use denote.Triple.Walked.{says, Stays, stay-slice, stay-none-slice, walkOf, goes-slice, goes-none-slice, Walks, ends-at, walked, walk-meets}
-use Rattle.walks.specs.Slices.{Spot, spot-of, ref, sv, Loan, anew, word, words-ty, bytes-ty, ptr-ty}
-use Rattle.walks.specs.Calls.{calls-out}
-use Rattle.walks.specs.Again.{lends-on, back-on}
+use Rattle.walks.proofs.Slices.{Spot, spot-of, ref, sv, Loan, anew, word, words-ty, bytes-ty, ptr-ty}
+use Rattle.walks.proofs.Calls.{calls-out}
+use Rattle.walks.proofs.Again.{lends-on, back-on}
 use Rattle.model.specs.declared.StudentState.{StudentState}
 use Rattle.model.specs.declared.Run.{Run}
 use Rattle.model.specs.Turn.{zeroState}

@@ -40,10 +40,10 @@ use denote.Triple.Statement.{Contract, Triple}
 use denote.Triple.Clauses.{Lasts, lasts}
 use denote.Triple.Table.{entered, cited}
 use denote.Triple.Walked.{says, Stays, stay-slice, stay-none-slice, walkOf, goes-slice, goes-none-slice, Walks, ends-at, walked, walk-meets}
-use Rattle.walks.specs.Slices.{Spot, spot-of, ref, sv, Loan, anew}
-use Rattle.walks.specs.Calls.{calls-out}
-use Rattle.walks.specs.Again.{lends-on, back-on}
-use Rattle.walks.specs.Local.{is-repeat, lends-local, local-back}
+use Rattle.walks.proofs.Slices.{Spot, spot-of, ref, sv, Loan, anew}
+use Rattle.walks.proofs.Calls.{calls-out}
+use Rattle.walks.proofs.Again.{lends-on, back-on}
+use Rattle.walks.proofs.Local.{is-repeat, lends-local, local-back}
 use Rattle.model.specs.declared.StudentState.{StudentState}
 use Rattle.model.specs.Turn.{zeroState}
 use Rattle.model.proofs.StudentState as T

@@ -50,10 +50,10 @@ use denote.Triple.Statement.{Contract, Triple}
 use denote.Triple.Clauses.{Lasts, lasts}
 use denote.Triple.Table.{entered, cited}
 use denote.Triple.Walked.{says, needs, Stays, stay-slice, stay-none-slice, stay-none, walkOf, goes-slice, goes-none-slice, goes-none, Walks, ends-at, walked, walk-meets}
-use Rattle.walks.specs.Slices.{Spot, spot-of, ref, sv, Loan, anew, word, words-ty, bytes-ty, ptr-ty}
-use Rattle.walks.specs.Row.{Opened, opens-row, closes-row, takes-elem, puts-elem}
-use Rattle.walks.specs.Calls.{calls-out}
-use Rattle.walks.specs.Again.{lends-on, back-on}
+use Rattle.walks.proofs.Slices.{Spot, spot-of, ref, sv, Loan, anew, word, words-ty, bytes-ty, ptr-ty}
+use Rattle.walks.proofs.Row.{Opened, opens-row, closes-row, takes-elem, puts-elem}
+use Rattle.walks.proofs.Calls.{calls-out}
+use Rattle.walks.proofs.Again.{lends-on, back-on}
 use Rattle.lgs.specs.Market.{Market, Results}
 use Rattle.lgs.specs.Rule.{fuel}
 use Rattle.format.specs.Engine.{marketIn, resultsIn}

@@ -42,7 +42,7 @@ use denote.Triple.Statement.{Contract, Triple}
 use denote.Triple.Clauses.{ensured, lasts}
 use denote.Triple.Table.{entered, cited}
 use denote.Triple.Walked.{says, needs, Stays, stay-ref, walkOf, goes-ref, Walks, ends-at, walked, walk-meets}
-use Rattle.walks.specs.Calls.{calls-out}
+use Rattle.walks.proofs.Calls.{calls-out}
 use Rattle.reader.specs.declared.BookReader.{BookReader}
 use Rattle.records.specs.declared.Entry.{Entry}
 use Rattle.format.specs.Layout.{entryAt, entryCount}

@@ -30,7 +30,7 @@ use denote.Shadow.{shadow}
 use denote.Memory.{cellAt, lone, mem, shares, partAt, partOf}
 use denote.Slice.{sliceVal, MutSlice, Room, finally}
 use denote.Steps.{owned, peeks}
-use Rattle.walks.specs.Row.{Kind}
+use Rattle.walks.proofs.Row.{Kind}
 
 -- the machine value of an array whose elements are zs
 abbrev pub array-val : {R : RattleType} → Kind R → List (R .Denot) → Val
