@@ -18,8 +18,9 @@ use Rattle.format.specs.Refusals.{Room, badForm, badOrder, badCounts, ba
 use Rattle.format.specs.Engine.{Answer, placed, next, refused, engine, marketIn, resultsIn}
 use Rattle.format.specs.Buffers.{placesAfter, visitsAfter}
 
--- ---- Demand 1 (with crate format's Buffers for what stays and what is zero): "every case and book in the layouts of document 01, with buffers of at least the stated lengths, gets the next visit or a
--- finished placement, and the run ends. All other input gets one of eleven refusals with its record".
+-- ---- Demand 1 (with crate format's Buffers for what stays and what is zero): "every case and book in the layouts of document 01, with buffers
+-- of at least the stated lengths, gets the next visit or a finished placement, and the run ends. All other input gets one of eleven refusals with
+-- its record".
 
 -- i is the first of the places 0 to n - 1 that is bad
 pub record First (bad : ℕ → Bool) (n i : ℕ) : Type 0 where
