@@ -26,7 +26,7 @@ use Rattle.records.proofs.Laws.{pairs-sorted, pairs-once}
 use Rattle.lookup.specs.Clean.{Clean, StudentAt, WorkshopAt, PairAt, EntryAt, indexAt}
 use Rattle.intake.specs.Checked.{CleanCase, pairCount}
 use Rattle.intake.specs.Index.{fromOne, pairsFrom, lentIndex, indexOf, indexedAs}
-use Rattle.intake.proofs.Cases.{clean, few}
+use Rattle.intake.proofs.Cases.{clean, few, placed}
 use Rattle.intake.proofs.Indexing.{Placed, placed-by, index-at, lent-length, any-number}
 
 module _ (case book : List ℕ) (c : CleanCase case (marketIn case .students) (marketIn case .workshops)) (passed : Passed case book)
@@ -139,6 +139,7 @@ module _ (case book : List ℕ) (c : CleanCase case (marketIn case .students) (m
         };
         sorted = pairs-sorted case bytes (clean case n m c);
         once = pairs-once case (clean case n m c);
+        placed = placed case n m c;
         pair = pair-at;
         named = named-at;
         indexed = indexed-at;

@@ -23,7 +23,6 @@ use mathlib.Core.Bool.{true, false, not, _&&_, _||_, Bool·not-not as not-not}
 use mathlib.Core.Option.{some, none}
 use mathlib.Core.List.{List}
 use native.Mathlib.Omega.{arith}
-use native.Mathlib.Nat.{mul-le-mul-right, suc-mul}
 use lib.Dec.{eqb}
 use lib.ListN.{take}
 use borrow.Author.Tests.{eqb-true, eq-eqb, ne-eqb}
@@ -31,6 +30,7 @@ use Rattle.base.specs.Lists.{one, any, tally, find}
 use Rattle.base.specs.Search.{firstBad, Rising}
 use Rattle.base.proofs.Tests.{bool-cases, never, and-left, and-right, and-make, or-false, is-false, less?}
 use Rattle.base.proofs.Below.{tally-below, any-before, any-found, any-none, any-at, find-first, find-at, count-grows}
+use Rattle.base.proofs.Keys.{key-less, key-apart}
 use Rattle.base.proofs.Search.{first-below, first-passes, none-fails}
 use Rattle.format.specs.Layout.{Row, rowAt, rowCount, rows, noRow, ofKind, isStudent, isWorkshop, isPair, marketOf}
 use Rattle.format.specs.Refusals.{notWithin, badForm, namesNobody, badOrder}
@@ -349,26 +349,14 @@ module _ (case : List ℕ) where
       pub keys-rise : Rising (keyAt case base) (pairCount case)
       keys-rise = record { step = rises }
         where
-          key-less : (a b d e : ℕ) → b < base → a < d → a * base + b < d * base + e
-          key-less a b d e l less = omega (arith, mul-le-mul-right base less, suc-mul a base)
-
           rises : (j : ℕ) → suc j < pairCount case → keyAt case base j < keyAt case base (suc j)
           rises j l =
               let at = people case + j in
               let u : at < rowCount case = omega (arith, places .whole) in
               ⊎-elim
-              (λ less. key-less _ _ _ _ (omega (arith, pair-names at u (places .pair at (omega arith) u) .1 .1)) less)
+              (λ less. key-less base _ _ _ _ (omega (arith, pair-names at u (places .pair at (omega arith) u) .1 .1)) less)
               (λ same. omega (arith, ap (λ x. x * base) (same .0), same .1))
               (pairs-rise at (people case + suc j) (omega arith) (omega arith) (omega (arith, places .whole)))
-
-      key-apart : (a b d e : ℕ) → b < base → e < base → a * base + b ≡ d * base + e → (a ≡ d) × (b ≡ e)
-      key-apart a b d e l u q =
-          ⊎-elim (λ (less : a < d). absurd (omega (arith, mul-le-mul-right base less, suc-mul a base)))
-          (λ (le : d ≤ a).
-          ⊎-elim (λ (less : d < a). absurd (omega (arith, mul-le-mul-right base less, suc-mul d base)))
-          (λ (ge : a ≤ d). let same : a ≡ d = omega arith in (same, omega (arith, ap (λ x. x * base) same)))
-          (less? d a))
-          (less? a d)
 
       -- the test on the key is the test for the pair
       pub key-is : (s w j : ℕ) → w < base → j < pairCount case
@@ -386,7 +374,7 @@ module _ (case : List ℕ) where
           (ne-eqb (keyAt case base j) (s * base + w)
           (λ e.
           let r : (rowAt case at .first ≡ s) × (rowAt case at .second ≡ w) =
-          key-apart (rowAt case at .first) (rowAt case at .second) s w (omega (arith, pair-names at v kind .1 .1)) l e in
+          key-apart base (rowAt case at .first) (rowAt case at .second) s w (omega (arith, pair-names at v kind .1 .1)) l e in
           never (and-make (eq-eqb _ _ kind) (and-make (eq-eqb _ _ (r .0)) (eq-eqb _ _ (r .1)))) q)))
           (bool-cases (isPair s w (rowAt case at)))
 

@@ -18,6 +18,8 @@ use Rattle.format.specs.Refusals.{Room, notWithin, badForm, badOrder, badCounts
 use Rattle.format.specs.Engine.{marketIn}
 use Rattle.format.proofs.Positions.{clean-all, within, Sorted, places}
 use Rattle.format.proofs.Positions.{Clean as CleanTo}
+use Rattle.records.specs.Records.{PairsPlaced}
+use Rattle.records.proofs.Places.{pairs-placed}
 use Rattle.intake.specs.Order.{Counted}
 use Rattle.intake.specs.Checked.{CleanCase, checkedOf, pairCount, caseRefusal, bookRefusal, noRoom}
 use Rattle.intake.specs.declared.Checked.the-variants.{Refused, Clean}
@@ -66,6 +68,10 @@ module _ (case : List ℕ) where
 module _ (case : List ℕ) (n m : ℕ) (c : CleanCase case n m) where
   pub clean : CleanTo case (rowCount case)
   clean = clean-all case (c .form) (c .order)
+
+  -- where all pairs have a record, each stands in its place
+  pub placed : PairsPlaced case n m
+  placed = rw (c .students, c .workshops) (pairs-placed case clean)
 
   pub few : ((1 ≤ n) × (n ≤ 512)) × ((1 ≤ m) × (m ≤ 64))
   unfolding badCounts marketOf

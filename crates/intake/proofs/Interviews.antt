@@ -1,6 +1,6 @@
 -- An interview by its pair's record, the index and its book record.
 use Prim.Native.Nat.{ℕ, _+_, _-_, _*_, _≤_, _<_}
-use mathlib.Core.Path.{_≡_, refl, ap, _∙_}
+use mathlib.Core.Path.{_≡_, sym, ap, _∙_}
 use mathlib.Core.Bool.{Bool, true, false, cond}
 use mathlib.Core.List.{List}
 use mathlib.Core.Option.{Option, some, none}
@@ -8,7 +8,7 @@ use native.Mathlib.Omega.{arith}
 use lib.ListN.{length, getD}
 use lib.Dec.{eqb}
 use borrow.Author.Tests.{ne-eqb, eqb-true, lt-ltb}
-use Rattle.base.specs.Words.{signed}
+use Rattle.base.specs.Words.{word, signed}
 use Rattle.base.specs.Search.{firstBad}
 use Rattle.base.proofs.Tests.{is-false, and-left, and-right}
 use Rattle.base.proofs.Search.{scan-none, none-fails, first-below}
@@ -19,7 +19,7 @@ use Rattle.format.proofs.Positions.{student-tier-at, workshop-tier-at}
 use Rattle.records.specs.Records.{pairPlace}
 use Rattle.intake.specs.Checked.{pairCount}
 use Rattle.intake.specs.Index.{fromOne, pairsFrom}
-use Rattle.intake.specs.Ties.{Indexed, tierOf, scoreOf, numberOf, keyOf}
+use Rattle.intake.specs.Ties.{Indexed, tierOf, scoreOf, numberOf, keyOf, StandsAt}
 use Rattle.intake.proofs.Laws.{pair-any}
 use Rattle.intake.proofs.Cases.{clean}
 use Rattle.intake.proofs.Indexing.{Placed, placed-by, placed-of, index-at}
@@ -89,12 +89,41 @@ module _ (case book index : List ℕ) (first : ℕ) (I : Indexed case book index
   tier-there false x y l =
       workshop-tier-at case (clean case (marketIn case .students) (marketIn case .workshops) (I .sound)) y x (pairPlace case y x) l (placed-at y x l .pair)
 
-  pub score-there : (b : Bool) (i : ℕ) → scoreOf b (entryAt book i) ≡ cond b (signed book (8 * i + 4)) (signed book (8 * i + 6))
-  unfolding entryAt
-  score-there true i = refl
-  score-there false i = refl
-
   pub key-found : (b : Bool) (x y : ℕ) → 0 < numberOf b book x y
       → keyOf b case book x y ≡ tierOf b (marketIn case) x y * 65536 + scoreOf b (entryAt book (numberOf b book x y - 1))
   unfolding keyOf
   key-found b x y l = rw (ne-eqb (numberOf b book x y) 0 (λ e. omega arith))
+
+-- ---- by the pair's record
+-- a side's tier and score, by their bytes
+tier-bytes : (b : Bool) (case : List ℕ) (p : ℕ) → cond b (rowAt case p .third) (rowAt case p .fourth) ≡ word case (16 * p + 6 + cond b 0 2)
+unfolding rowAt
+tier-bytes true case p = ap (word case) (omega arith)
+tier-bytes false case p = ap (word case) (omega arith)
+
+score-bytes : (b : Bool) (book : List ℕ) (i : ℕ) → scoreOf b (entryAt book i) ≡ signed book (8 * i + 4 + cond b 0 2)
+unfolding entryAt
+score-bytes true book i = ap (signed book) (omega arith)
+score-bytes false book i = ap (signed book) (omega arith)
+
+module _ (case book index : List ℕ) (first : ℕ) (I : Indexed case book index first) (b : Bool) (x y p : ℕ) (s : StandsAt b case x y p) where
+  there : pairPlace case (cond b x y) (cond b y x) < rowCount case
+  there = rw (s .place) at (s .inside)
+
+  pub at-spot : (first ≤ p) × (p - first < length index)
+  at-spot = let r = spot case book index first I b x y there in (omega (arith, r .0, s .place), omega (arith, r .1, s .place, I .room))
+
+  pub at-number : getD index (p - first) 0 ≡ numberOf b book x y
+  at-number = ap (λ k. getD index (k - first) 0) (s .place) ∙ number-there case book index first I b x y there
+
+  pub at-inside : 0 < getD index (p - first) 0 → getD index (p - first) 0 - 1 < entryCount book
+  at-inside l = rw at-number (number-inside case book index first I b x y (rw at-number at l))
+
+  pub at-key : 0 < getD index (p - first) 0
+      → keyOf b case book x y ≡ word case (16 * p + 6 + cond b 0 2) * 65536 + signed book (8 * (getD index (p - first) 0 - 1) + 4 + cond b 0 2)
+  at-key l =
+      let tier : tierOf b (marketIn case) x y ≡ word case (16 * p + 6 + cond b 0 2) =
+      tier-there case book index first I b x y there ∙ ap (λ k. cond b (rowAt case k .third) (rowAt case k .fourth)) (sym (s .place)) ∙ tier-bytes b case p in
+      let score : scoreOf b (entryAt book (numberOf b book x y - 1)) ≡ signed book (8 * (getD index (p - first) 0 - 1) + 4 + cond b 0 2) =
+      ap (λ k. scoreOf b (entryAt book (k - 1))) (sym at-number) ∙ score-bytes b book (getD index (p - first) 0 - 1) in
+      key-found case book index first I b x y (rw at-number at l) ∙ rw (tier, score)

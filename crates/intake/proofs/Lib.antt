@@ -4,5 +4,6 @@ pub mod Cases
 pub mod Indexing
 pub mod Lowering
 pub mod Interviews
+pub mod Standing
 pub mod Sides
 pub mod Seeing

@@ -9,9 +9,10 @@ use lib.ListN.{length}
 use lib.Dec.{eqb}
 use Rattle.base.specs.Search.{firstBad}
 use Rattle.lgs.specs.Market.{Market}
-use Rattle.format.specs.Layout.{Entry, rows, entries, entryAt, entryCount, isInterview}
+use Rattle.format.specs.Layout.{Entry, rows, rowCount, entries, entryAt, entryCount, isInterview}
 use Rattle.format.specs.Refusals.{badPair, badRepeat, studentTies, workshopTies}
 use Rattle.format.specs.Engine.{marketIn}
+use Rattle.records.specs.Records.{pairPlace}
 use Rattle.intake.specs.Checked.{CleanCase, pairCount}
 use Rattle.intake.specs.Index.{fromOne, pairsFrom, lentIndex}
 
@@ -55,6 +56,19 @@ unfoldable pub keyOf : Bool → List ℕ → List ℕ → ℕ → ℕ → ℕ
 keyOf b case book x y =
     let k = numberOf b book x y in
     cond (eqb k 0) y (tierOf b (marketIn case) x y * 65536 + scoreOf b (entryAt book (k - 1)))
+
+-- record p is that of the pair of x and y
+pub record StandsAt (b : Bool) (case : List ℕ) (x y p : ℕ) : Type 0 where
+  pub place : p ≡ pairPlace case (cond b x y) (cond b y x)
+  pub inside : p < rowCount case
+
+-- the pairs of x with 1 to `count` stand `step` records apart, from record `start` on
+abbrev pub StandFrom : Bool → List ℕ → ℕ → ℕ → ℕ → ℕ → Type 0
+StandFrom b case x count start step = (k : ℕ) → k < count → StandsAt b case x (suc k) (start + k * step)
+
+-- no two of the interviews below `count` have one key
+pub record Differ (key : ℕ → ℕ) (count : ℕ) : Type 0 where
+  pub apart : (i j : ℕ) → i < count → j < i → key j ≡ key i → ⊥
 
 -- ---- the lowest record, from 1, that ties with an earlier one: `low` made `after`
 

@@ -21,13 +21,16 @@ pub fn clear(index: &mut [u16])
     }
 }
 
-// The place of the pair's record, or how many records there are: first where it stands if all pairs have a record.
+// The place of the pair's record, or how many records there are. Where all pairs have a record it is known; else it is searched.
 pub fn place(case: &[u8], rows: usize, students: usize, workshops: usize, s: u16, w: u16) -> usize
     requires { ⌜ rows ≡ rowCount (now case) ⌝ }
     requires { ⌜ CleanCase (now case) students workshops ⌝ }
     ensures { λ r. ⌜ r ≡ pairPlace (now (case .entry)) s w ⌝ }
 {
-    let guess = students - 1 + workshops * (s as usize) + w as usize;
+    let guess = students + s as usize * workshops + w as usize - 1;
+    if records::is_known(rows, students, workshops, s as usize, w as usize) {
+        return guess;
+    }
     records::find_pair_at(case, rows, guess, s, w)
 }
 

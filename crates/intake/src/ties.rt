@@ -2,14 +2,14 @@
 // tie with an earlier one the lowest is kept, counted from 1.
 use super::index::place;
 ghost use mathlib.Core.Path.{_≡_};
-ghost use mathlib.Core.Bool.{not, cond};
-ghost use Prim.Native.Nat.{suc, _+_, _*_, _≤_, _<_, max, min};
+ghost use mathlib.Core.Bool.{true, not, cond};
+ghost use Prim.Native.Nat.{ℕ, suc, _+_, _*_, _≤_, _<_, max, min};
 ghost use lib.ListN.{length, getD};
 ghost use Rattle.base.specs.Search.{firstBad, orEnd};
 ghost use Rattle.format.specs.Layout.{rows, entries, entryCount};
 ghost use Rattle.format.specs.Refusals.{badTie};
 ghost use Rattle.format.specs.Engine.{marketIn};
-ghost use Rattle.intake.specs.Ties.{Indexed, personsOf, numberOf, keyOf, Lowered, LoweredBy, LoweredOn};
+ghost use Rattle.intake.specs.Ties.{Indexed, personsOf, numberOf, keyOf, StandsAt, StandFrom, Differ, Lowered, LoweredBy, LoweredOn};
 ghost use Rattle.intake.specs.Seen.{Met, slotOf};
 
 // ---- one person's interviews, by their keys and the numbers of their records
@@ -120,6 +120,40 @@ fn joined(tier: u16, score: u16) -> u32
     tier as u32 * 65536 + score as u32
 }
 
+// How many bytes further on the side has its tier in a pair's record, and its score in a book record.
+fn bytes_on(student: bool) -> usize
+    ensures { λ r. ⌜ r ≡ cond student 0 2 ⌝ }
+{
+    if student { 0 } else { 2 }
+}
+
+// The interview with y of the person of the side who has pair record p with y.
+fn interview_at(
+    case: &[u8],
+    book: &[u8],
+    index: &[u16],
+    from: usize,
+    student: bool,
+    p: usize,
+    y: u16,
+) -> Interview
+    requires { ⌜ Indexed (now case) (now book) (now index) from ⌝ }
+    requires { ⌜ ((x : ℕ) × StandsAt student (now case) x y p) ⌝ }
+    ensures { λ r. ⌜ ((x : ℕ) → StandsAt student (now (case .entry)) x y p → (r .number ≡ numberOf student (now (book .entry)) x y) × (r .key ≡ keyOf student (now (case .entry)) (now (book .entry)) x y)) ⌝ }
+{
+    let number = index[p - from];
+    if number < 1 {
+        return no_interview(y);
+    }
+    let on = bytes_on(student);
+    let tier = records::u16_at(case, 16 * p + 6 + on);
+    let score = records::biased_at(book, 8 * (number as usize - 1) + 4 + on);
+    Interview {
+        number,
+        key: joined(tier, score),
+    }
+}
+
 // The interview of person x of the side with y.
 fn interview_of(
     case: &[u8],
@@ -142,22 +176,77 @@ fn interview_of(
     if n <= p {
         return no_interview(y);
     }
-    let number = index[p - from];
-    if number < 1 {
-        return no_interview(y);
+    interview_at(case, book, index, from, student, p, y)
+}
+
+// ---- a person whose interviews all have slots of their own
+
+// The slots of the interviews with 1 to `others` are met one after the other, none of them twice. The pairs stand `step` records apart, from record `start` on.
+fn all_new(
+    case: &[u8],
+    book: &[u8],
+    index: &[u16],
+    from: usize,
+    student: bool,
+    start: usize,
+    step: usize,
+    others: usize,
+    seen: &mut [u64],
+) -> bool
+    requires { ⌜ Indexed (now case) (now book) (now index) from ⌝ }
+    requires { ⌜ (others ≤ 512) × (step ≤ 64) × (start < 65536) × (length (now seen) ≡ 256) ⌝ }
+    requires { ⌜ ((x : ℕ) × StandFrom student (now case) x others start step) ⌝ }
+    ensures { λ r. ⌜ (r ≡ true → (x : ℕ) → StandFrom student (now (case .entry)) x others start step → Differ (λ k. keyOf student (now (case .entry)) (now (book .entry)) x (suc k)) others) ⌝ }
+{
+    let mut p = start;
+    let mut k = 0;
+    while k < others {
+        let v = interview_at(case, book, index, from, student, p, (k + 1) as u16);
+        if met(seen, slot_of(v.key)) {
+            return false;
+        }
+        p += step;
+        k += 1;
     }
-    let r = records::row_at(case, p);
-    let at = 8 * (number as usize - 1);
-    let tier = pick(student, r.third, r.fourth);
-    let score = pick(
-        student,
-        records::biased_at(book, at + 4),
-        records::biased_at(book, at + 6),
-    );
-    Interview {
-        number,
-        key: joined(tier, score),
+    true
+}
+
+// Where all pairs have a record: no two interviews of person x of the side share a slot, so none tie.
+fn is_clear(
+    case: &[u8],
+    book: &[u8],
+    index: &[u16],
+    from: usize,
+    workshops: usize,
+    student: bool,
+    x: usize,
+    others: usize,
+) -> bool
+    requires { ⌜ Indexed (now case) (now book) (now index) from ⌝ }
+    requires { ⌜ (1 ≤ x) × (x ≤ personsOf student (now case)) × (others ≡ personsOf (not student) (now case)) × (workshops ≡ marketIn (now case) .workshops) ⌝ }
+    ensures { λ r. ⌜ (r ≡ true → Differ (λ k. keyOf student (now (case .entry)) (now (book .entry)) x (suc k)) others) ⌝ }
+{
+    let rows = records::row_count(case.len());
+    if rows != from + (from - workshops) * workshops {
+        return false;
     }
+    let mut seen = [0u64; 256];
+    if student {
+        let start = from + (x - 1) * workshops;
+        return all_new(case, book, index, from, true, start, 1, others, &mut seen);
+    }
+    let start = from + x - 1;
+    all_new(
+        case,
+        book,
+        index,
+        from,
+        false,
+        start,
+        workshops,
+        others,
+        &mut seen,
+    )
 }
 
 // Lowers `low` by the interviews of person x of the side with the others.
@@ -216,18 +305,22 @@ fn ties_on(
     let mut after = low;
     let mut x = 0;
     while x < persons {
-        after = tie_of(
-            case,
-            book,
-            index,
-            from,
-            workshops,
-            student,
-            (x + 1) as u16,
-            others,
-            after,
-        );
-        x += 1;
+        if is_clear(case, book, index, from, workshops, student, x + 1, others) {
+            x += 1;
+        } else {
+            after = tie_of(
+                case,
+                book,
+                index,
+                from,
+                workshops,
+                student,
+                (x + 1) as u16,
+                others,
+                after,
+            );
+            x += 1;
+        }
     }
     after
 }

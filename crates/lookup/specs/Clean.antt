@@ -7,7 +7,7 @@ use lib.ListN.{length, getD}
 use Rattle.lgs.specs.Market.{studentOutside, workshopOutside}
 use Rattle.format.specs.Layout.{rowAt, rowCount, entryAt, entryCount}
 use Rattle.format.specs.Engine.{marketIn, resultsIn}
-use Rattle.records.specs.Records.{PairsSorted, PairsOnce, pairPlace}
+use Rattle.records.specs.Records.{PairsSorted, PairsOnce, PairsPlaced, pairPlace}
 
 -- record s - 1 is that of student s
 pub record StudentAt (case : List ℕ) (s : ℕ) : Type 0 where
@@ -35,6 +35,7 @@ pub record PairsFound (case : List ℕ) (n m : ℕ) : Type 0 where
   pub manyWorkshops : m ≤ 64
   pub sorted : PairsSorted case
   pub once : PairsOnce case
+  pub placed : PairsPlaced case n m
 
 -- what the index has for the pair: the number of its book record plus 1, or 0; with n students and m workshops, entry 0 is that of record n + m
 abbrev pub indexAt : List ℕ → List ℕ → ℕ → ℕ → ℕ → ℕ → ℕ
@@ -56,6 +57,7 @@ pub record Clean (case book index : List ℕ) (n m : ℕ) : Type 0 where
   pub workshop : (w : ℕ) → 1 ≤ w → w ≤ m → WorkshopAt case n w
   pub sorted : PairsSorted case
   pub once : PairsOnce case
+  pub placed : PairsPlaced case n m
   pub pair : (s w : ℕ) → marketIn case .paired s w ≡ true → PairAt case s w
   pub named : (s w : ℕ) → marketIn case .paired s w ≡ true → ((1 ≤ s) × (s ≤ n)) × ((1 ≤ w) × (w ≤ m))
   pub indexed : (s w : ℕ) → marketIn case .paired s w ≡ true → (n + m ≤ pairPlace case s w) × (pairPlace case s w - (n + m) < length index)

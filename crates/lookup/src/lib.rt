@@ -42,7 +42,7 @@ pub fn workshop_outside(case: &[u8], students: usize, w: usize) -> u16
 
 // ---- a pair's record
 
-// The number of the pair's record, or how many records there are. Where all pairs stand in the case it is known; else it is searched.
+// The number of the pair's record, or how many records there are. Where all pairs have a record it is known; else it is searched.
 pub fn pair_of(case: &[u8], students: usize, workshops: usize, s: usize, w: usize) -> usize
     requires { ⌜ (s < 65536) × (1 ≤ w) × (w < 65536) ⌝ }
     requires { ⌜ PairsFound (now case) students workshops ⌝ }
@@ -50,6 +50,9 @@ pub fn pair_of(case: &[u8], students: usize, workshops: usize, s: usize, w: usiz
 {
     let guess = students + s * workshops + w - 1;
     let rows = records::row_count(case.len());
+    if records::is_known(rows, students, workshops, s, w) {
+        return guess;
+    }
     records::find_pair_at(case, rows, guess, s as u16, w as u16)
 }
 

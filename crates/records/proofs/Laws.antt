@@ -77,6 +77,15 @@ pair-by-key r s w h k =
     (λ (e : eqb (r .kind) 3 ≡ false). rw e (sym (ne-eqb 0 (s * 65536 + w + 1) (λ q. omega arith))))
     (bool-cases (eqb (r .kind) 3))
 
+-- the record of a pair is the one that the search finds
+pub found-at : (case : List ℕ) → PairsOnce case → (s w g : ℕ) → g < rowCount case → isPair s w (rowAt case g) ≡ true → g ≡ pairPlace case s w
+found-at case o s w g l p =
+    sym
+    (rw
+    (scan-found (λ i. isPair s w (rowAt case i)) g (rowCount case)
+    (scan-none (λ i. isPair s w (rowAt case i)) g (λ k m. is-false (isPair s w (rowAt case k)) (λ t. omega (arith, o .once s w k g (omega arith) l t p))))
+    p l))
+
 -- the keys of the case's records
 abbrev pub keysOf : List ℕ → ℕ → ℕ
 keysOf case i = pairKey (rowAt case i)
@@ -94,13 +103,7 @@ module _ (case : List ℕ) (s w x : ℕ) (f : (k : ℕ) → getD case k 0 < 256)
 
   -- a record with the pair's key is the one that the search finds
   pub guessed : PairsOnce case → (g : ℕ) → g < rowCount case → keysOf case g ≡ x → g ≡ pairPlace case s w
-  guessed o g l q =
-      let p : isPair s w (rowAt case g) ≡ true = pair-by-key (rowAt case g) s w (second-fits case f g) b ∙ eq-eqb (keysOf case g) (s * 65536 + w + 1) (q ∙ e) in
-      sym
-      (rw
-      (scan-found (λ i. isPair s w (rowAt case i)) g (rowCount case)
-      (scan-none (λ i. isPair s w (rowAt case i)) g (λ k m. is-false (isPair s w (rowAt case k)) (λ t. omega (arith, o .once s w k g (omega arith) l t p))))
-      p l))
+  guessed o g l q = found-at case o s w g l (pair-by-key (rowAt case g) s w (second-fits case f g) b ∙ eq-eqb (keysOf case g) (s * 65536 + w + 1) (q ∙ e))
 
 -- the pairs of a case that passes causes 2 and 3 have one record each
 pub pairs-once : (case : List ℕ) → Clean case (rowCount case) → PairsOnce case

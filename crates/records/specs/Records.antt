@@ -1,9 +1,9 @@
 -- The code's records as the layout's, and the order in which a pair is looked up.
-use Prim.Native.Nat.{ℕ, suc, _+_, _*_, _<_}
+use Prim.Native.Nat.{ℕ, suc, _+_, _-_, _*_, _<_}
 use mathlib.Core.Path.{_≡_}
-use mathlib.Core.Bool.{true, cond}
+use mathlib.Core.Bool.{Bool, true, cond, _&&_}
 use mathlib.Core.List.{List}
-use lib.Dec.{eqb}
+use lib.Dec.{eqb, leb}
 use Rattle.base.specs.Words.{biased}
 use Rattle.base.specs.Search.{firstBad, orEnd, NotFalling}
 use Rattle.format.specs.Layout.{rowAt, rowCount, isPair}
@@ -49,3 +49,11 @@ pub record PairsOnce (case : List ℕ) : Type 0 where
 -- the place of the pair's record, or how many records there are
 abbrev pub pairPlace : List ℕ → ℕ → ℕ → ℕ
 pairPlace case s w = orEnd (rowCount case) (firstBad (λ i. isPair s w (rowAt case i)) (rowCount case))
+
+-- among so many records all pairs of n students and m workshops have one, and s and w are among these
+abbrev pub isKnown : ℕ → ℕ → ℕ → ℕ → ℕ → Bool
+isKnown rows n m s w = eqb rows (n + m + n * m) && ((leb 1 s && leb s n) && (leb 1 w && leb w m))
+
+-- then the place of the pair's record is known: so it is where causes 2 and 3 find nothing
+pub record PairsPlaced (case : List ℕ) (n m : ℕ) : Type 0 where
+  pub placed : (s w : ℕ) → isKnown (rowCount case) n m s w ≡ true → pairPlace case s w ≡ n + s * m + w - 1

@@ -1,13 +1,13 @@
 // Fields, records and scores of the case and the book, read from their bytes, and the lookup of a pair's record.
 ghost use mathlib.Core.Path.{_≡_};
 ghost use mathlib.Core.Bool.{not};
-ghost use Prim.Native.Nat.{_+_, _*_, _/_, _%_, _<_};
+ghost use Prim.Native.Nat.{_+_, _*_, _/_, _%_, _≤_, _<_};
 ghost use lib.ListN.{length};
 ghost use lib.Dec.{ltb};
 ghost use Rattle.base.specs.Words.{word, signed, biased};
 ghost use Rattle.format.specs.Layout.{rowAt, entryAt, rowCount, entryCount, outsideScore};
 ghost use Rattle.format.specs.Refusals.{badScore};
-ghost use Rattle.records.specs.Records.{rowOf, entryOf, pairKey, PairsSorted, PairsOnce, pairPlace};
+ghost use Rattle.records.specs.Records.{rowOf, entryOf, pairKey, PairsSorted, PairsOnce, pairPlace, isKnown};
 
 // A record of the case, as the layout has it: `rest` is the sum of the three fields from byte 10.
 pub struct Row {
@@ -212,4 +212,15 @@ pub fn find_pair_at(case: &[u8], rows: usize, guess: usize, s: u16, w: u16) -> u
         }
     }
     find_pair(case, rows, s, w)
+}
+
+// Among `rows` records all pairs of the students and workshops have one, and s and w are among these.
+pub fn is_known(rows: usize, students: usize, workshops: usize, s: usize, w: usize) -> bool
+    requires { ⌜ (students ≤ 512) × (workshops ≤ 64) ⌝ }
+    ensures { λ r. ⌜ r ≡ isKnown rows students workshops s w ⌝ }
+{
+    if rows == students + workshops + students * workshops {
+        return ((1 <= s) & (s <= students)) & ((1 <= w) & (w <= workshops));
+    }
+    false
 }

@@ -5,6 +5,7 @@ use mathlib.Core.Bool.{not}
 use native.Mathlib.Omega.{arith}
 use native.Mathlib.Numerals.{add-one}
 use Rattle.intake.specs.Ties.{Lowered, LoweredOn, keyOf, numberOf}
+use Rattle.intake.proofs.Seeing.{differ-low}
 use Rattle.intake.proofs.Sides.{persons-few, side-start, side-on}
 use Rattle.intake.proofs.ties.ties_on.Statement.{statement}
 use Rattle.intake.proofs.ties.ties_on.Tie as tie
@@ -20,18 +21,13 @@ loop-holds c =
     let a = c .before .before .before .args in
     (omega arith, side-start (a .case .now) (a .book .now) (a .index .now) (a .from) (c .before .before .before .pre .0) (a .student) (a .low))
 
-add-tie-of : tie.Need-add-tie-of Inv-loop μ-loop
-add-tie-of c = omega arith
+add-is-clear : tie.Need-add-is-clear Inv-loop μ-loop
+add-is-clear c = omega arith
 
-cast-tie-of : tie.Need-cast-tie-of Inv-loop μ-loop
-cast-tie-of c =
-    let a = c .before .before .before .before .before .args in
-    omega (arith, c .before .before .before .before .before .pre .1 .0, persons-few (a .case .now) (a .book .now) (a .index .now) (a .from) (c .before .before .before .before .before .pre .0) (a .student))
-
-tie-of-requires : tie.Need-tie-of-requires Inv-loop μ-loop
-tie-of-requires c κs =
-    let a = c .before .before .before .before .before .args in
-    (c .before .before .before .before .before .pre .0, (omega (arith, c .before .before .before .before .before .pre .1 .1, persons-few (a .case .now) (a .book .now) (a .index .now) (a .from) (c .before .before .before .before .before .pre .0) (not (a .student))), c .before .before .before .before .before .pre .1 .2))
+is-clear-requires : tie.Need-is-clear-requires Inv-loop μ-loop
+is-clear-requires c κs =
+    let start = c .before .before .before .before .before in
+    (start .pre .0, (omega arith, omega (arith, start .pre .1 .0), start .pre .1 .1, start .pre .1 .2))
 
 add-x : tie.Need-add-x Inv-loop μ-loop
 add-x c = omega arith
@@ -41,12 +37,44 @@ loop-less c = omega arith
 
 loop-again : tie.Need-loop-again Inv-loop μ-loop
 loop-again c =
-    let a = c .before .before .before .before .before .before .args in
-    let here = c .before .before .loop in
+    let start = c .before .before .before .before .before .before .before in
+    let a = start .args in
+    let here = c .before .before .before .loop in
+    let few : a .others ≤ 512 = omega (arith, start .pre .1 .1, persons-few (a .case .now) (a .book .now) (a .index .now) (a .from) (start .pre .0) (not (a .student))) in
+    let r : Lowered (λ k. keyOf (a .student) (a .case .now) (a .book .now) (suc (here .x)) (suc k)) (λ k. numberOf (a .student) (a .book .now) (suc (here .x)) (suc k)) (a .others) (here .after) (here .after) =
+    differ-low (λ k. keyOf (a .student) (a .case .now) (a .book .now) (suc (here .x)) (suc k)) (λ k. numberOf (a .student) (a .book .now) (suc (here .x)) (suc k)) (a .others) (here .after) (rw (add-one (here .x)) at (c .before .is-clear .ensures (c .if1 .taken))) in
+    (omega arith, side-on (a .case .now) (a .book .now) (a .index .now) (a .from) (start .pre .0) (a .student) (here .x) (a .others) (a .low) (here .after) (here .after) (start .pre .1 .1) few (here .inv .1) r)
+
+add-tie-of : tie.Need-add-tie-of Inv-loop μ-loop
+add-tie-of c = omega arith
+
+cast-tie-of : tie.Need-cast-tie-of Inv-loop μ-loop
+cast-tie-of c =
+    let start = c .before .before .before .before .before .before .before in
+    let a = start .args in
+    omega (arith, start .pre .1 .0, persons-few (a .case .now) (a .book .now) (a .index .now) (a .from) (start .pre .0) (a .student))
+
+tie-of-requires : tie.Need-tie-of-requires Inv-loop μ-loop
+tie-of-requires c κs =
+    let start = c .before .before .before .before .before .before .before in
+    let a = start .args in
+    (start .pre .0, (omega (arith, start .pre .1 .1, persons-few (a .case .now) (a .book .now) (a .index .now) (a .from) (start .pre .0) (not (a .student))), start .pre .1 .2))
+
+add-x-2 : tie.Need-add-x-2 Inv-loop μ-loop
+add-x-2 c = omega arith
+
+loop-less-2 : tie.Need-loop-less-2 Inv-loop μ-loop
+loop-less-2 c = omega arith
+
+loop-again-2 : tie.Need-loop-again-2 Inv-loop μ-loop
+loop-again-2 c =
+    let start = c .before .before .before .before .before .before .before .before in
+    let a = start .args in
+    let here = c .before .before .before .before .loop in
+    let few : a .others ≤ 512 = omega (arith, start .pre .1 .1, persons-few (a .case .now) (a .book .now) (a .index .now) (a .from) (start .pre .0) (not (a .student))) in
     let r : Lowered (λ k. keyOf (a .student) (a .case .now) (a .book .now) (suc (here .x)) (suc k)) (λ k. numberOf (a .student) (a .book .now) (suc (here .x)) (suc k)) (a .others) (here .after) (c .tie-of .result) =
     rw (add-one (here .x)) at (c .tie-of .ensures) in
-    let few : c .before .before .before .before .before .before .args .others ≤ 512 = omega (arith, c .before .before .before .before .before .before .pre .1 .1, persons-few (a .case .now) (a .book .now) (a .index .now) (a .from) (c .before .before .before .before .before .before .pre .0) (not (a .student))) in
-    (omega arith, side-on (a .case .now) (a .book .now) (a .index .now) (a .from) (c .before .before .before .before .before .before .pre .0) (a .student) (here .x) (a .others) (a .low) (here .after) (c .tie-of .result) (c .before .before .before .before .before .before .pre .1 .1) few (here .inv .1) r)
+    (omega arith, side-on (a .case .now) (a .book .now) (a .index .now) (a .from) (start .pre .0) (a .student) (here .x) (a .others) (a .low) (here .after) (c .tie-of .result) (start .pre .1 .1) few (here .inv .1) r)
 
 returns : tie.Need-returns Inv-loop μ-loop
 returns c =
@@ -60,10 +88,15 @@ ties-on-spec =
     Inv-loop
     μ-loop
     loop-holds
-    add-tie-of
-    cast-tie-of
-    tie-of-requires
+    add-is-clear
+    is-clear-requires
     add-x
     loop-less
     loop-again
+    add-tie-of
+    cast-tie-of
+    tie-of-requires
+    add-x-2
+    loop-less-2
+    loop-again-2
     returns)
