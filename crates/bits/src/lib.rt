@@ -40,3 +40,12 @@ pub fn lowest(bits: u64) -> usize
 {
     u64::trailing_zeros(bits) as usize + 1
 }
+
+// The set without its lowest-numbered workshop. The number is smaller, so a loop that takes one out each turn ends.
+pub fn without_lowest(bits: u64) -> u64
+    requires { ⌜ 0 < bits ⌝ }
+    ensures { λ r. ⌜ ((w : ℕ) → Low bits w → (x : ℕ) → member r x ≡ (member bits x && not (eqb x w))) ⌝ }
+    ensures { λ r. ⌜ r < bits ⌝ }
+{
+    bits & (bits - 1)
+}

@@ -162,7 +162,7 @@ fn best_from(
     while rest > 0 {
         let w = bits::lowest(rest);
         let score = score_of(case, book, index, students, workshops, s, w);
-        rest = bits::without_bit(rest, w);
+        rest = bits::without_lowest(rest);
         if records::above(score, top) {
             best = w;
             top = score;
@@ -289,9 +289,11 @@ fn is_declined(case: &[u8], book: &[u8], students: usize, w: usize, pair: usize,
     requires { ⌜ (pair < rowCount (now case)) × (1 ≤ e) × (e ≤ entryCount (now book)) ⌝ }
     ensures { λ r. ⌜ ((s : ℕ) → rowAt (now (case .entry)) pair .fourth ≡ marketIn (now (case .entry)) .workshopTier w s → entryAt (now (book .entry)) (e - 1) .workshopScore ≡ resultsIn (now (book .entry)) .workshopScore w s → r ≡ declined (marketIn (now (case .entry))) (resultsIn (now (book .entry))) s w) ⌝ }
 {
-    let tier = lookup::workshop_tier(case, pair);
-    let score = lookup::workshop_score(book, e);
-    (tier == lookup::workshop_outside(case, students, w)) & records::negative(score)
+    if lookup::workshop_tier(case, pair) == lookup::workshop_outside(case, students, w) {
+        records::negative(lookup::workshop_score(book, e))
+    } else {
+        false
+    }
 }
 
 // The interview of student s with workshop w is listed after the first `count`.

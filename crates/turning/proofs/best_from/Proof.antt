@@ -32,14 +32,14 @@ lowest-requires c κs = omega arith
 score-of-requires-2 : tie.Need-score-of-requires-2 Inv-loop μ-loop
 score-of-requires-2 c κs = let here = c .before .before .loop in (c .before .before .before .before .before .before .before .pre .0, λ l. here .inv .known (c .lowest .result) (c .lowest .ensures .set))
 
-without-bit-requires : tie.Need-without-bit-requires Inv-loop μ-loop
-without-bit-requires c κs = (omega arith, omega arith)
+without-lowest-requires : tie.Need-without-lowest-requires Inv-loop μ-loop
+without-lowest-requires c κs = omega arith
 
 above-requires : tie.Need-above-requires Inv-loop μ-loop
 above-requires c κs = tt
 
 loop-less : tie.Need-loop-less Inv-loop μ-loop
-loop-less c = c .before .before .without-bit .ensures .1 .1 (c .before .before .before .before .lowest .ensures .set)
+loop-less c = c .before .before .without-lowest .ensures .1
 
 loop-again : tie.Need-loop-again Inv-loop μ-loop
 loop-again c =
@@ -47,12 +47,12 @@ loop-again c =
     let a = c .before .before .before .before .before .before .before .before .before .before .before .args in
     let w = c .before .before .before .before .lowest in
     let x = c .before .before .before .score-of2 in
-    let r = c .before .before .without-bit in
+    let r = c .before .before .without-lowest in
     let e : biased (toZ w16 (ofZ w16 (x .result))) ≡ resultsIn (a .book .now) .studentScore (a .s) (w .result) = rw (toZ-ofZ w16 (x .result) (record { sfits = x .ok })) (x .ensures) in
-    best-higher (marketIn (a .case .now)) (resultsIn (a .book .now)) (a .s) (a .start) (a .set) (here .best) (here .rest) (r .result) (w .result) (toZ w16 (here .top)) (toZ w16 (ofZ w16 (x .result))) (here .inv) (w .ensures) (r .ensures .1 .0) (omega arith) e (sym (c .before .above .ensures) ∙ c .if1 .taken)
+    best-higher (marketIn (a .case .now)) (resultsIn (a .book .now)) (a .s) (a .start) (a .set) (here .best) (here .rest) (r .result) (w .result) (toZ w16 (here .top)) (toZ w16 (ofZ w16 (x .result))) (here .inv) (w .ensures) (r .ensures .0 (w .result) (w .ensures)) (omega arith) e (sym (c .before .above .ensures) ∙ c .if1 .taken)
 
 loop-less-2 : tie.Need-loop-less-2 Inv-loop μ-loop
-loop-less-2 c = c .before .before .without-bit .ensures .1 .1 (c .before .before .before .before .lowest .ensures .set)
+loop-less-2 c = c .before .before .without-lowest .ensures .1
 
 loop-again-2 : tie.Need-loop-again-2 Inv-loop μ-loop
 loop-again-2 c =
@@ -60,9 +60,9 @@ loop-again-2 c =
     let a = c .before .before .before .before .before .before .before .before .before .before .before .args in
     let w = c .before .before .before .before .lowest in
     let x = c .before .before .before .score-of2 in
-    let r = c .before .before .without-bit in
+    let r = c .before .before .without-lowest in
     let e : biased (toZ w16 (ofZ w16 (x .result))) ≡ resultsIn (a .book .now) .studentScore (a .s) (w .result) = rw (toZ-ofZ w16 (x .result) (record { sfits = x .ok })) (x .ensures) in
-    best-kept (marketIn (a .case .now)) (resultsIn (a .book .now)) (a .s) (a .start) (a .set) (here .best) (here .rest) (r .result) (w .result) (toZ w16 (here .top)) (toZ w16 (ofZ w16 (x .result))) (here .inv) (w .ensures) (r .ensures .1 .0) (omega arith) e (sym (c .before .above .ensures) ∙ c .if1 .left)
+    best-kept (marketIn (a .case .now)) (resultsIn (a .book .now)) (a .s) (a .start) (a .set) (here .best) (here .rest) (r .result) (w .result) (toZ w16 (here .top)) (toZ w16 (ofZ w16 (x .result))) (here .inv) (w .ensures) (r .ensures .0 (w .result) (w .ensures)) (omega arith) e (sym (c .before .above .ensures) ∙ c .if1 .left)
 
 returns : tie.Need-returns Inv-loop μ-loop
 returns c = let here = c .before .loop in let a = c .before .before .before .before .before .before .args in best-end (marketIn (a .case .now)) (resultsIn (a .book .now)) (a .s) (a .start) (a .set) (here .best) (here .rest) _ (here .inv) (omega arith)
@@ -77,7 +77,7 @@ best-from-spec =
     loop-holds
     lowest-requires
     score-of-requires-2
-    without-bit-requires
+    without-lowest-requires
     above-requires
     loop-less
     loop-again
