@@ -1,22 +1,18 @@
 -- A number and the number before it: they differ from the lowest set digit down, so `&` of the two takes that digit out.
-use Prim.Native.Nat.{ℕ, zero, suc, _+_, _-_, _/_, _%_, _≤_, _<_}
-use mathlib.Core.Path.{_≡_, refl, sym, ap, _∙_}
+use Prim.Native.Nat.{ℕ, zero, suc, _-_, _/_, _%_, _<_}
+use mathlib.Core.Path.{_≡_, refl, _∙_}
 use mathlib.Core.Logic.{⊎-elim}
 use mathlib.Core.Bool.{Bool, true, false, not, _&&_}
 use native.Mathlib.Omega.{arith}
 use lib.Dec.{eqb, eqb·suc-suc}
 use lib.Bits.{bitAnd}
-use borrow.Author.Tests.{ne-eqb, eq-eqb, eqb-true, eqb-false}
+use borrow.Author.Tests.{ne-eqb, eqb-true, eqb-false}
 use Rattle.base.specs.Bits.{bit, member, Low}
 use Rattle.base.proofs.Digits.{digit, bit-and}
 
 same-twice : (a : Bool) → (a && a) ≡ (a && true)
 same-twice true = refl
 same-twice false = refl
-
-none-twice : (a : Bool) → (a && false) ≡ false
-none-twice true = refl
-none-twice false = refl
 
 -- j is the lowest set digit of n
 below-both : (n j i : ℕ) → 0 < n → bit n j ≡ true → ((x : ℕ) → x < j → bit n x ≡ false) → (bit n i && bit (n - 1) i) ≡ (bit n i && not (eqb i j))

@@ -2,4 +2,5 @@ pub mod Laws
 pub mod Due
 pub mod Visits
 pub mod Rounds
+pub mod Listing
 pub mod Turns

@@ -20,13 +20,13 @@ use Rattle.turning.specs.Round.{roundOf}
 use Rattle.turning.specs.declared.Round.{Round}
 use Rattle.turning.proofs.Visits.{put-more, put-none, put-length, flat-length, flat-snoc}
 
-count-to : (p : ℕ → Bool) (i n : ℕ) → i ≤ n → count p i ≤ count p n
+pub count-to : (p : ℕ → Bool) (i n : ℕ) → i ≤ n → count p i ≤ count p n
 unfolding count
 count-to p i zero h = let e : i ≡ 0 = omega arith in rw e (omega arith)
 count-to p i (suc n) h = ⊎-elim (λ (l : i < suc n). omega (arith, count-to p i n (omega arith))) (λ (l : suc n ≤ i). let e : i ≡ suc n = omega arith in rw e (omega arith)) (less? i (suc n))
 
 module _ (M : Market) (B : Results) (seats : List ℕ) (s t set : ℕ) where
-  abbrev soFar : ℕ → RoundSoFar
+  abbrev pub soFar : ℕ → RoundSoFar
   soFar k = roundTo M B seats s t set k
 
   -- a round that has stopped stays as it is
@@ -59,7 +59,7 @@ module _ (M : Market) (B : Results) (seats : List ℕ) (s t set : ℕ) where
   few (suc k) = omega (arith, step-length k, few k)
 
   -- workshop k + 1 is not to be interviewed
-  skipped : (k : ℕ) → dueAt M B seats s t (suc k) ≡ false → soFar (suc k) ≡ soFar k
+  pub skipped : (k : ℕ) → dueAt M B seats s t (suc k) ≡ false → soFar (suc k) ≡ soFar k
   unfolding roundTo
   skipped k d =
       ⊎-elim (λ (z : eqb (soFar k .missing) 0 ≡ true). rw (d, z)) (λ (z : eqb (soFar k .missing) 0 ≡ false). rw (d, z)) (bool-cases (eqb (soFar k .missing) 0))

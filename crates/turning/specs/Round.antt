@@ -1,11 +1,15 @@
 -- A round of interviews, as the code answers it, and what it needs of the seats.
-use Prim.Native.Nat.{ℕ, _+_, _≤_, _<_}
+use Prim.Native.Nat.{ℕ, suc, _+_, _≤_, _<_}
+use mathlib.Core.Path.{_≡_}
+use mathlib.Core.Bool.{Bool, true, _&&_}
 use mathlib.Core.List.{List}
 use lib.ListN.{length, getD}
-use Rattle.base.specs.Lists.{total}
+use lib.Dec.{eqb}
+use Rattle.base.specs.Lists.{count, total}
 use Rattle.lgs.specs.Market.{Market, Results}
 use Rattle.format.specs.Engine.{marketIn}
-use Rattle.model.specs.Store.{part, lastOf}
+use Rattle.records.specs.Records.{pairPlace}
+use Rattle.model.specs.Store.{part, lastOf, seatsFrom}
 use Rattle.model.specs.Turn.{RoundSoFar}
 use Rattle.model.specs.Ready.{Booked}
 use Rattle.lookup.specs.Clean.{WorkshopAt, PairAt}
@@ -26,3 +30,14 @@ pub record SeatedAll (M : Market) (B : Results) (seats : List ℕ) : Type 0 wher
 -- the code's answer, where `count` interviews were held before
 abbrev pub roundOf : ℕ → RoundSoFar → Round
 roundOf count o = record { count = count + length (o .interviews); openings = o .openings; missing = o .missing }
+
+-- workshop w is of tier t for the student
+unfoldable pub inTier : Market → ℕ → ℕ → ℕ → Bool
+inTier M s t w = M .paired s w && eqb (M .studentTier s w) t
+
+-- of workshops 1 to m, the n that are of tier t for the student, in rising number: where each one's pair has its record, and where its seats start;
+-- the place of each is how many come before it
+pub record Listed (case : List ℕ) (s t m n : ℕ) (pairs starts : List ℕ) : Type 0 where
+  pub many : n ≡ count (inTier (marketIn case) s t) m
+  pub pair : (v : ℕ) → v < m → inTier (marketIn case) s t (suc v) ≡ true → getD pairs (count (inTier (marketIn case) s t) v) 0 ≡ pairPlace case s (suc v)
+  pub start : (v : ℕ) → v < m → inTier (marketIn case) s t (suc v) ≡ true → getD starts (count (inTier (marketIn case) s t) v) 0 ≡ seatsFrom (marketIn case) (suc v)

@@ -5,7 +5,7 @@ ghost use mathlib.Core.List.{List, [], _∷_};
 ghost use Prim.Native.Nat.{ℕ, suc, _+_, _-_, _*_, _≤_, _<_};
 ghost use lib.ListN.{length};
 ghost use lib.Dec.{eqb, ltb};
-ghost use Rattle.base.specs.Lists.{count};
+ghost use Rattle.base.specs.Lists.{one, count};
 ghost use Rattle.base.specs.Words.{biased};
 ghost use Rattle.base.specs.Bits.{member, members};
 ghost use Rattle.lgs.specs.Market.{Market, Results};
@@ -17,9 +17,8 @@ ghost use Rattle.model.specs.Model.{favourite, shutBy};
 ghost use Rattle.model.specs.Store.{comesAfter, nextIn, seatsFrom, lastOf};
 ghost use Rattle.model.specs.Turn.{toldState, withMember, favouriteIn, RoundSoFar, dueAt, roundTo, putAt, nextRun, afterRound, afterSeating, openTier, applyTo, turnOf, beginRun};
 ghost use Rattle.model.specs.Ready.{Booked, Ready};
-ghost use Rattle.records.specs.Records.{pairPlace};
 ghost use Rattle.lookup.specs.Clean.{StudentAt, WorkshopAt, PairAt, PairsFound, Clean};
-ghost use Rattle.turning.specs.Round.{SeatsAt, SeatedAll, roundOf};
+ghost use Rattle.turning.specs.Round.{SeatsAt, SeatedAll, roundOf, Listed};
 use model::Run;
 use model::StudentState;
 use model::Turned;
@@ -246,42 +245,6 @@ fn is_shut(
     is_full_above(case, students, workshops, w, l, tier)
 }
 
-// Workshop w is of this tier for a student, and to be interviewed: `pair` is the number of their pair's record, or how many records there are.
-fn is_due(
-    case: &[u8],
-    seats: &[u16],
-    students: usize,
-    workshops: usize,
-    w: usize,
-    from: usize,
-    quota: usize,
-    tier: u16,
-    pair: usize,
-) -> bool
-    requires { ⌜ PairsFound (now case) students workshops ⌝ }
-    requires { ⌜ SeatsAt (now case) (now seats) students w ⌝ }
-    requires { ⌜ (from ≡ seatsFrom (marketIn (now case)) w) × (quota ≡ marketIn (now case) .quota w) ⌝ }
-    ensures { λ r. ⌜ ((B : Results) (s : ℕ) → pair ≡ pairPlace (now (case .entry)) s w → (marketIn (now (case .entry)) .paired s w ≡ true → PairAt (now (case .entry)) s w) → r ≡ dueAt (marketIn (now (case .entry))) B (now (seats .entry)) s tier w) ⌝ }
-{
-    if records::row_count(case.len()) <= pair {
-        return false;
-    }
-    if lookup::student_tier(case, pair) == tier {
-        !is_shut(
-            case,
-            seats,
-            students,
-            workshops,
-            w,
-            from,
-            quota,
-            lookup::workshop_tier(case, pair),
-        )
-    } else {
-        false
-    }
-}
-
 // "She is in that workshop's line group with a negative mark": workshop w does not take the student whose pair with it has the record `pair`, and
 // whose interview is book record e - 1.
 fn is_declined(case: &[u8], book: &[u8], students: usize, w: usize, pair: usize, e: usize) -> bool
@@ -333,6 +296,48 @@ fn opened(
     bits::with_bit(set, w)
 }
 
+// 1 where the test holds, and else 0.
+fn one_if(b: bool) -> usize
+    ensures { λ r. ⌜ r ≡ one b ⌝ }
+{
+    if b { 1 } else { 0 }
+}
+
+// How many workshops are of the student's tier `tier`; of each, in rising number, its pair's record and where its seats start are written. Every
+// workshop is written at the next free place, and the place is kept where the workshop is of the tier.
+fn list_tier(
+    case: &[u8],
+    students: usize,
+    workshops: usize,
+    s: usize,
+    tier: u16,
+    pairs: &mut [usize],
+    starts: &mut [usize],
+) -> usize
+    requires { ⌜ (s < 65536) × (workshops ≤ length (now pairs)) × (workshops ≤ length (now starts)) ⌝ }
+    requires { ⌜ PairsFound (now case) students workshops ⌝ }
+    requires { ⌜ ((w : ℕ) → 1 ≤ w → w ≤ workshops → WorkshopAt (now case) students w) ⌝ }
+    requires { ⌜ ((w : ℕ) → marketIn (now case) .paired s w ≡ true → PairAt (now case) s w) ⌝ }
+    ensures { λ r. ⌜ Listed (now (case .entry)) s tier workshops r (now (pairs .exit)) (now (starts .exit)) ⌝ }
+{
+    let rows = records::row_count(case.len());
+    let mut n = 0;
+    let mut from = 0;
+    let mut done = 0;
+    while done < workshops {
+        let w = done + 1;
+        let pair = lookup::pair_of(case, students, workshops, s, w);
+        pairs[n] = pair;
+        starts[n] = from;
+        from += lookup::quota_of(case, students, w) as usize;
+        done = w;
+        if pair < rows {
+            n += one_if(lookup::student_tier(case, pair) == tier);
+        }
+    }
+    n
+}
+
 // Student s is interviewed by the workshops of her tier `tier`, in rising number, until an interview is missing. `held` interviews were held before.
 fn hold_round(
     case: &[u8],
@@ -354,15 +359,21 @@ fn hold_round(
     ensures { λ r. ⌜ r ≡ roundOf held (roundTo (marketIn (now (case .entry))) (resultsIn (now (book .entry))) (now (seats .entry)) s tier set workshops) ⌝ }
     ensures { λ r. ⌜ now (visits .exit) ≡ putAt (2 * held) (flat (roundTo (marketIn (now (case .entry))) (resultsIn (now (book .entry))) (now (seats .entry)) s tier set workshops .interviews)) (now (visits .entry)) ⌝ }
 {
+    let mut pairs = [0usize; 64];
+    let mut starts = [0usize; 64];
+    let n = list_tier(case, students, workshops, s, tier, &mut pairs, &mut starts);
     let mut count = held;
     let mut openings = set;
-    let mut from = 0;
-    let mut done = 0;
-    while done < workshops {
-        let w = done + 1;
+    let mut k = 0;
+    while k < n {
+        let pair = pairs[k];
+        let from = starts[k];
+        let w = records::u16_at(case, 16 * pair + 4) as usize;
         let quota = lookup::quota_of(case, students, w) as usize;
-        let pair = lookup::pair_of(case, students, workshops, s, w);
-        if is_due(case, seats, students, workshops, w, from, quota, tier, pair) {
+        let its_tier = lookup::workshop_tier(case, pair);
+        if is_shut(case, seats, students, workshops, w, from, quota, its_tier) {
+            k += 1;
+        } else {
             let e = lookup::entry_of(index, students + workshops, pair);
             if e == 0 {
                 return Round {
@@ -374,11 +385,7 @@ fn hold_round(
             put_interview(visits, count, s as u16, w as u16);
             openings = opened(case, book, students, w, pair, e, openings);
             count += 1;
-            from += quota;
-            done = w;
-        } else {
-            from += quota;
-            done = w;
+            k += 1;
         }
     }
     Round {

@@ -1,199 +1,271 @@
--- `turning::hold_round` meets its contract. The invariant is `Rounding`, what the round so far has given, and where the next workshop's seats start.
-use Prim.Native.Nat.{_+_, _-_, _≤_, _<_}
+-- `turning::hold_round` meets its contract. The invariant is `Going`: how far the list of the tier's workshops has been gone over, and what the round so far has given.
+use Prim.Native.Nat.{ℕ, _+_, _-_, _*_, _≤_, _<_}
 use mathlib.Core.Path.{_≡_, refl, sym, _∙_}
-use mathlib.Core.Bool.{true}
+use mathlib.Core.Bool.{true, false}
+use mathlib.Core.List.{List}
 use native.Mathlib.Omega.{arith}
-use native.Mathlib.Numerals.{add-one}
-use Rattle.base.specs.Lists.{total}
+use lib.ListN.{length, getD}
+use Rattle.format.specs.Layout.{rowCount}
 use Rattle.format.specs.Engine.{marketIn, resultsIn}
+use Rattle.model.specs.Model.{shutBy}
+use Rattle.model.specs.Store.{lastOf}
 use Rattle.model.specs.Turn.{dueAt}
 use Rattle.model.specs.Ready.{Booked}
-use Rattle.lookup.specs.Clean.{EntryAt}
-use Rattle.lookup.proofs.Laws.{pairs-found, tier-known, entry-known, met-by, unmet-by}
-use Rattle.turning.proofs.Due.{due-pair}
-use Rattle.turning.proofs.Rounds.{Rounding, seats-before, seats-more, round-start, round-length, round-skip, round-room, round-held, round-missing, round-end}
+use Rattle.lookup.specs.Clean.{PairAt, EntryAt}
+use Rattle.lookup.proofs.Laws.{pairs-found, entry-known, met-by, unmet-by}
+use Rattle.turning.proofs.Due.{tier-pair, tier-due, tier-at}
+use Rattle.turning.proofs.Rounds.{round-length, round-skip, round-room, round-held, round-missing, round-end}
+use Rattle.turning.proofs.Listing.{Going, Coming, going-start, going-few, going-end, coming-within, coming-as, going-on}
 use Rattle.turning.proofs.hold_round.Statement.{statement}
 use Rattle.turning.proofs.hold_round.Tie as tie
 
 abbrev Inv-loop : tie.InvT-loop
-Inv-loop case book index visits₀ seats students workshops s tier set held count₀ openings₀ from₀ done₀ visits count openings from done =
-    (done ≤ workshops) × (from ≡ total (marketIn case .quota) done) × Rounding (marketIn case) (resultsIn book) seats s tier set held visits₀ visits count openings done
+Inv-loop case book index visits₀ seats students workshops s tier set held pairs starts n count₀ openings₀ k₀ visits count openings k =
+    Going case (resultsIn book) seats s tier set held workshops n pairs starts visits₀ visits count openings k
 
 abbrev μ-loop : tie.MeasureT-loop
-μ-loop case book index visits₀ seats students workshops s tier set held count₀ openings₀ from₀ done₀ visits count openings from done = workshops - done
+μ-loop case book index visits₀ seats students workshops s tier set held pairs starts n count₀ openings₀ k₀ visits count openings k = n - k
 
--- the function's entry and the loop's head, from where the pair has been looked up
-abbrev entry : tie.After-pair-of Inv-loop μ-loop → tie.Start Inv-loop μ-loop
-entry c = c .before .before .before .before .before .before .before .before .before
+-- the function's entry, what has been listed and the loop's head, from inside the loop
+abbrev entry : tie.In-loop Inv-loop μ-loop → tie.Start Inv-loop μ-loop
+entry c = c .before .before .before .before .before .before .before .before .before .before .before .before
 
-abbrev head : tie.After-pair-of Inv-loop μ-loop → tie.At-loop Inv-loop μ-loop
-head c = c .before .before .before
+abbrev pairs-of : tie.In-loop Inv-loop μ-loop → List ℕ
+pairs-of c = c .before .before .before .before .list-tier .last .1 .1 .1 .1 .1 .0
 
-less : (c : tie.After-pair-of Inv-loop μ-loop) → head c .loop .done < entry c .args .workshops
-less c = omega arith
+abbrev starts-of : tie.In-loop Inv-loop μ-loop → List ℕ
+starts-of c = c .before .before .before .before .list-tier .last .1 .1 .1 .1 .1 .1 .0
 
--- workshop `done + 1` is to be interviewed
-due : (c : tie.Then1 Inv-loop μ-loop) → (let d = c .before .before in let a = entry d .args in dueAt (marketIn (a .case .now)) (resultsIn (a .book .now)) (a .seats .now) (a .s) (a .tier) (head d .loop .done + 1)) ≡ true
-due c =
-    let d = c .before .before in
-    let start = entry d in
-    let a = start .args in
-    sym (c .before .is-due .ensures (resultsIn (a .book .now)) (a .s) (d .pair-of .ensures) (start .pre .0 .pair (a .s) (head d .loop .done + 1))) ∙ c .if1 .taken
+abbrev Comes : tie.In-loop Inv-loop μ-loop → ℕ → Type 0
+Comes c w =
+    let a = entry c .args in
+    let here = c .before .loop in
+    Coming (a .case .now) (resultsIn (a .book .now)) (a .seats .now) (a .s) (a .tier) (a .set) (a .held) (a .workshops) (a .visits .now) (here .visits) (here .count) (here .openings) (here .k) w (getD (pairs-of c) (here .k) 0) (getD (starts-of c) (here .k) 0)
 
-paired : (c : tie.Then1 Inv-loop μ-loop) → (let d = c .before .before in marketIn (entry d .args .case .now) .paired (entry d .args .s) (head d .loop .done + 1)) ≡ true
-paired c =
-    let d = c .before .before in
+few : (c : tie.In-loop Inv-loop μ-loop) → c .before .loop .k < 64
+few c =
+    let a = entry c .args in
+    let here = c .before .loop in
+    omega (arith, going-few (a .case .now) (resultsIn (a .book .now)) (a .seats .now) (a .s) (a .tier) (a .set) (a .held) (a .workshops) (c .before .before .before .before .list-tier .result) (pairs-of c) (starts-of c) (a .visits .now) (here .visits) (here .count) (here .openings) (here .k) (here .inv), entry c .pre .0 .manyWorkshops)
+
+-- the record at place k of the list is that of a pair, which names the workshop
+within : (c : tie.In-loop Inv-loop μ-loop) → getD (pairs-of c) (c .before .loop .k) 0 < rowCount (entry c .args .case .now)
+within c =
+    let a = entry c .args in
+    let here = c .before .loop in
+    coming-within (a .case .now) (resultsIn (a .book .now)) (a .seats .now) (a .s) (a .tier) (a .set) (a .held) (a .workshops) (c .before .before .before .before .list-tier .result) (pairs-of c) (starts-of c) (a .visits .now) (here .visits) (here .count) (here .openings) (here .k) (here .inv) (omega arith) (entry c .pre .0 .pair (a .s))
+
+comes : (c : tie.After-u16-at Inv-loop μ-loop) → Comes (c .before) (c .u16-at .result)
+comes c =
+    let d = c .before in
     let a = entry d .args in
-    due-pair (marketIn (a .case .now)) (resultsIn (a .book .now)) (a .seats .now) (a .s) (a .tier) (head d .loop .done + 1) (due c)
+    let here = d .before .loop in
+    coming-as (a .case .now) (resultsIn (a .book .now)) (a .seats .now) (a .s) (a .tier) (a .set) (a .held) (a .workshops) (d .before .before .before .before .list-tier .result) (pairs-of d) (starts-of d) (a .visits .now) (here .visits) (here .count) (here .openings) (here .k) (here .inv) (omega arith) (entry d .pre .0 .pair (a .s)) (c .u16-at .result) (c .u16-at .ensures)
+
+pair-at : (c : tie.After-u16-at Inv-loop μ-loop) → (let a = entry (c .before) .args in (marketIn (a .case .now) .paired (a .s) (c .u16-at .result) ≡ true) × PairAt (a .case .now) (a .s) (c .u16-at .result))
+pair-at c =
+    let a = entry (c .before) .args in
+    let p = tier-pair (marketIn (a .case .now)) (resultsIn (a .book .now)) (a .seats .now) (a .s) (a .tier) (c .u16-at .result) (comes c .tier) in
+    (p, entry (c .before) .pre .0 .pair (a .s) (c .u16-at .result) p)
+
+-- the workshop's number is that of one of the workshops
+bounds : (c : tie.After-u16-at Inv-loop μ-loop) → (1 ≤ c .u16-at .result) × (c .u16-at .result ≤ entry (c .before) .args .workshops) × (entry (c .before) .args .workshops ≤ 64)
+bounds c = let x = comes c in (omega (arith, x .number), omega (arith, x .number, x .below), entry (c .before) .pre .0 .manyWorkshops)
+
+-- whether the workshop is to be interviewed
+shut : (c : tie.After-is-shut Inv-loop μ-loop) → (let d = c .before .before .before in let a = entry (d .before) .args in c .is-shut .result ≡ shutBy (marketIn (a .case .now)) (resultsIn (a .book .now)) (lastOf (marketIn (a .case .now)) (a .seats .now) (d .u16-at .result)) (a .s) (d .u16-at .result))
+shut c =
+    let d = c .before .before .before in
+    let a = entry (d .before) .args in
+    c .is-shut .ensures (resultsIn (a .book .now)) (a .s) (tier-at (a .case .now) (a .s) (d .u16-at .result) _ (c .before .workshop-tier .result) (pair-at d .1) (comes d .pair) (c .before .workshop-tier .ensures))
+
+due : (c : tie.Else1 Inv-loop μ-loop) → (let d = c .before .before .before .before in let a = entry (d .before) .args in dueAt (marketIn (a .case .now)) (resultsIn (a .book .now)) (a .seats .now) (a .s) (a .tier) (d .u16-at .result) ≡ true)
+due c =
+    let d = c .before .before .before .before in
+    let a = entry (d .before) .args in
+    tier-due (marketIn (a .case .now)) (resultsIn (a .book .now)) (a .seats .now) (a .s) (a .tier) (d .u16-at .result) (comes d .tier) false (sym (shut (c .before)) ∙ c .if1 .left)
 
 -- its interview is in the book, where the index says
-booked : (c : tie.Else2 Inv-loop μ-loop) → (let d = c .before .before .before .before in Booked (marketIn (entry d .args .case .now)) (resultsIn (entry d .args .book .now)) (entry d .args .s) (head d .loop .done + 1))
+booked : (c : tie.Else2 Inv-loop μ-loop) → (let d = c .before .before .before .before .before .before in let a = entry (d .before) .args in Booked (marketIn (a .case .now)) (resultsIn (a .book .now)) (a .s) (d .u16-at .result))
 booked c =
-    let d = c .before .before .before .before in
-    let a = entry d .args in
-    let k = entry d .pre .0 in
-    let p = paired (c .before .before) in
+    let d = c .before .before .before .before .before .before in
+    let start = entry (d .before) in
+    let k = start .pre .0 in
+    let p = pair-at d .0 in
     record {
-      student = (entry d .pre .1 .0 .0, omega (arith, k .students, entry d .pre .1 .0));
-      workshop = (omega arith, omega (arith, k .workshops));
+      student = (start .pre .1 .0 .0, omega (arith, k .students, start .pre .1 .0));
+      workshop = (bounds d .0, omega (arith, k .workshops, bounds d));
       pair = p;
-      met = met-by k (a .s) (head d .loop .done + 1) p (d .pair-of .result) (c .before .entry-of .result) (d .pair-of .ensures) (c .before .entry-of .ensures) (c .if2 .left);
+      met = met-by k (start .args .s) (d .u16-at .result) p _ (c .before .entry-of .result) (comes d .pair) (c .before .entry-of .ensures) (c .if2 .left);
     }
 
-entered : (c : tie.Else2 Inv-loop μ-loop) → (let d = c .before .before .before .before in EntryAt (entry d .args .book .now) (entry d .args .s) (head d .loop .done + 1) (c .before .entry-of .result))
-entered c = let d = c .before .before .before .before in entry-known (entry d .pre .0) (booked c) (d .pair-of .result) (c .before .entry-of .result) (d .pair-of .ensures) (c .before .entry-of .ensures)
+entered : (c : tie.Else2 Inv-loop μ-loop) → (let d = c .before .before .before .before .before .before in let a = entry (d .before) .args in EntryAt (a .book .now) (a .s) (d .u16-at .result) (c .before .entry-of .result))
+entered c = let d = c .before .before .before .before .before .before in entry-known (entry (d .before) .pre .0) (booked c) _ (c .before .entry-of .result) (comes d .pair) (c .before .entry-of .ensures)
+
+-- there is room for it in the visits
+room : (c : tie.Else1 Inv-loop μ-loop) → (let here = c .before .before .before .before .before .before .loop in 2 * here .count + 2 ≤ length (here .visits))
+room c =
+    let d = c .before .before .before .before in
+    let start = entry (d .before) in
+    let a = start .args in
+    let here = d .before .before .loop in
+    let x = comes d in
+    round-room (marketIn (a .case .now)) (resultsIn (a .book .now)) (a .seats .now) (a .s) (a .tier) (a .set) (a .held) (a .visits .now) (here .visits) (here .count) (here .openings) (x .at) (a .workshops) (x .so) (start .pre .1 .1 .1) (x .below) (d .u16-at .result) (x .number) (due c)
+
+slice-aggregate-list-tier : tie.Need-slice-aggregate-list-tier Inv-loop μ-loop
+slice-aggregate-list-tier c = refl
+
+slice-aggregate-list-tier-2 : tie.Need-slice-aggregate-list-tier-2 Inv-loop μ-loop
+slice-aggregate-list-tier-2 c = refl
+
+list-tier-requires : tie.Need-list-tier-requires Inv-loop μ-loop
+list-tier-requires c κs = let start = c .before .before .before .before .before .before .before in let k = start .pre .0 in ((omega (arith, k), k .manyWorkshops, k .manyWorkshops), (pairs-found k, (k .workshop, k .pair (start .args .s))))
 
 loop-holds : tie.Need-loop-holds Inv-loop μ-loop
-unfolding total
-loop-holds c = let a = c .before .before .before .before .before .args in (omega arith, refl, round-start (marketIn (a .case .now)) (resultsIn (a .book .now)) (a .seats .now) (a .s) (a .tier) (a .set) (a .held) (a .visits .now))
+loop-holds c =
+    let a = c .before .before .before .before .before .before .before .before .before .before .args in
+    let l = c .before .before .list-tier in
+    going-start (a .case .now) (resultsIn (a .book .now)) (a .seats .now) (a .s) (a .tier) (a .set) (a .held) (a .workshops) (l .result) (l .last .1 .1 .1 .1 .1 .0) (l .last .1 .1 .1 .1 .1 .1 .0) (a .visits .now) (l .ensures)
 
-add-w : tie.Need-add-w Inv-loop μ-loop
-add-w c = omega arith
+mul-pair : tie.Need-mul-pair Inv-loop μ-loop
+mul-pair c = omega (arith, few c)
+
+array-read-pair : tie.Need-array-read-pair Inv-loop μ-loop
+array-read-pair c = few c
+
+mul-from : tie.Need-mul-from Inv-loop μ-loop
+mul-from c = omega (arith, few c)
+
+array-read-from : tie.Need-array-read-from Inv-loop μ-loop
+array-read-from c = few c
+
+mul-u16-at : tie.Need-mul-u16-at Inv-loop μ-loop
+mul-u16-at c = omega (arith, within c, entry c .good)
+
+add-u16-at : tie.Need-add-u16-at Inv-loop μ-loop
+add-u16-at c = omega (arith, within c, entry c .good)
+
+u16-at-requires : tie.Need-u16-at-requires Inv-loop μ-loop
+u16-at-requires c κs = omega (arith, within c)
+
+cast-w : tie.Need-cast-w Inv-loop μ-loop
+cast-w c = omega arith
 
 quota-of-requires : tie.Need-quota-of-requires Inv-loop μ-loop
-quota-of-requires c κs = c .before .before .before .before .before .before .before .pre .0 .workshop (c .before .loop .done + 1) (omega arith) (omega arith)
+quota-of-requires c κs = let b = bounds c in entry (c .before) .pre .0 .workshop (c .u16-at .result) (b .0) (b .1)
 
 cast-quota : tie.Need-cast-quota Inv-loop μ-loop
 cast-quota c = omega arith
 
-pair-of-requires : tie.Need-pair-of-requires Inv-loop μ-loop
-pair-of-requires c κs = let start = c .before .before .before .before .before .before .before .before in ((omega (arith, start .pre .0), omega arith, omega (arith, start .pre .0)), pairs-found (start .pre .0))
+workshop-tier-requires : tie.Need-workshop-tier-requires Inv-loop μ-loop
+workshop-tier-requires c κs = within (c .before .before)
 
-is-due-requires : tie.Need-is-due-requires Inv-loop μ-loop
-is-due-requires c κs =
-    let start = c .before .before .before .before .before .before .before .before .before in
-    let here = c .before .before .before .loop in
-    (pairs-found (start .pre .0), (start .pre .1 .1 .0 (here .done + 1) (omega arith) (omega arith), (here .inv .1 ∙ seats-before (marketIn (start .args .case .now)) (here .done), c .before .quota-of .ensures)))
+is-shut-requires : tie.Need-is-shut-requires Inv-loop μ-loop
+is-shut-requires c κs =
+    let d = c .before .before in
+    let b = bounds d in
+    let start = entry (d .before) in
+    (pairs-found (start .pre .0), (start .pre .1 .1 .0 (d .u16-at .result) (b .0) (b .1), (comes d .start, c .before .quota-of .ensures)))
 
-add-entry-of : tie.Need-add-entry-of Inv-loop μ-loop
-add-entry-of c = omega (arith, c .before .before .before .before .before .before .before .before .before .before .before .pre .0)
-
-entry-of-requires : tie.Need-entry-of-requires Inv-loop μ-loop
-entry-of-requires c κs =
-    let start = c .before .before .before .before .before .before .before .before .before .before .before in
-    let i = start .pre .0 .indexed (start .args .s) (c .before .before .before .before .before .loop .done + 1) (paired c) in
-    omega (arith, i, c .before .before .pair-of .ensures)
-
-same-length : tie.Need-same-length Inv-loop μ-loop
-same-length c =
-    let here = c .before .before .before .before .before .before .before .loop in
-    let start = c .before .before .before .before .before .before .before .before .before .before .before .before .before in
-    let a = start .args in
-    round-length (marketIn (a .case .now)) (resultsIn (a .book .now)) (a .seats .now) (a .s) (a .tier) (a .set) (a .held) (a .visits .now) (here .visits) (here .count) (here .openings) (here .done) (a .workshops) (here .inv .2) (start .pre .1 .1 .1) (omega arith)
-
-returns : tie.Need-returns Inv-loop μ-loop
-returns c =
-    let here = c .before .before .before .before .before .before .before .loop in
-    let start = c .before .before .before .before .before .before .before .before .before .before .before .before .before in
-    let a = start .args in
-    let p = paired (c .before .before) in
-    let q = unmet-by (start .pre .0) (a .s) (here .done + 1) p (c .before .before .before .before .pair-of .result) (c .before .entry-of .result) (c .before .before .before .before .pair-of .ensures) (c .before .entry-of .ensures) (c .if2 .taken) in
-    let r = round-missing (marketIn (a .case .now)) (resultsIn (a .book .now)) (a .seats .now) (a .s) (a .tier) (a .set) (a .held) (a .visits .now) (here .visits) (here .count) (here .openings) (here .done) (a .workshops) (here .inv .2) (start .pre .1 .1 .1) (less (c .before .before .before .before)) (here .done + 1) (add-one (here .done)) (due (c .before .before)) q in
-    (r .0, r .1)
-
-cast-put-interview : tie.Need-cast-put-interview Inv-loop μ-loop
-cast-put-interview c = omega (arith, c .before .before .before .before .before .before .before .before .before .before .before .before .before .before .pre .0)
-
-cast-put-interview-2 : tie.Need-cast-put-interview-2 Inv-loop μ-loop
-cast-put-interview-2 c = omega (arith, c .before .before .before .before .before .before .before .before .before .before .before .before .before .before .pre .0)
-
-put-interview-requires : tie.Need-put-interview-requires Inv-loop μ-loop
-put-interview-requires c κs =
-    let here = c .before .before .before .before .before .before .before .before .loop in
-    let start = c .before .before .before .before .before .before .before .before .before .before .before .before .before .before in
-    let a = start .args in
-    round-room (marketIn (a .case .now)) (resultsIn (a .book .now)) (a .seats .now) (a .s) (a .tier) (a .set) (a .held) (a .visits .now) (here .visits) (here .count) (here .openings) (here .done) (a .workshops) (here .inv .2) (start .pre .1 .1 .1) (less (c .before .before .before .before .before)) (here .done + 1) (add-one (here .done)) (due (c .before .before .before))
-
-opened-requires : tie.Need-opened-requires Inv-loop μ-loop
-opened-requires c κs =
-    let start = c .before .before .before .before .before .before .before .before .before .before .before .before .before .before .before .before .before in
-    let w = c .before .before .before .before .before .before .before .before .before .before .before .loop .done + 1 in
-    let e = entered (c .before .before .before .before) in
-    let p = start .pre .0 .pair (start .args .s) w (paired (c .before .before .before .before .before .before)) in
-    ((omega (arith, start .pre .0, less (c .before .before .before .before .before .before .before .before)), start .pre .0 .workshop w (omega arith) (omega (arith, less (c .before .before .before .before .before .before .before .before)))), (omega (arith, p, c .before .before .before .before .before .before .before .before .pair-of .ensures), omega (arith, e), omega (arith, e)))
-
-add-count : tie.Need-add-count Inv-loop μ-loop
-add-count c =
-    let here = c .before .before .before .before .before .before .before .before .before .before .before .before .loop in
-    let start = c .before .before .before .before .before .before .before .before .before .before .before .before .before .before .before .before .before .before in
-    let a = start .args in
-    let r = round-room (marketIn (a .case .now)) (resultsIn (a .book .now)) (a .seats .now) (a .s) (a .tier) (a .set) (a .held) (a .visits .now) (here .visits) (here .count) (here .openings) (here .done) (a .workshops) (here .inv .2) (start .pre .1 .1 .1) (less (c .before .before .before .before .before .before .before .before .before)) (here .done + 1) (add-one (here .done)) (due (c .before .before .before .before .before .before .before)) in
-    omega (arith, r, round-length (marketIn (a .case .now)) (resultsIn (a .book .now)) (a .seats .now) (a .s) (a .tier) (a .set) (a .held) (a .visits .now) (here .visits) (here .count) (here .openings) (here .done) (a .workshops) (here .inv .2) (start .pre .1 .1 .1) (here .inv .0), start .good)
-
-add-from : tie.Need-add-from Inv-loop μ-loop
-add-from c =
-    let here = c .before .before .before .before .before .before .before .before .before .before .before .before .loop in
-    let start = c .before .before .before .before .before .before .before .before .before .before .before .before .before .before .before .before .before .before in
-    let a = start .args in
-    let q = marketIn (a .case .now) .quota in
-    omega (arith, here .inv .1, c .before .before .before .before .before .before .before .before .before .before .quota-of .ensures, seats-more q (here .done), start .pre .1 .1 .0 (here .done + 1) (omega arith) (omega (arith, less (c .before .before .before .before .before .before .before .before .before))) .long, start .good)
+add-k : tie.Need-add-k Inv-loop μ-loop
+add-k c = omega (arith, few (c .before .before .before .before .before))
 
 loop-less : tie.Need-loop-less Inv-loop μ-loop
 loop-less c = omega arith
 
 loop-again : tie.Need-loop-again Inv-loop μ-loop
 loop-again c =
-    let here = c .before .before .before .before .before .before .before .before .before .before .before .before .loop in
-    let start = c .before .before .before .before .before .before .before .before .before .before .before .before .before .before .before .before .before .before in
+    let d = c .before .before .before .before in
+    let start = entry (d .before) in
     let a = start .args in
-    let b = booked (c .before .before .before .before .before) in
-    let t = tier-known (start .pre .0) b (c .before .before .before .before .before .before .before .before .before .pair-of .result) _ (c .before .before .before .before .before .before .before .before .before .pair-of .ensures) refl in
-    let o = c .opened .ensures (a .s) t (sym (entered (c .before .before .before .before .before) .workshopScore)) in
-    let r = round-held (marketIn (a .case .now)) (resultsIn (a .book .now)) (a .seats .now) (a .s) (a .tier) (a .set) (a .held) (a .visits .now) (here .visits) (here .count) (here .openings) (here .done) (a .workshops) (here .inv .2) (start .pre .1 .1 .1) (less (c .before .before .before .before .before .before .before .before .before)) (here .done + 1) (add-one (here .done)) (due (c .before .before .before .before .before .before .before)) (b .met) in
-    (omega (arith, less (c .before .before .before .before .before .before .before .before .before)), omega (arith, here .inv .1, c .before .before .before .before .before .before .before .before .before .before .quota-of .ensures, seats-more (marketIn (a .case .now) .quota) (here .done)), rw (c .before .before .before .put-interview .ensures, o) r)
+    let here = d .before .before .loop in
+    let x = comes d in
+    let e = tier-due (marketIn (a .case .now)) (resultsIn (a .book .now)) (a .seats .now) (a .s) (a .tier) (d .u16-at .result) (x .tier) true (sym (shut (c .before)) ∙ c .if1 .taken) in
+    let r = round-skip (marketIn (a .case .now)) (resultsIn (a .book .now)) (a .seats .now) (a .s) (a .tier) (a .set) (a .held) (a .visits .now) (here .visits) (here .count) (here .openings) (x .at) (a .workshops) (x .so) (start .pre .1 .1 .1) (x .below) (d .u16-at .result) (x .number) e in
+    going-on (a .case .now) (resultsIn (a .book .now)) (a .seats .now) (a .s) (a .tier) (a .set) (a .held) (a .workshops) (d .before .before .before .before .before .list-tier .result) (pairs-of (d .before)) (starts-of (d .before)) (a .visits .now) (here .visits) (here .count) (here .openings) (here .k) (here .inv) (d .u16-at .result) _ _ _ _ _ x r
 
-add-from-2 : tie.Need-add-from-2 Inv-loop μ-loop
-add-from-2 c =
-    let here = c .before .before .before .before .before .loop in
-    let start = c .before .before .before .before .before .before .before .before .before .before .before in
+add-entry-of : tie.Need-add-entry-of Inv-loop μ-loop
+add-entry-of c = omega (arith, c .before .before .before .before .before .before .before .before .before .before .before .before .before .before .before .before .before .pre .0)
+
+entry-of-requires : tie.Need-entry-of-requires Inv-loop μ-loop
+entry-of-requires c κs =
+    let d = c .before .before .before .before in
+    let start = entry (d .before) in
+    omega (arith, start .pre .0 .indexed (start .args .s) (d .u16-at .result) (pair-at d .0), comes d .pair)
+
+same-length : tie.Need-same-length Inv-loop μ-loop
+same-length c =
+    let d = c .before .before .before .before .before .before .before in
+    let a = entry d .args in
+    let here = d .before .loop in
+    round-length (marketIn (a .case .now)) (resultsIn (a .book .now)) (a .seats .now) (a .s) (a .tier) (a .set) (a .held) (a .visits .now) (here .visits) (here .count) (here .openings) (here .inv .done) (a .workshops) (here .inv .so) (entry d .pre .1 .1 .1) (here .inv .within)
+
+returns : tie.Need-returns Inv-loop μ-loop
+returns c =
+    let d = c .before .before .before .before .before .before in
+    let start = entry (d .before) in
     let a = start .args in
-    let q = marketIn (a .case .now) .quota in
-    omega (arith, here .inv .1, c .before .before .before .quota-of .ensures, seats-more q (here .done), start .pre .1 .1 .0 (here .done + 1) (omega arith) (omega (arith, less (c .before .before))) .long, start .good)
+    let here = d .before .before .loop in
+    let x = comes d in
+    let q = unmet-by (start .pre .0) (a .s) (d .u16-at .result) (pair-at d .0) _ (c .before .entry-of .result) (x .pair) (c .before .entry-of .ensures) (c .if2 .taken) in
+    let r = round-missing (marketIn (a .case .now)) (resultsIn (a .book .now)) (a .seats .now) (a .s) (a .tier) (a .set) (a .held) (a .visits .now) (here .visits) (here .count) (here .openings) (x .at) (a .workshops) (x .so) (start .pre .1 .1 .1) (x .below) (d .u16-at .result) (x .number) (due (c .before .before)) q in
+    (r .0, r .1)
+
+cast-put-interview : tie.Need-cast-put-interview Inv-loop μ-loop
+cast-put-interview c = let start = c .before .before .before .before .before .before .before .before .before .before .before .before .before .before .before .before .before .before .before .before in omega (arith, start .pre .0 .manyStudents, start .pre .1 .0)
+
+cast-put-interview-2 : tie.Need-cast-put-interview-2 Inv-loop μ-loop
+cast-put-interview-2 c = omega (arith, bounds (c .before .before .before .before .before .before .before))
+
+put-interview-requires : tie.Need-put-interview-requires Inv-loop μ-loop
+put-interview-requires c κs = room (c .before .before .before)
+
+opened-requires : tie.Need-opened-requires Inv-loop μ-loop
+opened-requires c κs =
+    let d = c .before .before .before .before .before .before .before .before .before .before in
+    let b = bounds d in
+    let e = entered (c .before .before .before .before) in
+    ((omega (arith, b), entry (d .before) .pre .0 .workshop (d .u16-at .result) (b .0) (b .1)), (within (d .before), omega (arith, e), omega (arith, e)))
+
+add-count : tie.Need-add-count Inv-loop μ-loop
+add-count c =
+    let d = c .before .before .before .before .before .before .before .before .before .before .before .before in
+    let a = entry d .args in
+    let here = d .before .loop in
+    omega (arith, room (c .before .before .before .before .before .before .before), round-length (marketIn (a .case .now)) (resultsIn (a .book .now)) (a .seats .now) (a .s) (a .tier) (a .set) (a .held) (a .visits .now) (here .visits) (here .count) (here .openings) (here .inv .done) (a .workshops) (here .inv .so) (entry d .pre .1 .1 .1) (here .inv .within), entry d .good)
+
+add-k-2 : tie.Need-add-k-2 Inv-loop μ-loop
+add-k-2 c = omega (arith, few (c .before .before .before .before .before .before .before .before .before .before .before .before))
 
 loop-less-2 : tie.Need-loop-less-2 Inv-loop μ-loop
 loop-less-2 c = omega arith
 
 loop-again-2 : tie.Need-loop-again-2 Inv-loop μ-loop
 loop-again-2 c =
-    let here = c .before .before .before .before .before .loop in
-    let start = c .before .before .before .before .before .before .before .before .before .before .before in
+    let d = c .before .before .before .before .before .before .before .before .before .before .before in
+    let start = entry (d .before) in
     let a = start .args in
-    let d = sym (c .before .is-due .ensures (resultsIn (a .book .now)) (a .s) (c .before .before .pair-of .ensures) (start .pre .0 .pair (a .s) (here .done + 1))) ∙ c .if1 .left in
-    (omega (arith, less (c .before .before)), omega (arith, here .inv .1, c .before .before .before .quota-of .ensures, seats-more (marketIn (a .case .now) .quota) (here .done)), round-skip (marketIn (a .case .now)) (resultsIn (a .book .now)) (a .seats .now) (a .s) (a .tier) (a .set) (a .held) (a .visits .now) (here .visits) (here .count) (here .openings) (here .done) (a .workshops) (here .inv .2) (start .pre .1 .1 .1) (less (c .before .before)) (here .done + 1) (add-one (here .done)) d)
+    let here = d .before .before .loop in
+    let x = comes d in
+    let t = tier-at (a .case .now) (a .s) (d .u16-at .result) _ _ (pair-at d .1) (x .pair) refl in
+    let o = c .opened .ensures (a .s) t (sym (entered (c .before .before .before .before .before) .workshopScore)) in
+    let r = round-held (marketIn (a .case .now)) (resultsIn (a .book .now)) (a .seats .now) (a .s) (a .tier) (a .set) (a .held) (a .visits .now) (here .visits) (here .count) (here .openings) (x .at) (a .workshops) (x .so) (start .pre .1 .1 .1) (x .below) (d .u16-at .result) (x .number) (due (c .before .before .before .before .before .before .before)) (booked (c .before .before .before .before .before) .met) in
+    going-on (a .case .now) (resultsIn (a .book .now)) (a .seats .now) (a .s) (a .tier) (a .set) (a .held) (a .workshops) (d .before .before .before .before .before .list-tier .result) (pairs-of (d .before)) (starts-of (d .before)) (a .visits .now) (here .visits) (here .count) (here .openings) (here .k) (here .inv) (d .u16-at .result) _ _ _ _ _ x (rw (c .before .before .before .put-interview .ensures, o) r)
 
 same-length-2 : tie.Need-same-length-2 Inv-loop μ-loop
 same-length-2 c =
     let here = c .before .loop in
-    let start = c .before .before .before .before .before .before .before in
+    let start = c .before .before .before .before .before .before .before .before .before .before .before .before in
     let a = start .args in
-    round-length (marketIn (a .case .now)) (resultsIn (a .book .now)) (a .seats .now) (a .s) (a .tier) (a .set) (a .held) (a .visits .now) (here .visits) (here .count) (here .openings) (here .done) (a .workshops) (here .inv .2) (start .pre .1 .1 .1) (omega arith)
+    round-length (marketIn (a .case .now)) (resultsIn (a .book .now)) (a .seats .now) (a .s) (a .tier) (a .set) (a .held) (a .visits .now) (here .visits) (here .count) (here .openings) (here .inv .done) (a .workshops) (here .inv .so) (start .pre .1 .1 .1) (here .inv .within)
 
 returns-2 : tie.Need-returns-2 Inv-loop μ-loop
 returns-2 c =
     let here = c .before .loop in
-    let start = c .before .before .before .before .before .before .before in
-    let a = start .args in
-    let r = round-end (marketIn (a .case .now)) (resultsIn (a .book .now)) (a .seats .now) (a .s) (a .tier) (a .set) (a .held) (a .visits .now) (here .visits) (here .count) (here .openings) (here .done) (a .workshops) (here .inv .2) (omega arith) in
+    let l = c .before .before .before .before .list-tier in
+    let a = c .before .before .before .before .before .before .before .before .before .before .before .before .args in
+    let g = going-end (a .case .now) (resultsIn (a .book .now)) (a .seats .now) (a .s) (a .tier) (a .set) (a .held) (a .workshops) (l .result) (l .last .1 .1 .1 .1 .1 .0) (l .last .1 .1 .1 .1 .1 .1 .0) (a .visits .now) (here .visits) (here .count) (here .openings) (here .k) (here .inv) (omega arith) in
+    let r = round-end (marketIn (a .case .now)) (resultsIn (a .book .now)) (a .seats .now) (a .s) (a .tier) (a .set) (a .held) (a .visits .now) (here .visits) (here .count) (here .openings) (a .workshops) (a .workshops) g refl in
     (r .0, r .1)
 
 pub hold-round-spec : {M : Type 1} → statement M
@@ -202,12 +274,25 @@ hold-round-spec =
     (tie.spec
     Inv-loop
     μ-loop
+    slice-aggregate-list-tier
+    slice-aggregate-list-tier-2
+    list-tier-requires
     loop-holds
-    add-w
+    mul-pair
+    array-read-pair
+    mul-from
+    array-read-from
+    mul-u16-at
+    add-u16-at
+    u16-at-requires
+    cast-w
     quota-of-requires
     cast-quota
-    pair-of-requires
-    is-due-requires
+    workshop-tier-requires
+    is-shut-requires
+    add-k
+    loop-less
+    loop-again
     add-entry-of
     entry-of-requires
     same-length
@@ -217,10 +302,7 @@ hold-round-spec =
     put-interview-requires
     opened-requires
     add-count
-    add-from
-    loop-less
-    loop-again
-    add-from-2
+    add-k-2
     loop-less-2
     loop-again-2
     same-length-2

@@ -7,7 +7,6 @@ use borrow.Author.Tests.{eq-eqb, ne-eqb}
 use Rattle.base.specs.Words.{biased}
 use Rattle.lgs.specs.Rule.{declined}
 use Rattle.format.specs.Layout.{outsideScore, resultsOf}
-use Rattle.format.specs.Engine.{marketIn}
 use borrow.Author.Needs.{needs}
 use Rattle.turning.proofs.is_declined.Statement.{statement}
 use Rattle.turning.proofs.is_declined.Tie as tie
