@@ -3,7 +3,6 @@ use Prim.Native.Nat.{ℕ, suc, _+_, _-_, _≤_, _<_}
 use mathlib.Core.Path.{_≡_, refl, sym, _∙_}
 use mathlib.Core.Logic.{⊎-elim}
 use mathlib.Core.Bool.{Bool, true, false, not, _&&_, _||_, or-false}
-use mathlib.Core.Option.{none}
 use mathlib.Core.List.{List}
 use native.Mathlib.Omega.{arith}
 use native.Mathlib.Numerals.{add-one}
@@ -32,17 +31,17 @@ one-le true = omega arith
 one-le false = omega arith
 
 module _ (case : List ℕ) where
-  pub counted-start : firstBad (badForm (rows case)) (rowCount case) ≡ none → Counted case 0 0 0
+  pub counted-start : Counted case 0 0 0
   unfolding firstBad tally
-  counted-start f =
-      record { inside = omega arith; form = f; order = refl; students = refl; workshops = refl; fewStudents = omega arith; fewWorkshops = omega arith }
+  counted-start =
+      record { inside = omega arith; form = refl; order = refl; students = refl; workshops = refl; fewStudents = omega arith; fewWorkshops = omega arith }
 
-  module _ (i n m : ℕ) (c : Counted case i n m) (l : i < rowCount case) where
+  module _ (i n m : ℕ) (c : Counted case i n m) (l : i < rowCount case) (f : badForm (rows case) i ≡ false) where
     pub clean : Clean case i
     clean =
         record {
           inside = c .inside;
-          form = λ k q. none-fails (badForm (rows case)) (rowCount case) (c .form) k (omega arith);
+          form = none-fails (badForm (rows case)) i (c .form);
           order = none-fails (badOrder (rows case)) i (c .order);
         }
 
@@ -56,7 +55,7 @@ module _ (case : List ℕ) where
     counted-on b =
         record {
           inside = omega arith;
-          form = c .form;
+          form = scan-on (badForm (rows case)) i (c .form) f;
           order = scan-on (badOrder (rows case)) i (c .order) b;
           students = more 1 n (c .students);
           workshops = more 2 m (c .workshops);
@@ -68,7 +67,7 @@ module _ (case : List ℕ) where
         ≡ ((eqb (rowAt case i .kind) 1 && not (eqb (rowAt case i .first) (n + 1))) || (eqb (rowAt case i .kind) 2 && not (eqb (rowAt case i .first) (m + 1))))
     unfolding badNumber
     number =
-        let k : (1 ≤ rowAt case i .kind) × (rowAt case i .kind ≤ 3) = kind-within case i l (none-fails (badForm (rows case)) (rowCount case) (c .form) i l) in
+        let k : (1 ≤ rowAt case i .kind) × (rowAt case i .kind ≤ 3) = kind-within case i l f in
         ⊎-elim
         (λ (a : rowAt case i .kind < 2).
         let e : rowAt case i .kind ≡ 1 = omega arith in

@@ -1,5 +1,6 @@
 pub mod Laws
 pub mod Counting
+pub mod Sounding
 pub mod Cases
 pub mod Indexing
 pub mod Lowering

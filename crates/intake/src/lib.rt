@@ -2,16 +2,19 @@
 ghost use mathlib.Core.Path.{_≡_};
 ghost use mathlib.Core.Bool.{_||_};
 ghost use mathlib.Core.Option.{none};
-ghost use Prim.Native.Nat.{_≤_};
+ghost use Prim.Native.Nat.{_≤_, _%_};
 ghost use lib.ListN.{length};
+ghost use Rattle.format.specs.Layout.{rowCount};
 ghost use Rattle.format.specs.Refusals.{notWithin, refusal};
 ghost use Rattle.intake.specs.Checked.{lengthsOf, pairCount, checkedOf, caseRefusal, bookRefusal, CleanCase};
+ghost use Rattle.intake.specs.Order.{Sound};
 ghost use Rattle.intake.specs.Index.{indexedAs};
 
 mod index;
 mod lengths;
 mod order;
 mod scans;
+mod sound;
 mod ties;
 
 // The lengths of the lent buffers, but the index, which is lent to `check` itself.
@@ -48,14 +51,12 @@ fn bad_counts(students: usize, workshops: usize) -> bool
     ((students < 1) | (512 < students)) | ((workshops < 1) | (64 < workshops))
 }
 
-// Causes 1 to 5.
-fn check_case(case: &[u8], book: &[u8]) -> Checked
+// Causes 2 to 5, each over all records before the next.
+fn check_each(case: &[u8], book: &[u8]) -> Checked
+    requires { ⌜ length (now case) % 16 ≡ 0 ⌝ }
     ensures { λ r. ⌜ r ≡ checkedOf (caseRefusal (now (case .entry))) (now (case .entry)) ⌝ }
 {
     let rows = records::row_count(case.len());
-    if case.len() % 16 != 0 {
-        return refused(1, 0);
-    }
     let form = scans::first_bad(2, case, book, 0, 0);
     if form < rows {
         return refused(2, form);
@@ -79,6 +80,40 @@ fn check_case(case: &[u8], book: &[u8]) -> Checked
         workshops,
         pairs: rows - students - workshops,
     }
+}
+
+// Cause 4, where causes 2, 3 and 5 find nothing.
+fn check_counts(case: &[u8], students: usize, workshops: usize) -> Checked
+    requires { ⌜ length (now case) % 16 ≡ 0 ⌝ }
+    requires { ⌜ Sound (now case) (rowCount (now case)) students workshops ⌝ }
+    ensures { λ r. ⌜ r ≡ checkedOf (caseRefusal (now (case .entry))) (now (case .entry)) ⌝ }
+{
+    if bad_counts(students, workshops) {
+        refused(4, 0)
+    } else {
+        Checked::Clean {
+            students,
+            workshops,
+            pairs: records::row_count(case.len()) - students - workshops,
+        }
+    }
+}
+
+// Causes 1 to 5. One pass tells whether causes 2, 3 and 5 find nothing; else each looks for its first record.
+fn check_case(case: &[u8], book: &[u8]) -> Checked
+    ensures { λ r. ⌜ r ≡ checkedOf (caseRefusal (now (case .entry))) (now (case .entry)) ⌝ }
+{
+    if case.len() % 16 != 0 {
+        return refused(1, 0);
+    }
+    let heads = sound::heads(case);
+    let at = heads.at;
+    let students = heads.students;
+    let workshops = heads.workshops;
+    if sound::pairs_sound(case, at, students, workshops) {
+        return check_counts(case, students, workshops);
+    }
+    check_each(case, book)
 }
 
 // Causes 7 to 11.

@@ -1,5 +1,6 @@
 // Cause 3: kinds fall, a number out of sequence, pairs not rising, or a pair that names nobody in an earlier record.
 ghost use mathlib.Core.Path.{_≡_};
+ghost use mathlib.Core.Bool.{false};
 ghost use mathlib.Core.Option.{none};
 ghost use Prim.Native.Nat.{_-_, _≤_, _<_};
 ghost use Rattle.base.specs.Lists.{one};
@@ -8,7 +9,7 @@ ghost use Rattle.format.specs.Layout.{rows, rowCount};
 ghost use Rattle.format.specs.Refusals.{badForm, badOrder};
 ghost use Rattle.intake.specs.Order.{Counted, Ordered};
 
-// The first record out of order, and how many students and workshops stand before it.
+// A place among the records, and how many students and workshops stand before it.
 pub struct Order {
     pub at: usize,
     pub students: usize,
@@ -21,16 +22,17 @@ fn before(i: usize) -> usize
     if i == 0 { 0 } else { i - 1 }
 }
 
-fn one_if(b: bool) -> usize
+pub fn one_if(b: bool) -> usize
     ensures { λ r. ⌜ (r ≡ one b) × (r ≤ 1) ⌝ }
 {
     if b { 1 } else { 0 }
 }
 
 // What the cause tests of record i. Numbers run without gaps so far, so that the counts tell who has a record before it.
-fn out_of_order(case: &[u8], i: usize, students: usize, workshops: usize) -> bool
+pub fn out_of_order(case: &[u8], i: usize, students: usize, workshops: usize) -> bool
     requires { ⌜ i < rowCount (now case) ⌝ }
     requires { ⌜ Counted (now case) i students workshops ⌝ }
+    requires { ⌜ badForm (rows (now case)) i ≡ false ⌝ }
     ensures { λ v. ⌜ v ≡ badOrder (rows (now (case .entry))) i ⌝ }
 {
     let r = records::row_at(case, i);
@@ -48,7 +50,7 @@ fn out_of_order(case: &[u8], i: usize, students: usize, workshops: usize) -> boo
         | ((((r.kind == 3) & (p.kind == 3)) & !rises) | ((r.kind == 3) & nobody))
 }
 
-// The first record out of order, or how many there are.
+// The first record out of order, or how many there are, with the counts of those before it.
 pub fn first_out_of_order(case: &[u8]) -> Order
     requires { ⌜ firstBad (badForm (rows (now case))) (rowCount (now case)) ≡ none ⌝ }
     ensures { λ r. ⌜ Ordered (now (case .entry)) r ⌝ }

@@ -9,7 +9,7 @@ ghost use Rattle.intake.specs.Scans.{recordsOf, badBy};
 ghost use Rattle.intake.specs.Checked.{CleanCase};
 
 // 2: kind not 1 to 3, or a byte that should be zero.
-fn bad_form(case: &[u8], i: usize) -> bool
+pub fn bad_form(case: &[u8], i: usize) -> bool
     requires { ⌜ i < rowCount (now case) ⌝ }
     ensures { λ v. ⌜ v ≡ badForm (rows (now (case .entry))) i ⌝ }
 {
@@ -19,7 +19,7 @@ fn bad_form(case: &[u8], i: usize) -> bool
 }
 
 // 5: stage, quota, tier or outside tier out of range.
-fn bad_range(case: &[u8], i: usize) -> bool
+pub fn bad_range(case: &[u8], i: usize) -> bool
     requires { ⌜ i < rowCount (now case) ⌝ }
     ensures { λ v. ⌜ v ≡ badRange (rows (now (case .entry))) i ⌝ }
 {

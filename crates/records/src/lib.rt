@@ -43,6 +43,25 @@ pub fn u16_at(bytes: &[u8], at: usize) -> u16
     wide(bytes[at]) + 256 * wide(bytes[at + 1])
 }
 
+// A 16-bit number as one of 64: through a call, its bound is known.
+fn broad(x: u16) -> u64
+    ensures { λ r. ⌜ (r ≡ x) × (r < 65536) ⌝ }
+{
+    x as u64
+}
+
+// The 64-bit field at `at`, low byte first, by its 16-bit fields.
+pub fn u64_at(bytes: &[u8], at: usize) -> u64
+    requires { ⌜ at + 7 < length (now bytes) ⌝ }
+    ensures { λ r. ⌜ r ≡ word (now (bytes .entry)) at + 65536 * word (now (bytes .entry)) (at + 2)
+        + 4294967296 * word (now (bytes .entry)) (at + 4) + 281474976710656 * word (now (bytes .entry)) (at + 6) ⌝ }
+{
+    broad(u16_at(bytes, at))
+        + 65536 * broad(u16_at(bytes, at + 2))
+        + 4294967296 * broad(u16_at(bytes, at + 4))
+        + 281474976710656 * broad(u16_at(bytes, at + 6))
+}
+
 // ---- scores
 
 // Two stored bytes become a score.

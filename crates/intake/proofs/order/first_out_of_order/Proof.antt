@@ -1,12 +1,12 @@
 -- `intake::order::first_out_of_order` meets its contract. The invariant: the records so far are in order, and counted.
-use Prim.Native.Nat.{_-_}
+use Prim.Native.Nat.{_-_, _<_}
 use mathlib.Core.Path.{_≡_, _∙_, sym}
 use mathlib.Core.Option.{none}
 use native.Mathlib.Omega.{arith}
 use Rattle.base.specs.Search.{firstBad}
-use Rattle.base.proofs.Search.{scan-found}
+use Rattle.base.proofs.Search.{scan-found, none-fails}
 use Rattle.format.specs.Layout.{rowAt, rows, rowCount}
-use Rattle.format.specs.Refusals.{badOrder}
+use Rattle.format.specs.Refusals.{badForm, badOrder}
 use Rattle.intake.specs.Order.{Counted}
 use Rattle.intake.proofs.Counting.{counted-start, counted-on}
 use Rattle.intake.proofs.order.first_out_of_order.Statement.{statement}
@@ -22,10 +22,12 @@ row-count-requires : tie.Need-row-count-requires Inv-loop μ-loop
 row-count-requires c κs = tt
 
 loop-holds : tie.Need-loop-holds Inv-loop μ-loop
-loop-holds c = counted-start (c .before .before .args .case .now) (c .before .before .pre)
+loop-holds c = counted-start (c .before .before .args .case .now)
 
 out-of-order-requires : tie.Need-out-of-order-requires Inv-loop μ-loop
-out-of-order-requires c κs = (omega (arith, c .before .before .row-count .ensures), c .before .loop .inv)
+out-of-order-requires c κs =
+    let l : c .before .loop .i < rowCount (c .before .before .before .before .args .case .now) = omega (arith, c .before .before .row-count .ensures) in
+    (l, (c .before .loop .inv, none-fails (badForm (rows (c .before .before .before .before .args .case .now))) (rowCount (c .before .before .before .before .args .case .now)) (c .before .before .before .before .pre) (c .before .loop .i) l))
 
 returns : tie.Need-returns Inv-loop μ-loop
 returns c =
@@ -64,7 +66,8 @@ loop-again : tie.Need-loop-again Inv-loop μ-loop
 unfolding rowAt
 loop-again c =
     let a = c .before .before .before .before .before .before .before .before .before .before .args in
-    rw (c .before .before .one-if .ensures .0, c .one-if2 .ensures .0) (counted-on (a .case .now) (c .before .before .before .before .before .before .before .loop .i) (c .before .before .before .before .before .before .before .loop .students) (c .before .before .before .before .before .before .before .loop .workshops) (c .before .before .before .before .before .before .before .loop .inv) (omega (arith, c .before .before .before .before .before .before .before .before .row-count .ensures)) (sym (c .before .before .before .before .before .out-of-order .ensures) ∙ c .before .before .before .before .if1 .left))
+    let l : c .before .before .before .before .before .before .before .loop .i < rowCount (a .case .now) = omega (arith, c .before .before .before .before .before .before .before .before .row-count .ensures) in
+    rw (c .before .before .one-if .ensures .0, c .one-if2 .ensures .0) (counted-on (a .case .now) (c .before .before .before .before .before .before .before .loop .i) (c .before .before .before .before .before .before .before .loop .students) (c .before .before .before .before .before .before .before .loop .workshops) (c .before .before .before .before .before .before .before .loop .inv) l (none-fails (badForm (rows (a .case .now))) (rowCount (a .case .now)) (c .before .before .before .before .before .before .before .before .before .before .pre) (c .before .before .before .before .before .before .before .loop .i) l) (sym (c .before .before .before .before .before .out-of-order .ensures) ∙ c .before .before .before .before .if1 .left))
 
 returns-2 : tie.Need-returns-2 Inv-loop μ-loop
 returns-2 c =
