@@ -14,17 +14,18 @@ use borrow.Author.Tests.{eq-eqb, ne-eqb, eqb-true, lt-ltb, le-ltb, ltb-true, not
 use Rattle.base.specs.Lists.{any, tally, tabulate}
 use Rattle.base.specs.Below.{anyBelow}
 use Rattle.base.specs.Search.{firstBad, orEnd}
-use Rattle.base.proofs.Tests.{less?, is-false, and-left, and-right, and-make}
+use Rattle.base.proofs.Tests.{less?, is-false, and-left, and-right, and-make, or-right}
 use Rattle.base.proofs.Below.{tabulate-length, tabulate-at, any-before, tabulate-set, tally-le, tally-append, tally-none, tally-set}
 use Rattle.base.proofs.Search.{scan-on, scan-skip, scan-found, end-any, end-some, first-below, first-passes}
 use Rattle.format.specs.Layout.{rows, rowCount, rowAt, entries, entryCount, entryAt, isPair, isInterview}
-use Rattle.format.specs.Refusals.{badPair, badRepeat}
+use Rattle.format.specs.Refusals.{badPair, badScores, badRepeat}
 use Rattle.format.proofs.Positions.{places, pair-says, pair-names, pair-from, pairs-rise, pair-only}
 use Rattle.records.specs.Records.{pairPlace}
 use Rattle.intake.specs.Checked.{CleanCase, pairCount}
-use Rattle.intake.specs.Index.{fromOne, numberIn, pairsFrom, indexTo, lentIndex}
+use Rattle.intake.specs.Index.{badAny, fromOne, numberIn, pairsFrom, indexTo, lentIndex}
 use Rattle.intake.proofs.Laws.{entry-is, pair-any}
 use Rattle.intake.proofs.Cases.{clean, few}
+use Rattle.intake.proofs.Joined.{none-first, none-second, none-third}
 
 -- the pair of s and w has record p, a pair record
 pub record Placed (case : List ℕ) (s w p : ℕ) : Type 0 where
@@ -51,12 +52,26 @@ number-none p n e = go (firstBad p n) e
 abbrev pub positive : ℕ → Bool
 positive x = not (eqb x 0)
 
--- the loop of `fill`: the first i records are of different pairs, and the index is theirs
+-- the loop of `fill`: the first i records have pairs, good scores and no pair twice, and the index is theirs
 pub record Filled (case book : List ℕ) (lent i : ℕ) (index : List ℕ) : Type 0 where
   pub inside : i ≤ entryCount book
   pub filled : index ≡ lentIndex case book i lent
-  pub fresh : firstBad (badRepeat (rows case) (entries book)) i ≡ none
+  pub fine : firstBad (badAny (rows case) (entries book)) i ≡ none
   pub used : tally positive index ≡ i
+
+-- what causes 8 to 10 find by themselves where they find nothing together
+module _ (case book : List ℕ) (e : firstBad (badAny (rows case) (entries book)) (entryCount book) ≡ none) where
+  pub all-paired : firstBad (badPair (rows case) (entries book)) (entryCount book) ≡ none
+  unfolding badAny
+  all-paired = none-first (badPair (rows case) (entries book)) (badScores (rows case) (entries book)) (badRepeat (rows case) (entries book)) (entryCount book) e
+
+  pub all-scored : firstBad (badScores (rows case) (entries book)) (entryCount book) ≡ none
+  unfolding badAny
+  all-scored = none-second (badPair (rows case) (entries book)) (badScores (rows case) (entries book)) (badRepeat (rows case) (entries book)) (entryCount book) e
+
+  pub all-fresh : firstBad (badRepeat (rows case) (entries book)) (entryCount book) ≡ none
+  unfolding badAny
+  all-fresh = none-third (badPair (rows case) (entries book)) (badScores (rows case) (entries book)) (badRepeat (rows case) (entries book)) (entryCount book) e
 
 tabulate-zero : (n : ℕ) → tabulate {A = ℕ} (λ k. 0) n ≡ replicate {A = ℕ} n 0
 tabulate-zero n =
@@ -150,7 +165,7 @@ module _ (case : List ℕ) (n m : ℕ) (c : CleanCase case n m) where
           record {
             inside = omega arith;
             filled = z ∙ zeros;
-            fresh = refl;
+            fine = refl;
             used = ap (tally positive) z ∙ tally-none positive 0 (length index) refl;
           }
         where
@@ -176,10 +191,13 @@ module _ (case : List ℕ) (n m : ℕ) (c : CleanCase case n m) where
           pub fill-inside : p - pairsFrom case < length index
           fill-inside = omega (arith, fill-length, q .within)
 
-          pub fill-repeat : (getD index (p - pairsFrom case) 0 ≡ 0 → ⊥) → badRepeat (rows case) (entries book) i ≡ true
-          fill-repeat f = repeat-is i l ∙ rw (← numbered, ne-eqb (getD index (p - pairsFrom case) 0) 0 f)
+          pub fill-repeat : (getD index (p - pairsFrom case) 0 ≡ 0 → ⊥) → badAny (rows case) (entries book) i ≡ true
+          unfolding badAny
+          fill-repeat f =
+              or-right (badPair (rows case) (entries book) i) _
+              (or-right (badScores (rows case) (entries book) i) _ (repeat-is i l ∙ rw (← numbered, ne-eqb (getD index (p - pairsFrom case) 0) 0 f)))
 
-          module _ (z : getD index (p - pairsFrom case) 0 ≡ 0) where
+          module _ (paired : badPair (rows case) (entries book) i ≡ false) (scored : badScores (rows case) (entries book) i ≡ false) (z : getD index (p - pairsFrom case) 0 ≡ 0) where
             none-yet : firstBad (λ k. isInterview (entryAt book i .student) (entryAt book i .workshop) (entryAt book k)) i ≡ none
             none-yet = number-none (λ k. isInterview (entryAt book i .student) (entryAt book i .workshop) (entryAt book k)) i (sym numbered ∙ z)
 
@@ -212,10 +230,11 @@ module _ (case : List ℕ) (n m : ℕ) (c : CleanCase case n m) where
                 (λ j a f. ap fromOne (scan-skip (λ k. isInterview (rowAt case (pairsFrom case + j) .first) (rowAt case (pairsFrom case + j) .second) (entryAt book k)) i (other j a f))))
 
             pub fill-on : Filled case book lent (i + 1) (set index (p - pairsFrom case) (i + 1))
+            unfolding badAny
             fill-on =
                 record {
                   inside = omega arith;
                   filled = ap (λ l. set l (p - pairsFrom case) (i + 1)) (h .filled) ∙ more;
-                  fresh = scan-on (badRepeat (rows case) (entries book)) i (h .fresh) (repeat-is i l ∙ rw none-yet);
+                  fine = scan-on (badAny (rows case) (entries book)) i (h .fine) (rw (paired, scored) (repeat-is i l ∙ rw none-yet));
                   used = tally-set positive 0 index (p - pairsFrom case) (i + 1) fill-inside (rw z) (rw (ne-eqb (i + 1) 0 (λ e. omega arith))) ∙ rw (h .used) (sym (add-one i));
                 }

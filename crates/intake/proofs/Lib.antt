@@ -2,6 +2,7 @@ pub mod Laws
 pub mod Counting
 pub mod Sounding
 pub mod Cases
+pub mod Joined
 pub mod Indexing
 pub mod Lowering
 pub mod Interviews

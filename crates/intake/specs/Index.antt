@@ -1,13 +1,19 @@
 -- The index: for each pair record, in order, the number of its book record plus 1, or 0.
 use Prim.Native.Nat.{ℕ, suc, _+_, _-_}
+use mathlib.Core.Bool.{Bool, _||_}
 use mathlib.Core.List.{List, _++_}
 use mathlib.Core.Option.{Option, some, none}
 use lib.ListN.{replicate}
 use Rattle.base.specs.Lists.{tabulate}
 use Rattle.base.specs.Search.{firstBad}
-use Rattle.format.specs.Layout.{Row, rowAt, entryAt, entryCount, isInterview}
+use Rattle.format.specs.Layout.{Row, Entry, rowAt, entryAt, entryCount, isInterview}
+use Rattle.format.specs.Refusals.{badPair, badScores, badRepeat}
 use Rattle.format.specs.Engine.{marketIn}
 use Rattle.intake.specs.Checked.{pairCount}
+
+-- causes 8 to 10: a book record without its pair, with a bad score, or of a pair that is in the book already
+unfoldable pub badAny : List Row → List Entry → ℕ → Bool
+badAny rs es i = badPair rs es i || (badScores rs es i || badRepeat rs es i)
 
 -- a place plus 1, or 0 for none
 abbrev pub fromOne : Option ℕ → ℕ

@@ -1,14 +1,12 @@
-// Cause 10, on the way to the index: for each pair record the number of its book record, from 1.
+// Causes 8 to 10, on the way to the index: for each pair record the number of its book record, from 1.
 ghost use mathlib.Core.Path.{_≡_};
-ghost use mathlib.Core.Option.{none};
 ghost use Prim.Native.Nat.{_≤_};
 ghost use lib.ListN.{length, replicate};
 ghost use Rattle.base.specs.Search.{firstBad, orEnd};
 ghost use Rattle.format.specs.Layout.{rows, entries, rowCount, entryCount};
-ghost use Rattle.format.specs.Refusals.{badPair, badRepeat};
 ghost use Rattle.records.specs.Records.{pairPlace};
 ghost use Rattle.intake.specs.Checked.{CleanCase, pairCount};
-ghost use Rattle.intake.specs.Index.{lentIndex};
+ghost use Rattle.intake.specs.Index.{badAny, lentIndex};
 
 // All zero.
 pub fn clear(index: &mut [u16])
@@ -34,13 +32,12 @@ pub fn place(case: &[u8], rows: usize, students: usize, workshops: usize, s: u16
     records::find_pair_at(case, rows, guess, s, w)
 }
 
-// Each book record leaves its number at its pair's place. The first record whose pair has one already, or how many there are.
+// Each book record leaves its number at its pair's place. The first record that has no pair or a bad score, or whose pair has a number already, or how many there are.
 pub fn fill(case: &[u8], book: &[u8], students: usize, workshops: usize, index: &mut [u16]) -> usize
     requires { ⌜ CleanCase (now case) students workshops ⌝ }
-    requires { ⌜ firstBad (badPair (rows (now case)) (entries (now book))) (entryCount (now book)) ≡ none ⌝ }
     requires { ⌜ pairCount (now case) ≤ length (now index) ⌝ }
     requires { ⌜ now index ≡ replicate (length (now index)) 0 ⌝ }
-    ensures { λ r. ⌜ (r ≡ orEnd (entryCount (now (book .entry))) (firstBad (badRepeat (rows (now (case .entry))) (entries (now (book .entry)))) (entryCount (now (book .entry)))))
+    ensures { λ r. ⌜ (r ≡ orEnd (entryCount (now (book .entry))) (firstBad (badAny (rows (now (case .entry))) (entries (now (book .entry)))) (entryCount (now (book .entry)))))
         × (now (index .exit) ≡ lentIndex (now (case .entry)) (now (book .entry)) r (length (now (index .entry)))) ⌝ }
 {
     let n = records::row_count(case.len());
@@ -49,7 +46,13 @@ pub fn fill(case: &[u8], book: &[u8], students: usize, workshops: usize, index: 
     let mut i = 0;
     while i < count {
         let e = reader::entry_of(book, i);
-        let k = place(case, n, students, workshops, e.student, e.workshop) - from;
+        let p = place(case, n, students, workshops, e.student, e.workshop);
+        if (n <= p)
+            | (!records::good_score(e.student_score) | !records::good_score(e.workshop_score))
+        {
+            return i;
+        }
+        let k = p - from;
         if index[k] != 0 {
             return i;
         }

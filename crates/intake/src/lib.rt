@@ -1,14 +1,15 @@
-// Tests a case, the lent room and a book for the eleven refusals, cause by cause in the table's order.
+// Tests a case, the lent room and a book for the eleven refusals, of which the first in the table's order is told.
 ghost use mathlib.Core.Path.{_≡_};
 ghost use mathlib.Core.Bool.{_||_};
-ghost use mathlib.Core.Option.{none};
+ghost use mathlib.Core.Option.{some, none};
 ghost use Prim.Native.Nat.{_≤_, _%_};
 ghost use lib.ListN.{length};
-ghost use Rattle.format.specs.Layout.{rowCount};
+ghost use Rattle.base.specs.Search.{firstBad};
+ghost use Rattle.format.specs.Layout.{rows, entries, rowCount, entryCount};
 ghost use Rattle.format.specs.Refusals.{notWithin, refusal};
 ghost use Rattle.intake.specs.Checked.{lengthsOf, pairCount, checkedOf, caseRefusal, bookRefusal, CleanCase};
 ghost use Rattle.intake.specs.Order.{Sound};
-ghost use Rattle.intake.specs.Index.{indexedAs};
+ghost use Rattle.intake.specs.Index.{badAny, indexedAs};
 
 mod index;
 mod lengths;
@@ -116,6 +117,26 @@ fn check_case(case: &[u8], book: &[u8]) -> Checked
     check_each(case, book)
 }
 
+// The cause of 8 to 10 that comes first in the table, of a book whose first record with any of them is the one at this place.
+fn book_fault(case: &[u8], book: &[u8], students: usize, workshops: usize, at: usize) -> Checked
+    requires { ⌜ CleanCase (now case) students workshops ⌝ }
+    requires { ⌜ length (now book) % 8 ≡ 0 ⌝ }
+    requires { ⌜ firstBad (badAny (rows (now case)) (entries (now book))) (entryCount (now book)) ≡ some at ⌝ }
+    ensures { λ r. ⌜ r ≡ checkedOf (bookRefusal (now (case .entry)) (now (book .entry))) (now (case .entry)) ⌝ }
+    ensures { λ _. ⌜ (bookRefusal (now (case .entry)) (now (book .entry)) ≡ none → ⊥) ⌝ }
+{
+    let n = records::entry_count(book.len());
+    let pair = scans::first_bad(8, case, book, students, workshops);
+    if pair < n {
+        return refused(8, pair);
+    }
+    let score = scans::first_bad(9, case, book, students, workshops);
+    if score < n {
+        return refused(9, score);
+    }
+    refused(10, at)
+}
+
 // Causes 7 to 11.
 fn check_book(
     case: &[u8],
@@ -134,18 +155,10 @@ fn check_book(
     if book.len() % 8 != 0 {
         return refused(7, 0);
     }
-    let pair = scans::first_bad(8, case, book, students, workshops);
-    if pair < n {
-        return refused(8, pair);
-    }
-    let score = scans::first_bad(9, case, book, students, workshops);
-    if score < n {
-        return refused(9, score);
-    }
     index::clear(index);
-    let repeated = index::fill(case, book, students, workshops, index);
-    if repeated < n {
-        return refused(10, repeated);
+    let stopped = index::fill(case, book, students, workshops, index);
+    if stopped < n {
+        return book_fault(case, book, students, workshops, stopped);
     }
     let tie = ties::first_tie(case, book, index, students, workshops);
     if tie < n {
