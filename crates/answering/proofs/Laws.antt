@@ -1,14 +1,14 @@
--- A fill's end, and the laws of `placeOne`, `placeAll`, `fromSeats` that a loop uses.
+-- The laws of `placeOne`, `placeAll`, `fromSeats` that a loop uses.
 use Prim.Native.Nat.{ℕ, zero, suc, _+_, _-_, _≤_, _<_}
 use mathlib.Core.Path.{_≡_, refl, sym, ap, _∙_}
 use mathlib.Core.Logic.{⊎-elim}
 use mathlib.Core.Bool.{Bool, true, false, cond}
-use mathlib.Core.List.{List, [], _∷_, _++_, append-nil}
+use mathlib.Core.List.{List, [], _∷_, _++_}
 use native.Mathlib.Omega.{arith}
 use native.Mathlib.Nat.{min-le-left}
 use native.Mathlib.Numerals.{add-one}
-use lib.ListN.{length, getD, take, drop, set, replicate, length-set, length-take}
-use lib.Seq.{take-suc, take-length, drop-length}
+use lib.ListN.{length, getD, take, drop, set, length-set, length-take}
+use lib.Seq.{take-suc, take-length}
 use lib.Dec.{eqb}
 use borrow.Author.Tests.{eq-eqb, ne-eqb}
 use Rattle.base.proofs.Tests.{bool-cases}
@@ -16,9 +16,6 @@ use Rattle.lgs.specs.Market.{Market}
 use Rattle.base.specs.Lists.{total}
 use Rattle.model.specs.Store.{part, seatsFrom}
 use Rattle.answering.specs.Places.{placeOne, placeAll, fromSeats}
-
-pub filled : (d s : List ℕ) (n : ℕ) → n ≡ length d → s ≡ replicate n 0 ++ drop n d → s ≡ replicate (length d) 0
-filled d s n e p = p ∙ rw (e, drop-length d) (append-nil (replicate (length d) 0))
 
 pub one-zero : (w s : ℕ) (p : List ℕ) → s ≡ 0 → placeOne w s p ≡ p
 unfolding placeOne

@@ -33,17 +33,6 @@ pub struct Report {
     pub visits: u64,
 }
 
-// Zeros over the whole slice.
-fn clear(s: &mut [u16])
-    ensures { λ _. ⌜ now (s .exit) ≡ replicate (length (now (s .entry))) 0 ⌝ }
-{
-    let mut k = 0;
-    while k < s.len() {
-        s[k] = 0;
-        k += 1;
-    }
-}
-
 // How many students the case has: its records of kind 1.
 pub fn count_students(case: &[u8]) -> usize
     ensures { λ r. ⌜ r ≡ marketIn (now (case .entry)) .students ⌝ }
@@ -109,7 +98,7 @@ pub fn prepare(
         seats: seats.len(),
         states,
     };
-    clear(&mut *seats);
+    intake::clear(&mut *seats);
     let checked = intake::check(case, book, room, &mut *index);
     match checked {
         Checked::Refused { cause, record } => {
@@ -190,7 +179,7 @@ fn fill_places(case: &[u8], seats: &[u16], places: &mut [u16], students: usize, 
     requires { ⌜ Seated (now case) (now seats) (now places) students workshops ⌝ }
     ensures { λ _. ⌜ now (places .exit) ≡ fromSeats (marketIn (now (case .entry))) (now (seats .entry)) workshops (noPlaces students (now (places .entry))) ⌝ }
 {
-    clear(&mut places[..students]);
+    intake::clear(&mut places[..students]);
     place_seated(case, seats, places, students, workshops);
 }
 
@@ -211,16 +200,16 @@ pub fn finish(
 {
     let cause = p.cause;
     let workshop = r.workshop;
-    clear(&mut *index);
+    intake::clear(&mut *index);
     if cause > 0 {
-        clear(&mut *seats);
+        intake::clear(&mut *seats);
         return Answer::Refused {
             cause,
             record: p.record,
         };
     }
     if workshop > 0 {
-        clear(&mut *seats);
+        intake::clear(&mut *seats);
         return Answer::Next {
             student: r.student,
             workshop,
@@ -228,7 +217,7 @@ pub fn finish(
         };
     }
     fill_places(case, &*seats, places, p.students, p.workshops);
-    clear(&mut *seats);
+    intake::clear(&mut *seats);
     Answer::Placed { visits: r.count }
 }
 

@@ -21,9 +21,10 @@ use Rattle.format.specs.Layout.{rows, rowCount, rowAt, entries, entryCount, ent
 use Rattle.format.specs.Refusals.{badPair, badScores, badRepeat}
 use Rattle.format.proofs.Positions.{places, pair-says, pair-names, pair-from, pairs-rise, pair-only}
 use Rattle.records.specs.Records.{pairPlace}
+use Rattle.records.proofs.Laws.{pair-any}
 use Rattle.intake.specs.Checked.{CleanCase, pairCount}
 use Rattle.intake.specs.Index.{badAny, fromOne, numberIn, pairsFrom, indexTo, lentIndex}
-use Rattle.intake.proofs.Laws.{entry-is, pair-any}
+use Rattle.intake.proofs.Laws.{entry-is}
 use Rattle.intake.proofs.Cases.{clean, few}
 use Rattle.intake.proofs.Joined.{none-first, none-second, none-third}
 

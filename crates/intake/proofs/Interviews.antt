@@ -17,10 +17,10 @@ use Rattle.format.specs.Refusals.{badPair}
 use Rattle.format.specs.Engine.{marketIn}
 use Rattle.format.proofs.Positions.{student-tier-at, workshop-tier-at}
 use Rattle.records.specs.Records.{pairPlace}
+use Rattle.records.proofs.Laws.{pair-any}
 use Rattle.intake.specs.Checked.{pairCount}
 use Rattle.intake.specs.Index.{fromOne, pairsFrom}
 use Rattle.intake.specs.Ties.{Indexed, tierOf, scoreOf, numberOf, keyOf, StandsAt}
-use Rattle.intake.proofs.Laws.{pair-any}
 use Rattle.intake.proofs.Cases.{clean}
 use Rattle.intake.proofs.Indexing.{Placed, placed-by, placed-of, index-at}
 

@@ -1,4 +1,4 @@
--- Records of the case and the book by their places, and a pair by its place.
+-- Records of the book by their places, and the code's tests as the causes' own.
 use Prim.Native.Nat.{ℕ, _≤_, _<_}
 use mathlib.Core.Path.{_≡_, sym, _∙_}
 use mathlib.Core.Logic.{⊎-elim}
@@ -8,21 +8,13 @@ use lib.ListN.{length, getD, drop, replicate}
 use lib.Seq.{drop-length}
 use lib.Dec.{ltb, leb}
 use borrow.Author.Tests.{lt-ltb, le-ltb, le-leb, lt-leb}
-use Rattle.base.specs.Lists.{any}
 use Rattle.base.proofs.Tests.{less?}
-use Rattle.base.proofs.Below.{tabulate-at, any-below}
-use Rattle.base.proofs.Search.{end-any}
-use Rattle.format.specs.Layout.{rowAt, rows, rowCount, entryAt, entries, entryCount, noEntry, isPair}
-use Rattle.records.specs.Records.{pairPlace}
+use Rattle.base.proofs.Below.{tabulate-at}
+use Rattle.format.specs.Layout.{entryAt, entries, entryCount, noEntry}
 
 pub entry-is : (book : List ℕ) (i : ℕ) → i < entryCount book → getD (entries book) i noEntry ≡ entryAt book i
 unfolding entries
 entry-is book i l = tabulate-at (entryAt book) (entryCount book) i noEntry l
-
--- there is a record of the pair where a place is found
-pub pair-any : (case : List ℕ) (s w : ℕ) → any (isPair s w) (rows case) ≡ ltb (pairPlace case s w) (rowCount case)
-unfolding rows
-pair-any case s w = any-below (rowAt case) (isPair s w) (rowCount case) ∙ end-any (λ i. isPair s w (rowAt case i)) (rowCount case)
 
 pub leb-not : (a b : ℕ) → leb a b ≡ not (ltb b a)
 leb-not a b =

@@ -8,17 +8,6 @@ ghost use Rattle.records.specs.Records.{pairPlace};
 ghost use Rattle.intake.specs.Checked.{CleanCase, pairCount};
 ghost use Rattle.intake.specs.Index.{badAny, lentIndex};
 
-// All zero.
-pub fn clear(index: &mut [u16])
-    ensures { λ _. ⌜ now (index .exit) ≡ replicate (length (now (index .entry))) 0 ⌝ }
-{
-    let mut i = 0;
-    while i < index.len() {
-        index[i] = 0;
-        i += 1;
-    }
-}
-
 // The place of the pair's record, or how many records there are. Where all pairs have a record it is known; else it is searched.
 pub fn place(case: &[u8], rows: usize, students: usize, workshops: usize, s: u16, w: u16) -> usize
     requires { ⌜ rows ≡ rowCount (now case) ⌝ }

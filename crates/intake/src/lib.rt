@@ -3,7 +3,7 @@ ghost use mathlib.Core.Path.{_≡_};
 ghost use mathlib.Core.Bool.{_||_};
 ghost use mathlib.Core.Option.{some, none};
 ghost use Prim.Native.Nat.{_≤_, _%_};
-ghost use lib.ListN.{length};
+ghost use lib.ListN.{length, replicate};
 ghost use Rattle.base.specs.Search.{firstBad};
 ghost use Rattle.format.specs.Layout.{rows, entries, rowCount, entryCount};
 ghost use Rattle.format.specs.Refusals.{notWithin, refusal};
@@ -37,6 +37,17 @@ pub enum Checked {
         workshops: usize,
         pairs: usize,
     },
+}
+
+// Zeros over the whole slice.
+pub fn clear(s: &mut [u16])
+    ensures { λ _. ⌜ now (s .exit) ≡ replicate (length (now (s .entry))) 0 ⌝ }
+{
+    let mut k = 0;
+    while k < s.len() {
+        s[k] = 0;
+        k += 1;
+    }
 }
 
 fn refused(cause: u16, at: usize) -> Checked
@@ -155,7 +166,7 @@ fn check_book(
     if book.len() % 8 != 0 {
         return refused(7, 0);
     }
-    index::clear(index);
+    clear(index);
     let stopped = index::fill(case, book, students, workshops, index);
     if stopped < n {
         return book_fault(case, book, students, workshops, stopped);

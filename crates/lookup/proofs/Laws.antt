@@ -8,11 +8,10 @@ use native.Mathlib.Omega.{arith}
 use lib.ListN.{length, getD}
 use lib.Dec.{ltb}
 use Rattle.base.proofs.Tests.{bool-cases, is-false}
-use Rattle.base.proofs.Below.{any-below}
-use Rattle.base.proofs.Search.{end-any}
-use Rattle.format.specs.Layout.{rowAt, rowCount, rows, isPair, marketOf}
+use Rattle.format.specs.Layout.{rowAt, rowCount, marketOf}
 use Rattle.format.specs.Engine.{marketIn, resultsIn}
 use Rattle.records.specs.Records.{pairPlace}
+use Rattle.records.proofs.Laws.{pair-any}
 use Rattle.model.specs.Ready.{Booked}
 use Rattle.lookup.specs.Clean.{PairAt, PairsFound, EntryAt, Clean, indexAt}
 
@@ -47,5 +46,5 @@ module _ {case book index : List ℕ} {n m : ℕ} (k : Clean case book index n m
 
 -- a pair has a record where the search finds one
 pub paired-place : (case : List ℕ) (s w : ℕ) → marketIn case .paired s w ≡ ltb (pairPlace case s w) (rowCount case)
-unfolding marketOf rows
-paired-place case s w = any-below (rowAt case) (isPair s w) (rowCount case) ∙ end-any (λ i. isPair s w (rowAt case i)) (rowCount case)
+unfolding marketOf
+paired-place case s w = pair-any case s w

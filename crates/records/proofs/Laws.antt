@@ -14,11 +14,13 @@ use mir.Syntax.{w16}
 use mir.Val.{SFits, toZ, ofZ}
 use borrow.Author.Tests.{lt-ltb, le-ltb, ltb-true, eq-eqb, ne-eqb}
 use Rattle.base.specs.Words.{biased, word}
+use Rattle.base.specs.Lists.{any}
 use Rattle.base.specs.Search.{firstBad}
 use Rattle.base.proofs.Tests.{bool-cases, is-false, eq?}
-use Rattle.base.proofs.Search.{scan-none, scan-found, scan-same, is-key, Halved, halve-found, halve-none}
+use Rattle.base.proofs.Below.{any-below}
+use Rattle.base.proofs.Search.{end-any, scan-none, scan-found, scan-same, is-key, Halved, halve-found, halve-none}
 use Rattle.base.proofs.Signed.{code-less, code-zero}
-use Rattle.format.specs.Layout.{Row, rowAt, rowCount, isPair}
+use Rattle.format.specs.Layout.{Row, rowAt, rows, rowCount, isPair}
 use Rattle.format.specs.Refusals.{badScore}
 use Rattle.format.proofs.Positions.{Clean, Before, kind-rises, kind-within, pair-rises, pair-only}
 use Rattle.records.specs.Records.{pairKey, PairsSorted, PairsOnce, pairPlace}
@@ -76,6 +78,11 @@ pair-by-key r s w h k =
     ⊎-elim (λ (e : eqb (r .kind) 3 ≡ true). rw (e, add-one (s * 65536 + w), eqb·suc-suc (r .first * 65536 + r .second) (s * 65536 + w)) (sym (code-eq (r .first) (r .second) s w h k)))
     (λ (e : eqb (r .kind) 3 ≡ false). rw e (sym (ne-eqb 0 (s * 65536 + w + 1) (λ q. omega arith))))
     (bool-cases (eqb (r .kind) 3))
+
+-- there is a record of the pair where a place is found
+pub pair-any : (case : List ℕ) (s w : ℕ) → any (isPair s w) (rows case) ≡ ltb (pairPlace case s w) (rowCount case)
+unfolding rows
+pair-any case s w = any-below (rowAt case) (isPair s w) (rowCount case) ∙ end-any (λ i. isPair s w (rowAt case i)) (rowCount case)
 
 -- the record of a pair is the one that the search finds
 pub found-at : (case : List ℕ) → PairsOnce case → (s w g : ℕ) → g < rowCount case → isPair s w (rowAt case g) ≡ true → g ≡ pairPlace case s w

@@ -11,7 +11,7 @@ use Rattle.answering.proofs.fill_places.Statement.{statement}
 use Rattle.answering.proofs.fill_places.Tie as tie
 use Rattle.answering.proofs.fill_places.Reads as reads
 use Rattle.answering.proofs.fill_places.Lts as lts
-use Rattle.answering.proofs.clear.Reads as clear-reads
+use Rattle.intake.proofs.clear.Reads as clear-reads
 use Rattle.answering.proofs.place_seated.Reads as place-seated-reads
 
 slice-relend-prefix-clear : tie.Need-slice-relend-prefix-clear

@@ -10,7 +10,7 @@ use Rattle.answering.proofs.finish.Statement.{statement}
 use Rattle.answering.proofs.finish.Tie as tie
 use Rattle.answering.proofs.finish.Reads as reads
 use Rattle.answering.proofs.finish.Lts as lts
-use Rattle.answering.proofs.clear.Reads as clear-reads
+use Rattle.intake.proofs.clear.Reads as clear-reads
 use Rattle.answering.proofs.fill_places.Reads as fill-places-reads
 
 clear-requires : tie.Need-clear-requires

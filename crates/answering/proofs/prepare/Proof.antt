@@ -11,7 +11,7 @@ use Rattle.answering.proofs.prepare.Statement.{statement}
 use Rattle.answering.proofs.prepare.Tie as tie
 use Rattle.answering.proofs.prepare.Reads as reads
 use Rattle.answering.proofs.prepare.Lts as lts
-use Rattle.answering.proofs.clear.Reads as clear-reads
+use Rattle.intake.proofs.clear.Reads as clear-reads
 use Rattle.answering.proofs.no_run.Reads as no-run-reads
 use Rattle.intake.proofs.check.Reads as check-reads
 use Rattle.turning.proofs.begin_run.Reads as begin-run-reads

@@ -16,7 +16,8 @@ use Rattle.format.specs.Layout.{Entry, rows, entries, entryCount, entryAt}
 use Rattle.format.specs.Refusals.{badPair, badScores, badScore, badRepeat}
 use Rattle.records.specs.Records.{pairPlace}
 use Rattle.intake.specs.Index.{badAny, pairsFrom, lentIndex}
-use Rattle.intake.proofs.Laws.{entry-is, pair-any, leb-not, bad-good}
+use Rattle.records.proofs.Laws.{pair-any}
+use Rattle.intake.proofs.Laws.{entry-is, leb-not, bad-good}
 use Rattle.intake.proofs.Cases.{few}
 use Rattle.intake.proofs.Joined.{or-first-two}
 use Rattle.intake.proofs.Indexing.{Filled, Placed, placed-of, pairs-few, fill-start, fill-length, fill-few, fill-repeat, fill-on}

@@ -1,7 +1,8 @@
 -- `intake::scans::bad_pair` meets its contract: the pair has no record where the lookup finds no place.
 use mathlib.Core.Path.{_∙_, sym}
 use Rattle.format.specs.Refusals.{badPair}
-use Rattle.intake.proofs.Laws.{entry-is, pair-any, leb-not}
+use Rattle.records.proofs.Laws.{pair-any}
+use Rattle.intake.proofs.Laws.{entry-is, leb-not}
 use borrow.Author.Needs.{needs}
 use Rattle.intake.proofs.scans.bad_pair.Statement.{statement}
 use Rattle.intake.proofs.scans.bad_pair.Tie as tie

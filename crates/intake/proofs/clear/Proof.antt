@@ -1,4 +1,4 @@
--- `answering::clear` meets its contract. The invariant: zeros up to k, and what was there after it.
+-- `intake::clear` meets its contract. The invariant: zeros up to k, and what was there after it.
 use Prim.Native.Nat.{_≤_, _-_}
 use mathlib.Core.Path.{_≡_, refl}
 use mathlib.Core.List.{_++_}
@@ -6,9 +6,9 @@ use native.Mathlib.Omega.{arith}
 use borrow.Author.Needs.{needs}
 use borrow.Author.Fill.{fill-none, fill-more}
 use lib.ListN.{length, drop, replicate, length-set}
-use Rattle.answering.proofs.Laws.{filled}
-use Rattle.answering.proofs.clear.Statement.{statement}
-use Rattle.answering.proofs.clear.Tie as tie
+use Rattle.intake.proofs.Laws.{filled}
+use Rattle.intake.proofs.clear.Statement.{statement}
+use Rattle.intake.proofs.clear.Tie as tie
 
 abbrev Inv-loop : tie.InvT-loop
 Inv-loop s₀ k₀ s k = (k ≤ length s₀) × (length s ≡ length s₀) × (s ≡ replicate k 0 ++ drop k s₀)
