@@ -23,10 +23,6 @@ use Rattle.turning.specs.Round.{inTier, Listed}
 use Rattle.turning.proofs.Due.{due-tier, tier-pair, pair-second}
 use Rattle.turning.proofs.Rounds.{Rounding, round-start, count-to, skipped, seats-before, seats-more}
 
-pub one-le : (b : Bool) → one b ≤ 1
-one-le true = omega arith
-one-le false = omega arith
-
 -- those of 1 to k that pass have their values at places 0, 1, .. of the list; the next is written
 placed : (f : ℕ → Bool) (g : ℕ → ℕ) (k x : ℕ) (l : List ℕ)
     → ((v : ℕ) → v < k → f (suc v) ≡ true → getD l (count f v) 0 ≡ g (suc v))

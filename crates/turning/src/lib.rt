@@ -298,7 +298,7 @@ fn opened(
 
 // 1 where the test holds, and else 0.
 fn one_if(b: bool) -> usize
-    ensures { λ r. ⌜ r ≡ one b ⌝ }
+    ensures { λ r. ⌜ (r ≡ one b) × (r ≤ 1) ⌝ }
 {
     if b { 1 } else { 0 }
 }

@@ -212,10 +212,10 @@ returns c =
     (r .0, r .1)
 
 cast-put-interview : tie.Need-cast-put-interview Inv-loop μ-loop
-cast-put-interview c = let start = c .before .before .before .before .before .before .before .before .before .before .before .before .before .before .before .before .before .before .before .before in omega (arith, start .pre .0 .manyStudents, start .pre .1 .0)
+cast-put-interview c = let start = c .before .before .before .before .before .before .before .before .before .before .before .before .before .before .before .before .before .before .before .before in omega (arith, bounds (c .before .before .before .before .before .before .before), start .pre .0 .manyStudents, start .pre .1 .0)
 
 cast-put-interview-2 : tie.Need-cast-put-interview-2 Inv-loop μ-loop
-cast-put-interview-2 c = omega (arith, bounds (c .before .before .before .before .before .before .before))
+cast-put-interview-2 c = let start = c .before .before .before .before .before .before .before .before .before .before .before .before .before .before .before .before .before .before .before .before in omega (arith, bounds (c .before .before .before .before .before .before .before), start .pre .0 .manyStudents, start .pre .1 .0)
 
 put-interview-requires : tie.Need-put-interview-requires Inv-loop μ-loop
 put-interview-requires c κs = room (c .before .before .before)

@@ -2,13 +2,12 @@
 use Prim.Native.Nat.{ℕ, _+_, _-_, _≤_, _<_}
 use mathlib.Core.Path.{_≡_, sym, ap, _∙_}
 use native.Mathlib.Omega.{arith}
-use lib.Dec.{eqb}
 use lib.ListN.{set}
 use Rattle.base.specs.Lists.{one}
 use Rattle.format.specs.Engine.{marketIn}
 use Rattle.turning.specs.Round.{inTier}
 use Rattle.turning.proofs.Due.{tier-unpaired, tier-paired}
-use Rattle.turning.proofs.Listing.{one-le, Listing, listing-start, listing-few, listing-end, listing-more}
+use Rattle.turning.proofs.Listing.{Listing, listing-start, listing-few, listing-end, listing-more}
 use borrow.Author.Needs.{needs}
 use Rattle.turning.proofs.list_tier.Statement.{statement}
 use Rattle.turning.proofs.list_tier.Tie as tie
@@ -81,7 +80,7 @@ one-if-requires : tie.Need-one-if-requires Inv-loop μ-loop
 one-if-requires c κs = tt
 
 add-n : tie.Need-add-n Inv-loop μ-loop
-add-n c = omega (arith, few (c .before .before .before .before), c .one-if .ensures, one-le (eqb (c .before .student-tier .result) (entry (c .before .before .before .before) .args .tier)))
+add-n c = omega (arith, few (c .before .before .before .before), c .one-if .ensures .1)
 
 loop-less : tie.Need-loop-less Inv-loop μ-loop
 loop-less c = omega arith
@@ -93,7 +92,7 @@ loop-again c =
     let a = start .args in
     let here = head d .loop in
     let t = tier-paired (a .case .now) (a .s) (here .done + 1) (a .tier) (d .pair-of .result) (d .pair-of .ensures) (omega (arith, d .before .before .before .row-count .ensures)) (start .pre .1 .1 .1 (here .done + 1)) in
-    more (c .before .before .before) (c .one-if .result) (c .one-if .ensures ∙ rw (t, c .before .student-tier .ensures))
+    more (c .before .before .before) (c .one-if .result) (c .one-if .ensures .0 ∙ rw (t, c .before .student-tier .ensures))
 
 loop-less-2 : tie.Need-loop-less-2 Inv-loop μ-loop
 loop-less-2 c = omega arith
