@@ -1,8 +1,7 @@
 //! Times the engine against the fast reference, in one process and in turns.
 //!
 //! Both get the same case and a full book. The engine's buffers are zero before the first
-//! run and are not cleared in between; the fast reference keeps its tables. Growth is the
-//! engine's time for a pair against the smallest size.
+//! run and are not cleared in between; the fast reference keeps its tables.
 
 use reference::engine;
 use reference::fast::Fast;
@@ -15,7 +14,10 @@ use std::process::ExitCode;
 use std::time::Instant;
 
 const RUNS: usize = 301;
-const SIZES: [(usize, usize); 3] = [(150, 20), (400, 20), (512, 64)];
+/// Students and workshops; the last three have four times the pairs of the one before.
+const SIZES: [(usize, usize); 5] = [(150, 20), (400, 20), (128, 16), (256, 32), (512, 64)];
+/// Of a hundred pairs, so many have a record.
+const KEPT: [usize; 3] = [100, 95, 50];
 /// Student groups and workshop groups.
 const GROUPS: [(usize, usize); 2] = [(4, 8), (1, 1)];
 
@@ -63,9 +65,15 @@ struct Times {
     fast: f64,
 }
 
-fn timing_input(students: usize, workshops: usize, (d, e): (usize, usize)) -> Input {
+fn timing_input(
+    students: usize,
+    workshops: usize,
+    (d, e): (usize, usize),
+    kept: usize,
+) -> Input {
     let mut rng = Rng::new(2024);
-    let case = gen::experiment(&mut rng, students, workshops, d, e);
+    let mut case = gen::experiment(&mut rng, students, workshops, d, e);
+    case.pairs.retain(|_| rng.chance(kept));
     let mut book = gen::full_book(&mut rng, &case, MAX_MARK);
     rng.shuffle(&mut book);
     case.input(&book)
@@ -108,33 +116,37 @@ fn median(mut times: Vec<f64>) -> f64 {
     times[times.len() / 2]
 }
 
+/// Times one input and prints its line; an answer other than the literal reference's is an error.
+fn line(students: usize, workshops: usize, input: &Input) -> Result<(), String> {
+    let expected = literal::answer(input);
+    lending::check(&engine::call, input, &expected, &mut Rng::new(1))?;
+    let times = measure(input);
+    let pairs = (input.lent.visits / 2) as f64;
+    println!(
+        "{students:4}x{workshops:<3} {pairs:6} pairs {:6} visits  engine {:9.1} us  fast {:9.1} us  \
+         ratio {:5.2}  a pair {:5.1} and {:5.1} ns",
+        expected.visits().len(),
+        times.engine / 1000.0,
+        times.fast / 1000.0,
+        times.engine / times.fast,
+        times.engine / pairs,
+        times.fast / pairs,
+    );
+    Ok(())
+}
+
 fn main() -> ExitCode {
-    println!("median of {RUNS} runs in turns; all pairs, full book in random order");
-    for (d, e) in GROUPS {
-        println!("student groups {d}, workshop groups {e}");
-        let mut first: Option<f64> = None;
-        for (students, workshops) in SIZES {
-            let input = timing_input(students, workshops, (d, e));
-            let expected = literal::answer(&input);
-            let checked = lending::check(&engine::call, &input, &expected, &mut Rng::new(1));
-            if let Err(what) = checked {
-                println!("{students}x{workshops}: {what}");
-                return ExitCode::FAILURE;
+    println!("median of {RUNS} runs in turns; full book in random order");
+    for kept in KEPT {
+        for (d, e) in GROUPS {
+            println!("{kept} of 100 pairs, student groups {d}, workshop groups {e}");
+            for (students, workshops) in SIZES {
+                let input = timing_input(students, workshops, (d, e), kept);
+                if let Err(what) = line(students, workshops, &input) {
+                    println!("{students}x{workshops}: {what}");
+                    return ExitCode::FAILURE;
+                }
             }
-            let times = measure(&input);
-            let pairs = (students * workshops) as f64;
-            let per_pair = times.engine / pairs;
-            let base = *first.get_or_insert(per_pair);
-            println!(
-                "{students:4}x{workshops:<3} {:6} visits  engine {:9.1} us  fast {:9.1} us  \
-                 ratio {:5.2}  a pair {per_pair:5.1} and {:5.1} ns  growth {:5.2}",
-                expected.visits().len(),
-                times.engine / 1000.0,
-                times.fast / 1000.0,
-                times.engine / times.fast,
-                times.fast / pairs,
-                per_pair / base,
-            );
         }
     }
     ExitCode::SUCCESS
