@@ -4,7 +4,7 @@ ghost use Prim.Native.Nat.{_≤_};
 ghost use lib.ListN.{length};
 ghost use Rattle.format.specs.Engine.{engine};
 ghost use Rattle.format.specs.Printed.{printed, programRoom};
-ghost use Rattle.printing.specs.Text.{Put};
+ghost use Rattle.printing.specs.Text.{Whole};
 use libc::STDOUT_FILENO;
 
 // Reads from fd into buf until the end of the input. How many bytes, or all of buf's length where the input is as long or cannot be read.
@@ -39,9 +39,10 @@ fn read_file(path: &[u8], buf: &mut [u8]) -> usize
     n
 }
 
-// The text of the answer, in buffers that are enough for every case of 65,536 bytes.
+// The whole text of the answer, made in buffers that are enough for every case of 65,536 bytes.
 fn put_text(case: &[u8], book: &[u8], out: &mut [u8]) -> usize
-    ensures { λ r. ⌜ Put (printed (engine (now (case .entry)) (now (book .entry)) programRoom)) 0 (now (out .entry)) (now (out .exit)) r ⌝ }
+    requires { ⌜ 131072 ≤ length (now out) ⌝ }
+    ensures { λ r. ⌜ Whole (printed (engine (now (case .entry)) (now (book .entry)) programRoom)) (now (out .exit)) r ⌝ }
 {
     let mut places = [0u16; 512];
     let mut visits = [0u16; 8192];

@@ -2,7 +2,7 @@
 use Prim.Native.Nat.{ℕ, _+_, _*_, _≤_, min}
 use mathlib.Core.Path.{_≡_}
 use mathlib.Core.List.{List}
-use lib.ListN.{length}
+use lib.ListN.{length, take}
 use lib.Seq.{sets}
 use Rattle.answers.specs.declared.Answer.{Answer}
 use Rattle.answers.specs.declared.Answer.the-variants.{Placed, Next, Refused}
@@ -11,6 +11,11 @@ use Rattle.answers.specs.declared.Answer.the-variants.{Placed, Next, Refused}
 pub record Put (text : List ℕ) (at : ℕ) (out after : List ℕ) (end : ℕ) : Type 0 where
   pub buffer : after ≡ sets out at text
   pub reach : end ≡ min (at + length text) (length out)
+
+-- the whole text stands at the head of the buffer, and ends at `end`
+pub record Whole (text out : List ℕ) (end : ℕ) : Type 0 where
+  pub long : end ≡ length text
+  pub bytes : take end out ≡ text
 
 -- the buffers have what the answer speaks of: n places, and the interviews of its count
 abbrev pub Fits : Answer → ℕ → List ℕ → List ℕ → Type 0

@@ -5,7 +5,7 @@ ghost use Prim.Native.Nat.{ℕ, _+_, _*_, _≤_, _<_};
 ghost use lib.ListN.{length, getD, take};
 ghost use Rattle.format.specs.Printed.{decimal, numbers, lineOf, placeLines, visitLines, visitsText, placeWord, visitWord, visitsWord, nextWord, refusedWord, unread};
 ghost use Rattle.answers.specs.Report.{interviewsAt, textOf};
-ghost use Rattle.printing.specs.Text.{Put, Fits};
+ghost use Rattle.printing.specs.Text.{Put, Whole, Fits};
 use answers::Answer;
 
 // One byte at `at`; what comes after it.
@@ -66,10 +66,11 @@ fn put_line1(out: &mut [u8], at: usize, word: &[u8], n: usize) -> usize
     put_byte(out, end, 10)
 }
 
-// A line with a word and two numbers.
+// A line with a word and two numbers, at most 43 bytes longer than the word.
 fn put_line2(out: &mut [u8], at: usize, word: &[u8], a: usize, b: usize) -> usize
     requires { ⌜ at ≤ length (now out) ⌝ }
     ensures { λ r. ⌜ Put (lineOf (now (word .entry)) (a ∷ b ∷ [])) at (now (out .entry)) (now (out .exit)) r ⌝ }
+    ensures { λ r. ⌜ length (lineOf (now (word .entry)) (a ∷ b ∷ [])) ≤ length (now (word .entry)) + 43 ⌝ }
 {
     let end = put_word(&mut *out, at, word);
     let end = put_number(&mut *out, end, a);
@@ -118,9 +119,12 @@ fn wide(x: u16) -> usize
 }
 
 // The text of an answer with n students, from the lent buffers. The result is the text's length, or the buffer's where the text is longer.
+// Where `out` has 33 bytes for each entry of the places, 9 for each of the visits and 100 more, it gets the whole text.
 pub fn put_answer(answer: Answer, n: usize, places: &[u16], visits: &[u16], out: &mut [u8]) -> usize
     requires { ⌜ Fits answer n (now places) (now visits) ⌝ }
     ensures { λ r. ⌜ Put (textOf answer n (now (places .entry)) (now (visits .entry))) 0 (now (out .entry)) (now (out .exit)) r ⌝ }
+    ensures { λ r. ⌜ (33 * length (now (places .entry)) + 9 * length (now (visits .entry)) + 100 ≤ length (now (out .entry))
+        → Whole (textOf answer n (now (places .entry)) (now (visits .entry))) (now (out .exit)) r) ⌝ }
 {
     match answer {
         Answer::Placed { visits: count } => {
@@ -139,9 +143,11 @@ pub fn put_answer(answer: Answer, n: usize, places: &[u16], visits: &[u16], out:
     }
 }
 
-// The text where a file cannot be read.
+// The text where a file cannot be read: 7 bytes.
 pub fn put_unread(out: &mut [u8]) -> usize
+    requires { ⌜ 7 ≤ length (now out) ⌝ }
     ensures { λ r. ⌜ Put unread 0 (now (out .entry)) (now (out .exit)) r ⌝ }
+    ensures { λ r. ⌜ Whole unread (now (out .exit)) r ⌝ }
 {
     let end = put_word(&mut *out, 0, b"unread");
     put_byte(out, end, 10)

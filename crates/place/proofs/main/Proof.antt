@@ -2,6 +2,7 @@
 use mathlib.Core.Path.{_≡_, sym}
 use lib.Seq.{length-take-le}
 use Rattle.printing.proofs.Laws.{put-within}
+use Rattle.printing.proofs.Lengths.{whole-within}
 use borrow.Author.Needs.{needs}
 use Rattle.place.proofs.main.Statement.{statement}
 use Rattle.place.proofs.main.Tie as tie
@@ -37,10 +38,10 @@ put-unread-requires : tie.Need-put-unread-requires
 put-unread-requires c κs = search needs
 
 array-share-prefix-out : tie.Need-array-share-prefix-out
-array-share-prefix-out c = put-within (c .before .put-unread .ensures)
+array-share-prefix-out c = put-within (c .before .put-unread .ensures .0)
 
 slice-aggregate-write-all : tie.Need-slice-aggregate-write-all
-slice-aggregate-write-all c = sym (length-take-le (c .before .before .put-unread .result) (c .before .before .put-unread .last .0) (put-within (c .before .before .put-unread .ensures)))
+slice-aggregate-write-all c = sym (length-take-le (c .before .before .put-unread .result) (c .before .before .put-unread .last .0) (put-within (c .before .before .put-unread .ensures .0)))
 
 write-all-requires : tie.Need-write-all-requires
 write-all-requires c κs = search needs
@@ -67,10 +68,10 @@ put-text-requires : tie.Need-put-text-requires
 put-text-requires c κs = search needs
 
 array-share-prefix-out-2 : tie.Need-array-share-prefix-out-2
-array-share-prefix-out-2 c = put-within (c .before .put-text .ensures)
+array-share-prefix-out-2 c = whole-within (c .before .put-text .ensures)
 
 slice-aggregate-write-all-2 : tie.Need-slice-aggregate-write-all-2
-slice-aggregate-write-all-2 c = sym (length-take-le (c .before .before .put-text .result) (c .before .before .put-text .last .1 .1 .0) (put-within (c .before .before .put-text .ensures)))
+slice-aggregate-write-all-2 c = sym (length-take-le (c .before .before .put-text .result) (c .before .before .put-text .last .1 .1 .0) (whole-within (c .before .before .put-text .ensures)))
 
 write-all-requires-2 : tie.Need-write-all-requires-2
 write-all-requires-2 c κs = search needs

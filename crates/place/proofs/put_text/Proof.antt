@@ -1,5 +1,7 @@
--- `place::put_text` meets its contract: the text of the answer, from the buffers that `place_alone` leaves.
+-- `place::put_text` meets its contract: the text of the answer, from the buffers that `place_alone` leaves. Their lengths bound the text's.
 use mathlib.Core.Path.{_≡_, sym}
+use native.Mathlib.Omega.{arith}
+use lib.ListN.{length}
 use Rattle.place.proofs.Laws.{answer-fits, answer-text}
 use borrow.Author.Needs.{needs}
 use Rattle.place.proofs.put_text.Statement.{statement}
@@ -42,7 +44,10 @@ same-length c = search needs
 
 returns : tie.Need-returns
 returns c =
-    rw (sym (answer-text _ _ _ _ _ _ _ _ _ _ _ _ _ (c .before .before .before .before .before .before .before .before .before .before .before .place-alone .ensures)), sym (c .before .before .before .before .before .before .count-students .ensures)) (c .before .before .put-answer .ensures)
+    let engine = c .before .before .before .before .before .before .before .before .before .before .before .place-alone in
+    let places : length (engine .last .1 .1 .0) ≡ 512 = engine .kept .1 .1 .0 in
+    let visits : length (engine .last .1 .1 .1 .0) ≡ 8192 = engine .kept .1 .1 .1 .0 in
+    rw (sym (answer-text _ _ _ _ _ _ _ _ _ _ _ _ _ (engine .ensures)), sym (c .before .before .before .before .before .before .count-students .ensures)) (c .before .before .put-answer .ensures .1 (omega arith))
 
 pub put-text-spec : {M : Type 1} → statement M
 put-text-spec =

@@ -1,7 +1,10 @@
 -- `printing::put_answer` meets its contract: each case of the answer puts its lines.
+use Prim.Native.Nat.{_+_, _*_, _≤_}
 use native.Mathlib.Omega.{arith}
+use lib.ListN.{length}
 use Rattle.answers.specs.Report.{textOf}
 use Rattle.printing.proofs.Laws.{put-then, put-within}
+use Rattle.printing.proofs.Lengths.{FirstLine, text-length, put-both}
 use borrow.Author.Needs.{needs}
 use Rattle.printing.proofs.put_answer.Statement.{statement}
 use Rattle.printing.proofs.put_answer.Tie as tie
@@ -30,7 +33,7 @@ put-line2-requires : tie.Need-put-line2-requires
 put-line2-requires c κs = search needs
 
 put-visits-requires-2 : tie.Need-put-visits-requires-2
-put-visits-requires-2 c κs = (put-within (c .before .before .before .put-line2 .ensures), rw (c .before .before .before .before .before .before .before .answer2 .given .1) at (c .before .before .before .before .before .before .before .before .before .before .before .before .pre))
+put-visits-requires-2 c κs = (put-within (c .before .before .before .put-line2 .ensures .0), rw (c .before .before .before .before .before .before .before .answer2 .given .1) at (c .before .before .before .before .before .before .before .before .before .before .before .before .pre))
 
 enum-known-answer-3 : tie.Need-enum-known-answer-3
 enum-known-answer-3 c = search needs
@@ -41,26 +44,43 @@ slice-aggregate-put-line2-2 c = search needs
 put-line2-requires-2 : tie.Need-put-line2-requires-2
 put-line2-requires-2 c κs = search needs
 
+-- the text's length, where the first line is short
+short : (c : tie.After-slice-known) → (let a = c .before .before .before .args in
+    FirstLine (a .answer) → length (textOf (a .answer) (a .n) (a .places .now) (a .visits .now)) ≤ 33 * length (a .places .now) + 9 * length (a .visits .now) + 100)
+short c f =
+    let a = c .before .before .before .args in
+    text-length (a .answer) (a .n) (a .places .now) (a .visits .now) (c .before .before .before .pre) f
+    (λ j. omega (arith, c .before .before .shared-slice-known .given j))
+    (λ j. omega (arith, c .before .shared-slice-known2 .given j))
+    (omega arith)
+    (omega arith)
+
 same-length : tie.Need-same-length
 same-length c = search needs
 
 returns : tie.Need-returns
 unfolding textOf
-returns c = rw (c .before .before .before .before .before .before .before .before .before .answer .given .1) (put-then (omega arith) (c .before .before .before .before .before .before .put-places .ensures) (c .before .before .put-visits .ensures))
+returns c =
+    put-both (rw (c .before .before .before .before .before .before .before .before .before .answer .given .1) (put-then (omega arith) (c .before .before .before .before .before .before .put-places .ensures) (c .before .before .put-visits .ensures)))
+    (short (c .before .before .before .before .before .before .before .before .before .before .before) (rw (c .before .before .before .before .before .before .before .before .before .answer .given .1) tt))
 
 same-length-2 : tie.Need-same-length-2
 same-length-2 c = search needs
 
 returns-2 : tie.Need-returns-2
 unfolding textOf
-returns-2 c = rw (c .before .before .before .before .before .before .before .before .before .before .answer2 .given .1) (put-then (omega arith) (c .before .before .before .before .before .before .put-line2 .ensures) (c .before .before .put-visits2 .ensures))
+returns-2 c =
+    put-both (rw (c .before .before .before .before .before .before .before .before .before .before .answer2 .given .1) (put-then (omega arith) (c .before .before .before .before .before .before .put-line2 .ensures .0) (c .before .before .put-visits2 .ensures)))
+    (short (c .before .before .before .before .before .before .before .before .before .before .before .before) (rw (c .before .before .before .before .before .before .before .before .before .before .answer2 .given .1) (c .before .before .before .before .before .before .put-line2 .ensures .1)))
 
 same-length-3 : tie.Need-same-length-3
 same-length-3 c = search needs
 
 returns-3 : tie.Need-returns-3
 unfolding textOf
-returns-3 c = rw (c .before .before .before .before .before .before .answer3 .given .1) (c .before .before .put-line22 .ensures)
+returns-3 c =
+    put-both (rw (c .before .before .before .before .before .before .answer3 .given .1) (c .before .before .put-line22 .ensures .0))
+    (short (c .before .before .before .before .before .before .before .before) (rw (c .before .before .before .before .before .before .answer3 .given .1) (c .before .before .put-line22 .ensures .1)))
 
 pub put-answer-spec : {M : Type 1} → statement M
 put-answer-spec =

@@ -1,6 +1,8 @@
 -- `printing::put_line2` meets its contract: word, numbers and end of the line, put one after the other.
 use Rattle.printing.proofs.Laws.{put-then, put-within}
 use Rattle.printing.proofs.Decimal.{line-two}
+use native.Mathlib.Omega.{arith}
+use Rattle.printing.proofs.Lengths.{long-line}
 use borrow.Author.Needs.{needs}
 use Rattle.printing.proofs.put_line2.Statement.{statement}
 use Rattle.printing.proofs.put_line2.Tie as tie
@@ -30,7 +32,7 @@ returns c =
     let s = c .before .before .before .before .before .before .before .before .before .before .before .before .before .before .before .before .before .before in
     let first = put-then (s .pre) (c .before .before .before .before .before .before .before .before .before .before .before .before .before .before .put-word .ensures) (c .before .before .before .before .before .before .before .before .before .before .put-number .ensures) in
     let second = put-then (s .pre) first (c .before .before .before .before .before .before .put-number2 .ensures) in
-    rw (line-two (s .args .word .now) (s .args .a) (s .args .b)) at (put-then (s .pre) second (c .before .before .put-byte .ensures))
+    (rw (line-two (s .args .word .now) (s .args .a) (s .args .b)) at (put-then (s .pre) second (c .before .before .put-byte .ensures)), long-line (s .args .word .now) (s .args .a) (s .args .b) (omega arith) (omega arith))
 
 pub put-line2-spec : {M : Type 1} → statement M
 put-line2-spec =

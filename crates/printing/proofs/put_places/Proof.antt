@@ -56,7 +56,7 @@ loop-again c =
     let here = c .before .before .before .before .before .before .before .before .loop in
     let start = c .before .before .before .before .before .before .before .before .before .before .before in
     let l = start .args .places .now in
-    let line : Put (lineOf placeWord ((here .i + 1) ∷ getD l (here .i) 0 ∷ [])) (here .end) (here .out) (c .before .before .put-line2 .last .0) (c .before .before .put-line2 .result) = rw (c .before .before .before .wide .ensures) at (c .before .before .put-line2 .ensures) in
+    let line : Put (lineOf placeWord ((here .i + 1) ∷ getD l (here .i) 0 ∷ [])) (here .end) (here .out) (c .before .before .put-line2 .last .0) (c .before .before .put-line2 .result) = rw (c .before .before .before .wide .ensures) at (c .before .before .put-line2 .ensures .0) in
     (omega arith, rw (add-one (here .i), places-on l 1 (here .i) (omega arith)) (put-then (start .pre .0) (here .inv .1) line))
 
 same-length : tie.Need-same-length Inv-loop μ-loop

@@ -1,5 +1,6 @@
 -- `printing::put_unread` meets its contract: the word, and then the end of the line.
 use Rattle.printing.proofs.Laws.{put-then, put-within}
+use Rattle.printing.proofs.Lengths.{put-whole}
 use native.Mathlib.Omega.{arith}
 use Rattle.format.specs.Printed.{unread, numbers}
 use borrow.Author.Needs.{needs}
@@ -24,7 +25,9 @@ same-length c = search needs
 
 returns : tie.Need-returns
 unfolding unread numbers
-returns c = put-then (omega arith) (c .before .before .before .before .before .before .put-word .ensures) (c .before .before .put-byte .ensures)
+returns c =
+    let p = put-then (omega arith) (c .before .before .before .before .before .before .put-word .ensures) (c .before .before .put-byte .ensures) in
+    (p, put-whole p (omega arith))
 
 pub put-unread-spec : {M : Type 1} → statement M
 put-unread-spec =

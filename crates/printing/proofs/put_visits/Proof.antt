@@ -78,7 +78,7 @@ loop-again c =
     let here = c .before .before .before .before .before .before .before .before .before .before .loop in
     let start = c .before .before .before .before .before .before .before .before .before .before .before .before .before .before .before .before .before .before in
     let l = start .args .visits .now in
-    let line : Put (lineOf visitWord (getD l (2 * here .i) 0 ∷ getD l (2 * here .i + 1) 0 ∷ [])) (here .end) (here .out) (c .before .before .put-line2 .last .0) (c .before .before .put-line2 .result) = rw (c .before .before .before .before .before .wide .ensures, c .before .before .before .wide2 .ensures) at (c .before .before .put-line2 .ensures) in
+    let line : Put (lineOf visitWord (getD l (2 * here .i) 0 ∷ getD l (2 * here .i + 1) 0 ∷ [])) (here .end) (here .out) (c .before .before .put-line2 .last .0) (c .before .before .put-line2 .result) = rw (c .before .before .before .before .before .wide .ensures, c .before .before .before .wide2 .ensures) at (c .before .before .put-line2 .ensures .0) in
     (omega arith, rw (add-one (here .i), visits-on l (here .i)) (put-then (put-within (c .before .before .before .before .before .before .before .before .before .before .before .before .before .put-line1 .ensures)) (here .inv .1) line))
 
 same-length : tie.Need-same-length Inv-loop μ-loop
