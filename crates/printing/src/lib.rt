@@ -143,11 +143,10 @@ pub fn put_answer(answer: Answer, n: usize, places: &[u16], visits: &[u16], out:
     }
 }
 
-// The text where a file cannot be read: 7 bytes.
+// The text where a file cannot be read, whole where `out` has 7 bytes.
 pub fn put_unread(out: &mut [u8]) -> usize
-    requires { ⌜ 7 ≤ length (now out) ⌝ }
     ensures { λ r. ⌜ Put unread 0 (now (out .entry)) (now (out .exit)) r ⌝ }
-    ensures { λ r. ⌜ Whole unread (now (out .exit)) r ⌝ }
+    ensures { λ r. ⌜ (7 ≤ length (now (out .entry)) → Whole unread (now (out .exit)) r) ⌝ }
 {
     let end = put_word(&mut *out, 0, b"unread");
     put_byte(out, end, 10)

@@ -27,7 +27,7 @@ returns : tie.Need-returns
 unfolding unread numbers
 returns c =
     let p = put-then (omega arith) (c .before .before .before .before .before .before .put-word .ensures) (c .before .before .put-byte .ensures) in
-    (p, put-whole p (omega arith))
+    (p, λ l. put-whole p (omega arith))
 
 pub put-unread-spec : {M : Type 1} → statement M
 put-unread-spec =
