@@ -22,7 +22,7 @@ use Rattle.format.proofs.Positions.{places, pair-says, pair-names, stage-at, st
 use Rattle.format.proofs.Causes.{passed}
 use Rattle.format.proofs.Reading.{Passed, entry-found, entry-at, interview-says}
 use Rattle.records.specs.Records.{PairsSorted, pairPlace}
-use Rattle.records.proofs.Laws.{pairs-sorted, pairs-once}
+use Rattle.records.proofs.Laws.{pairs-sorted}
 use Rattle.lookup.specs.Clean.{Clean, StudentAt, WorkshopAt, PairAt, EntryAt, indexAt}
 use Rattle.intake.specs.Checked.{CleanCase, pairCount}
 use Rattle.intake.specs.Index.{fromOne, pairsFrom, lentIndex, indexOf, indexedAs}
@@ -138,7 +138,6 @@ module _ (case book : List ℕ) (c : CleanCase case (marketIn case .students) (m
           outside = workshop-outside-at case (clean case n m c) w a b;
         };
         sorted = pairs-sorted case bytes (clean case n m c);
-        once = pairs-once case (clean case n m c);
         placed = placed case n m c;
         pair = pair-at;
         named = named-at;

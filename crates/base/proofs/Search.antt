@@ -67,8 +67,15 @@ pub record Halved (key : ℕ → ℕ) (n x lo hi : ℕ) : Type 0 where
   pub high : (k : ℕ) → hi ≤ k → k < n → x ≤ key k
 
 module _ (key : ℕ → ℕ) (n x : ℕ) where
-  pub halve-start : Halved key n x 0 n
-  halve-start = record { order = omega arith; bound = omega arith; low = λ k l. absurd (omega arith); high = λ k a b. absurd (omega arith) }
+  -- any two places with this property are in order
+  pub halve-near : (lo hi : ℕ) → lo ≤ n → hi ≤ n → ((k : ℕ) → k < lo → key k < x) → ((k : ℕ) → hi ≤ k → k < n → x ≤ key k) → Halved key n x lo hi
+  halve-near lo hi a b low high =
+      record {
+        order = ⊎-elim (λ (l : hi < lo). absurd (omega (arith, low hi l, high hi (omega arith) (omega arith)))) (λ (l : lo ≤ hi). l) (less? hi lo);
+        bound = b;
+        low = low;
+        high = high;
+      }
 
   module _ (r : NotFalling key n) (lo hi mid : ℕ) (h : Halved key n x lo hi) (a : lo ≤ mid) (b : mid < hi) where
     pub halve-up : key mid < x → Halved key n x (mid + 1) hi

@@ -14,11 +14,10 @@ pub fn place(case: &[u8], rows: usize, students: usize, workshops: usize, s: u16
     requires { ⌜ CleanCase (now case) students workshops ⌝ }
     ensures { λ r. ⌜ r ≡ pairPlace (now (case .entry)) s w ⌝ }
 {
-    let guess = students + s as usize * workshops + w as usize - 1;
     if records::is_known(rows, students, workshops, s as usize, w as usize) {
-        return guess;
+        return students + s as usize * workshops + w as usize - 1;
     }
-    records::find_pair_at(case, rows, guess, s, w)
+    records::find_pair(case, rows, students, workshops, s, w)
 }
 
 // Each book record leaves its number at its pair's place. The first record that has no pair or a bad score, or whose pair has a number already, or how many there are.

@@ -31,7 +31,7 @@ module _ {case book index : List ℕ} {n m : ℕ} (k : Clean case book index n m
   entry-known p e q r = rw (r, q) (k .met s w (b .met))
 
 pub pairs-found : {case book index : List ℕ} {n m : ℕ} → Clean case book index n m → PairsFound case n m
-pairs-found k = record { manyStudents = k .manyStudents; manyWorkshops = k .manyWorkshops; sorted = k .sorted; once = k .once; placed = k .placed }
+pairs-found k = record { manyStudents = k .manyStudents; manyWorkshops = k .manyWorkshops; sorted = k .sorted; placed = k .placed }
 
 -- a pair's interview is held where the index has an entry for it
 module _ {case book index : List ℕ} {n m : ℕ} (k : Clean case book index n m) (s w : ℕ) (b : marketIn case .paired s w ≡ true) (p e : ℕ) (q : p ≡ pairPlace case s w) (r : e ≡ getD index (p - (n + m)) 0) where

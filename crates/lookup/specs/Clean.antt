@@ -7,7 +7,7 @@ use lib.ListN.{length, getD}
 use Rattle.lgs.specs.Market.{studentOutside, workshopOutside}
 use Rattle.format.specs.Layout.{rowAt, rowCount, entryAt, entryCount}
 use Rattle.format.specs.Engine.{marketIn, resultsIn}
-use Rattle.records.specs.Records.{PairsSorted, PairsOnce, PairsPlaced, pairPlace}
+use Rattle.records.specs.Records.{PairsSorted, PairsPlaced, pairPlace}
 
 -- record s - 1 is that of student s
 pub record StudentAt (case : List ℕ) (s : ℕ) : Type 0 where
@@ -34,7 +34,6 @@ pub record PairsFound (case : List ℕ) (n m : ℕ) : Type 0 where
   pub manyStudents : n ≤ 512
   pub manyWorkshops : m ≤ 64
   pub sorted : PairsSorted case
-  pub once : PairsOnce case
   pub placed : PairsPlaced case n m
 
 -- what the index has for the pair: the number of its book record plus 1, or 0; with n students and m workshops, entry 0 is that of record n + m
@@ -56,7 +55,6 @@ pub record Clean (case book index : List ℕ) (n m : ℕ) : Type 0 where
   pub student : (s : ℕ) → 1 ≤ s → s ≤ n → StudentAt case s
   pub workshop : (w : ℕ) → 1 ≤ w → w ≤ m → WorkshopAt case n w
   pub sorted : PairsSorted case
-  pub once : PairsOnce case
   pub placed : PairsPlaced case n m
   pub pair : (s w : ℕ) → marketIn case .paired s w ≡ true → PairAt case s w
   pub named : (s w : ℕ) → marketIn case .paired s w ≡ true → ((1 ≤ s) × (s ≤ n)) × ((1 ≤ w) × (w ≤ m))

@@ -48,12 +48,11 @@ pub fn pair_of(case: &[u8], students: usize, workshops: usize, s: usize, w: usiz
     requires { ⌜ PairsFound (now case) students workshops ⌝ }
     ensures { λ r. ⌜ r ≡ pairPlace (now (case .entry)) s w ⌝ }
 {
-    let guess = students + s * workshops + w - 1;
     let rows = records::row_count(case.len());
     if records::is_known(rows, students, workshops, s, w) {
-        return guess;
+        return students + s * workshops + w - 1;
     }
-    records::find_pair_at(case, rows, guess, s as u16, w as u16)
+    records::find_pair(case, rows, students, workshops, s as u16, w as u16)
 }
 
 // The student's tier for the workshop, from the pair's record.

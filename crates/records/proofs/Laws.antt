@@ -23,7 +23,7 @@ use Rattle.base.proofs.Signed.{code-less, code-zero}
 use Rattle.format.specs.Layout.{Row, rowAt, rows, rowCount, isPair}
 use Rattle.format.specs.Refusals.{badScore}
 use Rattle.format.proofs.Positions.{Clean, Before, kind-rises, kind-within, pair-rises, pair-only}
-use Rattle.records.specs.Records.{pairKey, PairsSorted, PairsOnce, pairPlace}
+use Rattle.records.specs.Records.{pairKey, PairsSorted, pairPlace}
 
 -- -1000 to 1000 and not 0
 module _ (a : ℤ) (f : SFits w16 a) where
@@ -85,12 +85,12 @@ unfolding rows
 pair-any case s w = any-below (rowAt case) (isPair s w) (rowCount case) ∙ end-any (λ i. isPair s w (rowAt case i)) (rowCount case)
 
 -- the record of a pair is the one that the search finds
-pub found-at : (case : List ℕ) → PairsOnce case → (s w g : ℕ) → g < rowCount case → isPair s w (rowAt case g) ≡ true → g ≡ pairPlace case s w
-found-at case o s w g l p =
+pub found-at : (case : List ℕ) → Clean case (rowCount case) → (s w g : ℕ) → g < rowCount case → isPair s w (rowAt case g) ≡ true → g ≡ pairPlace case s w
+found-at case c s w g l p =
     sym
     (rw
     (scan-found (λ i. isPair s w (rowAt case i)) g (rowCount case)
-    (scan-none (λ i. isPair s w (rowAt case i)) g (λ k m. is-false (isPair s w (rowAt case k)) (λ t. omega (arith, o .once s w k g (omega arith) l t p))))
+    (scan-none (λ i. isPair s w (rowAt case i)) g (λ k m. is-false (isPair s w (rowAt case k)) (λ t. omega (arith, pair-only case c s w k g (omega arith) l t p))))
     p l))
 
 -- the keys of the case's records
@@ -107,14 +107,6 @@ module _ (case : List ℕ) (s w x : ℕ) (f : (k : ℕ) → getD case k 0 < 256)
 
     pub missing : PairsSorted case → hi ≤ lo → (lo < rowCount case → keysOf case lo ≡ x → ⊥) → rowCount case ≡ pairPlace case s w
     missing r a q = sym (rw (by-key, halve-none (keysOf case) (rowCount case) x r lo hi h a q))
-
-  -- a record with the pair's key is the one that the search finds
-  pub guessed : PairsOnce case → (g : ℕ) → g < rowCount case → keysOf case g ≡ x → g ≡ pairPlace case s w
-  guessed o g l q = found-at case o s w g l (pair-by-key (rowAt case g) s w (second-fits case f g) b ∙ eq-eqb (keysOf case g) (s * 65536 + w + 1) (q ∙ e))
-
--- the pairs of a case that passes causes 2 and 3 have one record each
-pub pairs-once : (case : List ℕ) → Clean case (rowCount case) → PairsOnce case
-pairs-once case c = record { once = λ s w i j a d p q. pair-only case c s w i j a d p q }
 
 -- the records of a case that passes causes 2 and 3 stand in the order of their keys
 pub pairs-sorted : (case : List ℕ) → ((k : ℕ) → getD case k 0 < 256) → Clean case (rowCount case) → PairsSorted case

@@ -15,7 +15,7 @@ use Rattle.format.specs.Layout.{Row, rowAt, rowCount, isPair}
 use Rattle.format.specs.Engine.{marketIn}
 use Rattle.format.proofs.Positions.{Clean, people, pairCount, places, pair-names, pairs-rise}
 use Rattle.records.specs.Records.{isKnown, PairsPlaced, pairPlace}
-use Rattle.records.proofs.Laws.{found-at, pairs-once}
+use Rattle.records.proofs.Laws.{found-at}
 
 module _ (case : List ℕ) (c : Clean case (rowCount case)) where
   abbrev n : ℕ
@@ -68,7 +68,7 @@ module _ (case : List ℕ) (c : Clean case (rowCount case)) where
         let kind : row j .kind ≡ 3 = places case c .pair (n + m + j) (omega arith) (inside j l) in
         let first : row j .first ≡ s = omega (arith, a, e .0) in
         let second : row j .second ≡ w = omega (arith, a, e .1) in
-        sym (found-at case (pairs-once case c) s w (n + m + j) (inside j l) (and-make (eq-eqb _ _ kind) (and-make (eq-eqb _ _ first) (eq-eqb _ _ second))))
+        sym (found-at case c s w (n + m + j) (inside j l) (and-make (eq-eqb _ _ kind) (and-make (eq-eqb _ _ first) (eq-eqb _ _ second))))
 
   pub pairs-placed : PairsPlaced case n m
   pairs-placed =

@@ -42,10 +42,6 @@ pairKey r = cond (eqb (r .kind) 3) (suc (r .first * 65536 + r .second)) 0
 abbrev pub PairsSorted : List ℕ → Type 0
 PairsSorted case = NotFalling (λ i. pairKey (rowAt case i)) (rowCount case)
 
--- no pair has two records: so it is where causes 2 and 3 find nothing
-pub record PairsOnce (case : List ℕ) : Type 0 where
-  pub once : (s w i j : ℕ) → i < rowCount case → j < rowCount case → isPair s w (rowAt case i) ≡ true → isPair s w (rowAt case j) ≡ true → i ≡ j
-
 -- the place of the pair's record, or how many records there are
 abbrev pub pairPlace : List ℕ → ℕ → ℕ → ℕ
 pairPlace case s w = orEnd (rowCount case) (firstBad (λ i. isPair s w (rowAt case i)) (rowCount case))

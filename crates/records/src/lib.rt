@@ -1,13 +1,13 @@
 // Fields, records and scores of the case and the book, read from their bytes, and the lookup of a pair's record.
 ghost use mathlib.Core.Path.{_≡_};
 ghost use mathlib.Core.Bool.{not};
-ghost use Prim.Native.Nat.{_+_, _*_, _/_, _%_, _≤_, _<_};
+ghost use Prim.Native.Nat.{ℕ, _+_, _*_, _/_, _%_, _^_, _≤_, _<_};
 ghost use lib.ListN.{length};
 ghost use lib.Dec.{ltb};
 ghost use Rattle.base.specs.Words.{word, signed, biased};
 ghost use Rattle.format.specs.Layout.{rowAt, entryAt, rowCount, entryCount, outsideScore};
 ghost use Rattle.format.specs.Refusals.{badScore};
-ghost use Rattle.records.specs.Records.{rowOf, entryOf, pairKey, PairsSorted, PairsOnce, pairPlace, isKnown};
+ghost use Rattle.records.specs.Records.{rowOf, entryOf, pairKey, PairsSorted, pairPlace, isKnown};
 
 // A record of the case, as the layout has it: `rest` is the sum of the three fields from byte 10.
 pub struct Row {
@@ -193,15 +193,78 @@ fn key_at(case: &[u8], i: usize) -> u64
     }
 }
 
-// The number of the pair's record, or `rows` where there is none: by halving, what a search from the front finds.
-fn find_pair(case: &[u8], rows: usize, s: u16, w: u16) -> usize
+// Not far behind where the pair's record stands if the missing pairs are spread evenly. Any number would do.
+fn likely(rows: usize, students: usize, workshops: usize, s: usize, w: usize) -> usize
+    requires { ⌜ (students ≤ 512) × (workshops ≤ 64) × (s < 65536) × (w < 65536) ⌝ }
+    ensures { λ r. ⌜ r ≤ 2 ^ 48 ⌝ }
+{
+    let all = students * workshops;
+    let from = students + workshops;
+    if rows < from {
+        return 0;
+    }
+    if 65535 < rows {
+        return 0;
+    }
+    if all < 1 {
+        return 0;
+    }
+    from + (rows - from) * (s * workshops + w) / all
+}
+
+// A record before which all keys are below x: 192 before the guess, or the first.
+fn low_near(case: &[u8], rows: usize, guess: usize, x: u64) -> usize
     requires { ⌜ rows ≡ rowCount (now case) ⌝ }
     requires { ⌜ PairsSorted (now case) ⌝ }
+    ensures { λ r. ⌜ (r ≤ rowCount (now (case .entry))) × ((k : ℕ) → k < r → pairKey (rowAt (now (case .entry)) k) < x) ⌝ }
+{
+    if guess < 192 {
+        return 0;
+    }
+    if rows <= guess {
+        return 0;
+    }
+    if key_at(case, guess - 192) < x {
+        return guess - 191;
+    }
+    0
+}
+
+// A record from which on no key is below x: 64 after the guess, or the end.
+fn high_near(case: &[u8], rows: usize, guess: usize, x: u64) -> usize
+    requires { ⌜ rows ≡ rowCount (now case) ⌝ }
+    requires { ⌜ PairsSorted (now case) ⌝ }
+    requires { ⌜ guess ≤ 2 ^ 48 ⌝ }
+    ensures { λ r. ⌜ (r ≤ rowCount (now (case .entry))) × ((k : ℕ) → r ≤ k → k < rowCount (now (case .entry)) → x ≤ pairKey (rowAt (now (case .entry)) k)) ⌝ }
+{
+    let end = guess + 64;
+    if rows <= end {
+        return rows;
+    }
+    if key_at(case, end) < x {
+        return rows;
+    }
+    end
+}
+
+// The number of the pair's record, or `rows` where there is none: by halving, what a search from the front finds.
+pub fn find_pair(
+    case: &[u8],
+    rows: usize,
+    students: usize,
+    workshops: usize,
+    s: u16,
+    w: u16,
+) -> usize
+    requires { ⌜ rows ≡ rowCount (now case) ⌝ }
+    requires { ⌜ PairsSorted (now case) ⌝ }
+    requires { ⌜ (students ≤ 512) × (workshops ≤ 64) ⌝ }
     ensures { λ r. ⌜ r ≡ pairPlace (now (case .entry)) s w ⌝ }
 {
     let x = key_of(s, w);
-    let mut lo = 0;
-    let mut hi = rows;
+    let guess = likely(rows, students, workshops, s as usize, w as usize);
+    let mut lo = low_near(case, rows, guess, x);
+    let mut hi = high_near(case, rows, guess, x);
     while lo < hi {
         let mid = lo + (hi - lo) / 2;
         if key_at(case, mid) < x {
@@ -216,21 +279,6 @@ fn find_pair(case: &[u8], rows: usize, s: u16, w: u16) -> usize
         }
     }
     rows
-}
-
-// Record `guess` where it is the pair's, and else what the lookup finds.
-pub fn find_pair_at(case: &[u8], rows: usize, guess: usize, s: u16, w: u16) -> usize
-    requires { ⌜ rows ≡ rowCount (now case) ⌝ }
-    requires { ⌜ PairsSorted (now case) ⌝ }
-    requires { ⌜ PairsOnce (now case) ⌝ }
-    ensures { λ r. ⌜ r ≡ pairPlace (now (case .entry)) s w ⌝ }
-{
-    if guess < rows {
-        if key_at(case, guess) == key_of(s, w) {
-            return guess;
-        }
-    }
-    find_pair(case, rows, s, w)
 }
 
 // Among `rows` records all pairs of the students and workshops have one, and s and w are among these.

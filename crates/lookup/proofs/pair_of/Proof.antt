@@ -1,4 +1,4 @@
--- `lookup::pair_of` meets its contract. The guess fits; it is the pair's place where all pairs have a record, and whatever it is, the place is found.
+-- `lookup::pair_of` meets its contract: the place is known where all pairs have a record, and else it is found.
 use mathlib.Core.Path.{_∙_, sym}
 use native.Mathlib.Omega.{arith}
 use native.Mathlib.Nat.{mul-le-mul-left}
@@ -6,23 +6,23 @@ use borrow.Author.Needs.{needs}
 use Rattle.lookup.proofs.pair_of.Statement.{statement}
 use Rattle.lookup.proofs.pair_of.Tie as tie
 
-mul-guess : tie.Need-mul-guess
-mul-guess c = let start = c .before in let h = mul-le-mul-left (start .args .s) (start .pre .1 .manyWorkshops) in omega (arith, start .pre .1)
-
-add-guess : tie.Need-add-guess
-add-guess c = let start = c .before in let h = mul-le-mul-left (start .args .s) (start .pre .1 .manyWorkshops) in omega (arith, start .pre .1)
-
-add-guess-2 : tie.Need-add-guess-2
-add-guess-2 c = let start = c .before in let h = mul-le-mul-left (start .args .s) (start .pre .1 .manyWorkshops) in omega (arith, start .pre .1)
-
-sub-guess : tie.Need-sub-guess
-sub-guess c = search needs
-
 row-count-requires : tie.Need-row-count-requires
 row-count-requires c κs = search needs
 
 is-known-requires : tie.Need-is-known-requires
 is-known-requires c κs = search needs
+
+mul-result : tie.Need-mul-result
+mul-result c = let start = c .before .before .before .before in let h = mul-le-mul-left (start .args .s) (start .pre .1 .manyWorkshops) in omega (arith, start .pre .1)
+
+add-result : tie.Need-add-result
+add-result c = let start = c .before .before .before .before in let h = mul-le-mul-left (start .args .s) (start .pre .1 .manyWorkshops) in omega (arith, start .pre .1)
+
+add-result-2 : tie.Need-add-result-2
+add-result-2 c = let start = c .before .before .before .before in let h = mul-le-mul-left (start .args .s) (start .pre .1 .manyWorkshops) in omega (arith, start .pre .1)
+
+sub-result : tie.Need-sub-result
+sub-result c = search needs
 
 returns : tie.Need-returns
 returns c =
@@ -31,14 +31,14 @@ returns c =
     let known = rw (c .before .before .row-count .ensures) at (sym k ∙ c .if1 .taken) in
     sym (start .pre .1 .placed .placed (start .args .s) (start .args .w) known)
 
-cast-find-pair-at : tie.Need-cast-find-pair-at
-cast-find-pair-at c = search needs
+cast-find-pair : tie.Need-cast-find-pair
+cast-find-pair c = search needs
 
-cast-find-pair-at-2 : tie.Need-cast-find-pair-at-2
-cast-find-pair-at-2 c = search needs
+cast-find-pair-2 : tie.Need-cast-find-pair-2
+cast-find-pair-2 c = search needs
 
-find-pair-at-requires : tie.Need-find-pair-at-requires
-find-pair-at-requires c κs = search needs
+find-pair-requires : tie.Need-find-pair-requires
+find-pair-requires c κs = search needs
 
 returns-2 : tie.Need-returns-2
 returns-2 c = search needs
@@ -47,14 +47,14 @@ pub pair-of-spec : {M : Type 1} → statement M
 pair-of-spec =
     tie.close
     (tie.spec
-    mul-guess
-    add-guess
-    add-guess-2
-    sub-guess
     row-count-requires
     is-known-requires
+    mul-result
+    add-result
+    add-result-2
+    sub-result
     returns
-    cast-find-pair-at
-    cast-find-pair-at-2
-    find-pair-at-requires
+    cast-find-pair
+    cast-find-pair-2
+    find-pair-requires
     returns-2)
