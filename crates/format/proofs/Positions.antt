@@ -9,29 +9,26 @@
 --   pair-from           a pair stands at n + m or after; pair-names: it names a student and a workshop of the market
 --   pairs-rise          of two pairs the first is lower, by student and then workshop; pair-only: no pair has two records
 --   pair-found          the record of a pair is the one that names it, wherever it was found; student-tier-at, workshop-tier-at: its tiers stand there
---   pair-there, pair-missing   the market has the pair, or has it not
---   keys-rise           the keys student * base + workshop rise (for a search by halving); key-is: to have the key is to be the pair's record
---   search-found, search-none  what a search by key says of the pair
+--   pair-there          the market has the pair
 -- Of the first i records, if these pass (a scan for cause 3 has come to record i):
 --   student-known, workshop-known   a student (workshop) with this number stands before i exactly if the number is from 1 to how many do
 --   names-at            so "names nobody" is a test on two counts; falls-at, number-at, rising-at are the other tests of cause 3
 -- and what these say of a record that passes: kind-within, kind-rises, numbered, pair-rises; row-at, kinds-before go from lists to numbers.
-use Prim.Native.Nat.{ℕ, zero, suc, _+_, _-_, _*_, _≤_, _<_}
+use Prim.Native.Nat.{ℕ, zero, suc, _+_, _-_, _≤_, _<_}
 use mathlib.Core.Path.{_≡_, sym, ap, _∙_}
 use mathlib.Core.Logic.{inl, inr, ⊎-elim}
 use mathlib.Core.Bool.{true, false, not, _&&_, _||_, Bool·not-not as not-not}
-use mathlib.Core.Option.{some, none}
+use mathlib.Core.Option.{none}
 use mathlib.Core.List.{List}
 use native.Mathlib.Omega.{arith}
 use lib.Dec.{eqb}
 use lib.ListN.{take}
-use borrow.Author.Tests.{eqb-true, eq-eqb, ne-eqb}
+use borrow.Author.Tests.{eqb-true, eq-eqb}
 use Rattle.base.specs.Lists.{one, any, tally, find}
-use Rattle.base.specs.Search.{firstBad, Rising}
+use Rattle.base.specs.Search.{firstBad}
 use Rattle.base.proofs.Tests.{bool-cases, never, and-left, and-right, and-make, or-false, is-false, less?}
 use Rattle.base.proofs.Below.{tally-below, any-before, any-found, any-none, any-at, find-first, find-at, count-grows}
-use Rattle.base.proofs.Keys.{key-less, key-apart}
-use Rattle.base.proofs.Search.{first-below, first-passes, none-fails}
+use Rattle.base.proofs.Search.{none-fails}
 use Rattle.format.specs.Layout.{Row, rowAt, rowCount, rows, noRow, ofKind, isStudent, isWorkshop, isPair, marketOf}
 use Rattle.format.specs.Refusals.{notWithin, badForm, namesNobody, badOrder}
 use Rattle.format.specs.Engine.{marketIn}
@@ -177,10 +174,6 @@ people case = marketIn case .students + marketIn case .workshops
 
 abbrev pub pairCount : List ℕ → ℕ
 pairCount case = tally (ofKind 3) (rows case)
-
--- the key of pair record j
-abbrev pub keyAt : List ℕ → ℕ → ℕ → ℕ
-keyAt case base j = let r = rowAt case (people case + j) in r .first * base + r .second
 
 -- record i is the one found for the pair
 pub record PairAt (case : List ℕ) (s w i : ℕ) : Type 0 where
@@ -331,60 +324,3 @@ module _ (case : List ℕ) where
     unfolding marketOf
     workshop-tier-at zero w i l e = absurd (omega (arith, pair-says 0 w (rowAt case i) e .1, pair-names i l (pair-says 0 w (rowAt case i) e .0) .0 .0))
     workshop-tier-at (suc s) w i l e = ap (λ r. r .fourth) (pair-found (suc s) w i l e)
-
-    -- no record after the people is the pair's: there is none
-    pub pair-missing : (s w : ℕ)
-        → ((j : ℕ) → j < pairCount case → isPair s w (rowAt case (people case + j)) ≡ false)
-        → marketIn case .paired s w ≡ false
-    pair-missing s w f =
-        is-false (marketIn case .paired s w)
-        (λ b.
-        let r : (i : ℕ) × PairAt case s w i = pair-record s w b in
-        let l : people case ≤ r .0 = pair-from (r .0) (r .1 .inside) (pair-says s w (rowAt case (r .0)) (r .1 .pair) .0) in
-        let e : people case + (r .0 - people case) ≡ r .0 = omega arith in
-        never (r .1 .pair) (rw e at (f (r .0 - people case) (omega (arith, r .1 .inside, places .whole)))))
-
-    -- ---- a key for a search by halving; any base above the number of workshops will do
-    module _ (base : ℕ) (large : marketIn case .workshops < base) where
-      pub keys-rise : Rising (keyAt case base) (pairCount case)
-      keys-rise = record { step = rises }
-        where
-          rises : (j : ℕ) → suc j < pairCount case → keyAt case base j < keyAt case base (suc j)
-          rises j l =
-              let at = people case + j in
-              let u : at < rowCount case = omega (arith, places .whole) in
-              ⊎-elim
-              (λ less. key-less base _ _ _ _ (omega (arith, pair-names at u (places .pair at (omega arith) u) .1 .1)) less)
-              (λ same. omega (arith, ap (λ x. x * base) (same .0), same .1))
-              (pairs-rise at (people case + suc j) (omega arith) (omega arith) (omega (arith, places .whole)))
-
-      -- the test on the key is the test for the pair
-      pub key-is : (s w j : ℕ) → w < base → j < pairCount case
-          → eqb (keyAt case base j) (s * base + w) ≡ isPair s w (rowAt case (people case + j))
-      key-is s w j l u =
-          let at = people case + j in
-          let v : at < rowCount case = omega (arith, places .whole) in
-          let kind : rowAt case at .kind ≡ 3 = places .pair at (omega arith) v in
-          ⊎-elim
-          (λ (q : isPair s w (rowAt case at) ≡ true).
-          let r : (rowAt case at .kind ≡ 3) × (rowAt case at .first ≡ s) × (rowAt case at .second ≡ w) = pair-says s w (rowAt case at) q in
-          rw q (eq-eqb _ _ (ap (λ x. x * base + rowAt case at .second) (r .1) ∙ ap (λ x. s * base + x) (r .2))))
-          (λ (q : isPair s w (rowAt case at) ≡ false).
-          rw q
-          (ne-eqb (keyAt case base j) (s * base + w)
-          (λ e.
-          let r : (rowAt case at .first ≡ s) × (rowAt case at .second ≡ w) =
-          key-apart base (rowAt case at .first) (rowAt case at .second) s w (omega (arith, pair-names at v kind .1 .1)) l e in
-          never (and-make (eq-eqb _ _ kind) (and-make (eq-eqb _ _ (r .0)) (eq-eqb _ _ (r .1)))) q)))
-          (bool-cases (isPair s w (rowAt case at)))
-
-      -- what a search by key says of the pair
-      module _ (s w : ℕ) (small : w < base) where
-        pub search-found : (j : ℕ) → firstBad (λ k. eqb (keyAt case base k) (s * base + w)) (pairCount case) ≡ some j
-            → (people case + j < rowCount case) × (isPair s w (rowAt case (people case + j)) ≡ true)
-        search-found j e =
-            let l : j < pairCount case = first-below _ (pairCount case) j e in
-            (omega (arith, places .whole), sym (key-is s w j small l) ∙ first-passes _ (pairCount case) j e)
-
-        pub search-none : firstBad (λ k. eqb (keyAt case base k) (s * base + w)) (pairCount case) ≡ none → marketIn case .paired s w ≡ false
-        search-none e = pair-missing s w (λ j l. sym (key-is s w j small l) ∙ none-fails _ (pairCount case) e j l)
