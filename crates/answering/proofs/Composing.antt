@@ -19,28 +19,28 @@ use Rattle.lgs.specs.Rule.{Interview, stopped, finished, fuel, lazyGaleShapley}
 use Rattle.lgs.specs.Promises.{pairsIn}
 use Rattle.format.specs.Layout.{rows, ofKind, marketOf}
 use Rattle.format.specs.Refusals.{Room, refusal, needed, badRoom}
-use Rattle.format.specs.Engine.{Answer, placed, next, refused, answerOf, answerUnless, engine, marketIn, resultsIn}
+use Rattle.format.specs.Engine.{placed, next, refused, engine, marketIn, resultsIn, Outcome, outcomeOf, outcomeUnless}
 use Rattle.format.specs.Buffers.{flat, withHead, placesAfter, visitsAfter, scratchAfter}
 use Rattle.format.specs.Promises.{Valid, Refused, Cause, caseLength, form, order, counts, range, short, bookLength, pair, score, repeated, tie}
 use Rattle.format.proofs.Causes.{refusal-none, refusal-some}
 use Rattle.format.proofs.Runs.{wf, distinct, engine-valid}
 use Rattle.format.proofs.PairCount.{pairs-within}
 use Rattle.format.proofs.Promises.{promised}
-use Rattle.model.specs.declared.StudentState.{StudentState}
+use Rattle.api.specs.declared.StudentState.{StudentState}
 use Rattle.model.specs.declared.Run.{Run}
 use Rattle.model.specs.Store.{part, seatsFrom}
-use Rattle.model.specs.Turn.{zeroState, beginRun, runOf}
+use Rattle.model.specs.Turn.{beginRun, runOf}
+use Rattle.api.specs.Answered.{zeroState, roomOf, lent, Answered}
 use Rattle.model.specs.Ready.{Ready}
 use Rattle.model.proofs.Shows.{Lacking, Stand}
 use Rattle.model.proofs.Running.{stands, Ends, stops, finishes, Finished, ends-hand, run-ready, run-is-rule}
 use Rattle.lookup.specs.Clean.{Clean}
-use Rattle.answers.specs.declared.Answer.{Answer as Brief}
-use Rattle.answers.specs.Report.{reportOf}
+use Rattle.api.specs.declared.Answer.{Answer as Brief}
+use Rattle.api.specs.Answers.{answerFor}
 use Rattle.answering.specs.declared.Prepared.{Prepared}
 use Rattle.answering.specs.Places.{fromSeats, noPlaces}
 use Rattle.answering.specs.Finish.{Seated, Over, placesEnd, answerEnd}
-use Rattle.answering.specs.Steps.{roomOf, StepReady, Halted, Started, Found, Prepares}
-use Rattle.answering.specs.Answered.{lent, Answered}
+use Rattle.answering.specs.Steps.{StepReady, Halted, Started, Found, Prepares}
 use Rattle.answering.proofs.Laws.{part-short}
 use Rattle.answering.proofs.Matching.{places-matching}
 use Rattle.answering.proofs.Cleaning.{Enough, enough}
@@ -97,7 +97,7 @@ module _ (case book places visits seats index : List ℕ) (states : List Student
     idle (suc j) = rw (eq-eqb (p .run .hand) 0 (halted .hand))
 
     is-refused : engine case book room ≡ refused k i
-    unfolding engine answerUnless
+    unfolding engine outcomeUnless
     is-refused = rw e
 
   -- ---- no refusal: the run is the staged rule
@@ -195,13 +195,13 @@ module _ (case book places visits seats index : List ℕ) (states : List Student
         by-refusal none e = by-end e (left e)
 
     -- the answer, the places and the visits are those of a
-    record Outcome (a : Answer) : Type 0 where
-      answer : answerEnd p r ≡ reportOf a
+    record Left (a : Outcome) : Type 0 where
+      answer : answerEnd p r ≡ answerFor a
       inPlaces : placesEnd case seats₂ places p r ≡ placesAfter a places
       inVisits : visits₂ ≡ visitsAfter a visits
 
-    when-refused : (k i : ℕ) → refusal case book room ≡ some (k, i) → Outcome (refused k i)
-    unfolding answerEnd placesEnd reportOf placesAfter visitsAfter
+    when-refused : (k i : ℕ) → refusal case book room ≡ some (k, i) → Left (refused k i)
+    unfolding answerEnd placesEnd answerFor placesAfter visitsAfter
     when-refused k i e =
         let h : Halted k i p = halted k i e in
         let z : eqb (p .cause) 0 ≡ false = ne-eqb (p .cause) 0 (λ q. omega (arith, h .cause, refused-above k i e)) in
@@ -211,15 +211,15 @@ module _ (case book places visits seats index : List ℕ) (states : List Student
       going : eqb (p .cause) 0 ≡ true
       going = eq-eqb (p .cause) 0 (started e .cause)
 
-      when-stopped : (s w : ℕ) (vs : List Interview) → Lacking M visits s w vs (record { visits = visits₂; seats = seats₂; states = states₂; run = r }) → Outcome (next s w vs)
-      unfolding answerEnd placesEnd reportOf placesAfter visitsAfter
+      when-stopped : (s w : ℕ) (vs : List Interview) → Lacking M visits s w vs (record { visits = visits₂; seats = seats₂; states = states₂; run = r }) → Left (next s w vs)
+      unfolding answerEnd placesEnd answerFor placesAfter visitsAfter
       when-stopped s w vs l =
           let y : eqb (r .workshop) 0 ≡ false = ne-eqb (r .workshop) 0 (λ q. omega (arith, l .workshop, l .real)) in
           record { answer = rw (going, y, l .student, l .workshop, l .count); inPlaces = rw (going, y); inVisits = l .visits }
 
       when-finished : (q : ℕ → ℕ) (vs : List Interview) → Finished M B visits q vs (record { visits = visits₂; seats = seats₂; states = states₂; run = r })
-          → Outcome (placed (map q (upto (M .students))) vs)
-      unfolding answerEnd placesEnd reportOf placesAfter visitsAfter
+          → Left (placed (map q (upto (M .students))) vs)
+      unfolding answerEnd placesEnd answerFor placesAfter visitsAfter
       when-finished q vs f =
           let y : eqb (r .workshop) 0 ≡ true = eq-eqb (r .workshop) 0 (f .workshop) in
           let c : Clean case book index₁ (p .students) (p .workshops) = started e .clean in
@@ -231,18 +231,18 @@ module _ (case book places visits seats index : List ℕ) (states : List Student
             inVisits = f .visits;
           }
 
-      by-end : Ends M B visits (record { visits = visits₂; seats = seats₂; states = states₂; run = r }) → Outcome (engine case book room)
-      unfolding answerOf
+      by-end : Ends M B visits (record { visits = visits₂; seats = seats₂; states = states₂; run = r }) → Left (engine case book room)
+      unfolding outcomeOf
       by-end (stops s w vs rule l) =
-          subst Outcome (sym (engine-valid case book room (valid e) ∙ ap (answerOf (M .students)) rule)) (when-stopped s w vs l)
+          subst Left (sym (engine-valid case book room (valid e) ∙ ap (outcomeOf (M .students)) rule)) (when-stopped s w vs l)
       by-end (finishes q vs rule f) =
-          subst Outcome (sym (engine-valid case book room (valid e) ∙ ap (answerOf (M .students)) rule)) (when-finished q vs f)
+          subst Left (sym (engine-valid case book room (valid e) ∙ ap (outcomeOf (M .students)) rule)) (when-finished q vs f)
 
-    outcome : Outcome (engine case book room)
+    outcome : Left (engine case book room)
     outcome = by-refusal (refusal case book room) refl
       where
-        by-refusal : (o : Option (ℕ × ℕ)) → refusal case book room ≡ o → Outcome (engine case book room)
-        by-refusal (some (k, i)) e = subst Outcome (sym (is-refused k i e)) (when-refused k i e)
+        by-refusal : (o : Option (ℕ × ℕ)) → refusal case book room ≡ o → Left (engine case book room)
+        by-refusal (some (k, i)) e = subst Left (sym (is-refused k i e)) (when-refused k i e)
         by-refusal none e = by-end e (left e)
 
     pub answered : (a : Brief) (seats₃ index₃ places₃ : List ℕ)

@@ -10,8 +10,8 @@ use Rattle.format.specs.Engine.{marketIn}
 use Rattle.model.specs.declared.Run.{Run}
 use Rattle.model.specs.Store.{part}
 use Rattle.lookup.specs.Clean.{WorkshopAt}
-use Rattle.answers.specs.declared.Answer.{Answer}
-use Rattle.answers.specs.declared.Answer.the-variants.{Placed, Next, Refused}
+use Rattle.api.specs.declared.Answer.{Answer}
+use Rattle.api.specs.declared.Answer.the-variants.{Placed, Next, Refused}
 use Rattle.answering.specs.declared.Prepared.{Prepared}
 use Rattle.answering.specs.Places.{fromSeats, noPlaces}
 

@@ -6,17 +6,13 @@ use mathlib.Core.Option.{Option, some, none}
 use lib.ListN.{length, replicate}
 use Rattle.format.specs.Refusals.{Room, refusal}
 use Rattle.format.specs.Engine.{marketIn, resultsIn}
-use Rattle.model.specs.declared.StudentState.{StudentState}
+use Rattle.api.specs.declared.StudentState.{StudentState}
+use Rattle.api.specs.Answered.{roomOf}
 use Rattle.model.specs.declared.Run.{Run}
 use Rattle.model.specs.Turn.{beginRun}
 use Rattle.model.specs.Ready.{Ready}
 use Rattle.lookup.specs.Clean.{Clean}
 use Rattle.answering.specs.declared.Prepared.{Prepared}
-
--- the lengths of the lent buffers
-abbrev pub roomOf : ℕ → ℕ → ℕ → ℕ → ℕ → Room
-roomOf places visits seats index states =
-    record { places = places; visits = visits; seats = seats; index = index; states = states }
 
 -- a turn can be taken
 pub record StepReady (case book index visits seats : List ℕ) (k : StudentState) (r : Run) (students workshops : ℕ) : Type 0 where

@@ -6,13 +6,14 @@ ghost use Rattle.format.specs.Engine.{marketIn, resultsIn};
 ghost use Rattle.answering.specs.Places.{placeAll, fromSeats, noPlaces};
 ghost use Rattle.answering.specs.Finish.{Seated, Over, placesEnd, answerEnd};
 ghost use Rattle.answering.specs.Steps.{StepReady, Prepares};
-ghost use Rattle.answering.specs.Numbers.{numbersOf};
+ghost use Rattle.api.specs.Answers.{reportOf};
 ghost use Rattle.model.specs.Turn.{turnOf};
-use answers::Answer;
+use api::Answer;
+use api::Report;
+use api::StudentState;
 use intake::Checked;
 use intake::Room;
 use model::Run;
-use model::StudentState;
 use model::Turned;
 
 // What testing the input has found: the refusal's cause and record, or cause 0 with the run's beginning and the counts.
@@ -22,15 +23,6 @@ pub struct Prepared {
     pub record: usize,
     pub students: usize,
     pub workshops: usize,
-}
-
-// The answer in numbers: kind 0 is a placement, 1 a next visit, 2 a refusal.
-#[repr(C)]
-pub struct Report {
-    pub kind: u64,
-    pub first: u64,
-    pub second: u64,
-    pub visits: u64,
 }
 
 // How many students the case has: its records of kind 1.
@@ -223,7 +215,7 @@ pub fn finish(
 
 // The answer in four numbers.
 pub fn numbers(answer: Answer) -> Report
-    ensures { λ r. ⌜ r ≡ numbersOf answer ⌝ }
+    ensures { λ r. ⌜ r ≡ reportOf answer ⌝ }
 {
     match answer {
         Answer::Placed { visits } => Report {

@@ -14,28 +14,29 @@ use lib.Dec.{eqb, ltb}
 use lib.ListN.{getD, set}
 use borrow.Author.Tests.{eqb-true, eq-eqb, ne-eqb, ltb-true, ltb-false}
 use Rattle.lgs.specs.Market.{Market, Results}
-use Rattle.model.specs.declared.StudentState.{StudentState}
+use Rattle.api.specs.declared.StudentState.{StudentState}
 use Rattle.model.specs.declared.Run.{Run}
-use Rattle.model.specs.Turn.{Left, zeroState, turnOf, runOf}
-use Rattle.engine.specs.Runs.{Kept, hand-of}
+use Rattle.model.specs.Turn.{Left, turnOf, runOf}
+use Rattle.api.specs.Answered.{zeroState}
+use Rattle.engine.specs.Runs.{hand-of, RunState}
 
 module _ (M : Market) (B : Results) where
   -- the turn that comes next
-  abbrev pub turn-of : Kept → Left M B
+  abbrev pub turn-of : RunState → Left M B
   turn-of σ = turnOf M B (σ .0) (σ .1 .0) (getD (σ .1 .1 .0) (hand-of σ - 1) zeroState) (σ .1 .1 .1)
 
-  abbrev pub turn-on : Kept → Kept
+  abbrev pub turn-on : RunState → RunState
   turn-on σ = (turn-of σ .visits, (turn-of σ .seats, (set (σ .1 .1 .0) (hand-of σ - 1) (turn-of σ .turned .state), turn-of σ .turned .run)))
 
   -- the run from σ
-  abbrev from : ℕ → Kept → Kept
+  abbrev from : ℕ → RunState → RunState
   from k σ = runOf M B k (σ .0) (σ .1 .0) (σ .1 .1 .0) (σ .1 .1 .1)
 
-  goes : (k : ℕ) (σ : Kept) → eqb (hand-of σ) 0 ≡ false → from (suc k) σ ≡ from k (turn-on σ)
+  goes : (k : ℕ) (σ : RunState) → eqb (hand-of σ) 0 ≡ false → from (suc k) σ ≡ from k (turn-on σ)
   unfolding runOf
   goes k σ e = ap (λ (b : Bool). cond b σ (from k (turn-on σ))) e
 
-  stops : (k : ℕ) (σ : Kept) → eqb (hand-of σ) 0 ≡ true → from k σ ≡ σ
+  stops : (k : ℕ) (σ : RunState) → eqb (hand-of σ) 0 ≡ true → from k σ ≡ σ
   unfolding runOf
   stops zero σ e = refl
   stops (suc k) σ e = ap (λ (b : Bool). cond b σ (from k (turn-on σ))) e
@@ -44,21 +45,21 @@ module _ (M : Market) (B : Results) where
   none n e l = absurd (omega (arith, e, l))
 
   -- by whether a student is in hand
-  which : (σ : Kept) → (eqb (hand-of σ) 0 ≡ true) ⊎ (eqb (hand-of σ) 0 ≡ false)
+  which : (σ : RunState) → (eqb (hand-of σ) 0 ≡ true) ⊎ (eqb (hand-of σ) 0 ≡ false)
   which σ = either (eqb (hand-of σ) 0)
     where
       either : (b : Bool) → (b ≡ true) ⊎ (b ≡ false)
       either true = inl refl
       either false = inr refl
 
-  on : (k : ℕ) (σ : Kept) → 0 < hand-of (from k σ) → from (suc k) σ ≡ turn-on (from k σ)
+  on : (k : ℕ) (σ : RunState) → 0 < hand-of (from k σ) → from (suc k) σ ≡ turn-on (from k σ)
   unfolding runOf
   on zero σ l = goes zero σ (ne-eqb (hand-of σ) 0 (λ e. none (hand-of σ) e l))
   on (suc k) σ l =
-      ⊎-elim (λ e. none _ (eqb-true _ _ e) (subst (λ (τ : Kept). 0 < hand-of τ) (stops (suc k) σ e) l))
-      (λ e. goes (suc k) σ e ∙ on k (turn-on σ) (subst (λ (τ : Kept). 0 < hand-of τ) (goes k σ e) l) ∙ ap turn-on (sym (goes k σ e))) (which σ)
+      ⊎-elim (λ e. none _ (eqb-true _ _ e) (subst (λ (τ : RunState). 0 < hand-of τ) (stops (suc k) σ e) l))
+      (λ e. goes (suc k) σ e ∙ on k (turn-on σ) (subst (λ (τ : RunState). 0 < hand-of τ) (goes k σ e) l) ∙ ap turn-on (sym (goes k σ e))) (which σ)
 
-  out : (k n : ℕ) (σ : Kept) → hand-of (from k σ) ≡ 0 → k ≤ n → from k σ ≡ from n σ
+  out : (k n : ℕ) (σ : RunState) → hand-of (from k σ) ≡ 0 → k ≤ n → from k σ ≡ from n σ
   unfolding runOf
   out zero n σ h l = sym (stops n σ (eq-eqb (hand-of σ) 0 h))
   out (suc k) zero σ h l = absurd (omega (arith, l))

@@ -10,9 +10,9 @@ use lib.Dec.{lit<}
 use denote.Laws.{Is}
 use denote.Struct.Laws as LL
 use Rattle.walks.proofs.Row.{Kind, kind-of}
-use Rattle.model.specs.Turn.{zeroState}
-use Rattle.model.proofs.StudentState as T
-use Rattle.model.proofs.StudentState.Laws as T′
+use Rattle.api.specs.Answered.{zeroState}
+use Rattle.api.proofs.StudentState as T
+use Rattle.api.proofs.StudentState.Laws as T′
 
 abbrev pub kind : Kind T.the-row
 kind = kind-of T.the-type T′.lowers T′.the-plain

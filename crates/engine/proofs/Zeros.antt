@@ -6,8 +6,8 @@ use Prim.Native.Nat.{ℕ, zero, suc, _+_}
 use native.Mathlib.Omega.{arith}
 use mathlib.Core.List.{List, [], _∷_}
 use lib.ListN.{length, set, replicate}
-use Rattle.model.specs.declared.StudentState.{StudentState}
-use Rattle.model.specs.Turn.{zeroState}
+use Rattle.api.specs.declared.StudentState.{StudentState}
+use Rattle.api.specs.Answered.{zeroState}
 
 abbrev pub front : ℕ → List StudentState → List StudentState
 front zero zs = zs

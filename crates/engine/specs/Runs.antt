@@ -5,20 +5,21 @@ use mathlib.Core.List.{List}
 use lib.ListN.{length, getD}
 use Rattle.lgs.specs.Rule.{fuel}
 use Rattle.format.specs.Engine.{marketIn, resultsIn}
-use Rattle.model.specs.declared.StudentState.{StudentState}
+use Rattle.api.specs.declared.StudentState.{StudentState}
 use Rattle.model.specs.declared.Run.{Run}
-use Rattle.model.specs.Turn.{zeroState, runOf}
+use Rattle.model.specs.Turn.{runOf}
+use Rattle.api.specs.Answered.{zeroState}
 use Rattle.answering.specs.Steps.{StepReady}
 
 -- the visits, the seats, the students' states and the run
-abbrev pub Kept : Type 0
-Kept = List ℕ × (List ℕ × (List StudentState × Run))
+abbrev pub RunState : Type 0
+RunState = List ℕ × (List ℕ × (List StudentState × Run))
 
-abbrev pub hand-of : Kept → ℕ
+abbrev pub hand-of : RunState → ℕ
 hand-of σ = σ .1 .1 .1 .hand
 
 -- after as many turns as the rule takes at most
-abbrev pub wholeRun : List ℕ → List ℕ → List ℕ → List ℕ → List StudentState → Run → Kept
+abbrev pub wholeRun : List ℕ → List ℕ → List ℕ → List ℕ → List StudentState → Run → RunState
 wholeRun case book visits seats states start = runOf (marketIn case) (resultsIn book) (fuel (marketIn case) (resultsIn book)) visits seats states start
 
 -- each turn finds what it needs, and the last leaves no student in hand

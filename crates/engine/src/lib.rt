@@ -2,15 +2,13 @@
 // cover: the functions here that have one are proved by a walk of their MIR, and what they call is covered.
 ghost use mathlib.Core.Path.{_≡_};
 ghost use lib.ListN.{length, replicate};
-ghost use Rattle.model.specs.Turn.{zeroState};
-ghost use Rattle.answering.specs.Answered.{Answered};
-ghost use Rattle.answering.specs.Numbers.{numbersOf};
+ghost use Rattle.api.specs.Answered.{zeroState, Answered, answerIn};
+ghost use Rattle.api.specs.Answers.{reportOf};
 ghost use Rattle.engine.specs.Runs.{wholeRun, CanRun};
-ghost use Rattle.engine.specs.Answers.{answerIn};
-use answering::Report;
-use answers::Answer;
+use api::Answer;
+use api::Report;
+use api::StudentState;
 use model::Run;
-use model::StudentState;
 
 // Every state is set to zero.
 fn clear_states(states: &mut [StudentState])
@@ -150,7 +148,7 @@ pub extern "C" fn lgs_place(
     index: &mut [u16],
     states: &mut [StudentState],
 ) -> Report
-    ensures { λ r. ⌜ r ≡ numbersOf (answerIn (now (case .entry)) (now (book .entry)) (now (places .entry)) (now (visits .entry)) (now (seats .entry)) (now (index .entry))
+    ensures { λ r. ⌜ r ≡ reportOf (answerIn (now (case .entry)) (now (book .entry)) (now (places .entry)) (now (visits .entry)) (now (seats .entry)) (now (index .entry))
         (now (states .entry))) ⌝ }
     ensures { λ r. ⌜ Answered (now (case .entry)) (now (book .entry)) (now (places .entry)) (now (visits .entry)) (now (seats .entry)) (now (index .entry))
         (now (states .entry))

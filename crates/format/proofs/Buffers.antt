@@ -13,7 +13,7 @@ use Rattle.base.proofs.Tests.{or-false, is-false}
 use Rattle.lgs.specs.Rule.{Interview}
 use Rattle.format.specs.Layout.{rows}
 use Rattle.format.specs.Refusals.{Room, badRoom, needed}
-use Rattle.format.specs.Engine.{Answer, placed, next, refused, engine}
+use Rattle.format.specs.Engine.{placed, next, refused, engine, Outcome}
 use Rattle.format.specs.Buffers.{flat, withHead, placesAfter, visitsAfter}
 use Rattle.format.specs.Promises.{Valid, short, interviewsOf, Kept, BuffersKept}
 use Rattle.format.proofs.Runs.{when-placed, when-next}
@@ -52,7 +52,7 @@ module _ (case book : List ℕ) (room : Room) where
   unfolding placesAfter visitsAfter
   kept places visits p v = by-answer (engine case book room) refl (heads-fit .anyway case book room)
     where
-      by-answer : (a : Answer) → engine case book room ≡ a → 2 * length (interviewsOf (engine case book room)) ≤ needed (rows case) .visits
+      by-answer : (a : Outcome) → engine case book room ≡ a → 2 * length (interviewsOf (engine case book room)) ≤ needed (rows case) .visits
           → Kept a (needed (rows case) .places) places visits
       by-answer (placed l vs) e fits =
           let r : (needed (rows case) .places ≤ room .places) × (needed (rows case) .visits ≤ room .visits) =

@@ -19,9 +19,8 @@ use Rattle.lgs.proofs.OptimalExists.{optimal-exists as optimal-for}
 use Rattle.lgs.proofs.Promises.{fits-exists, listed-length}
 use Rattle.format.specs.Layout.{rows, resultsOf, ofKind}
 use Rattle.format.specs.Refusals.{Room, refusal, needed}
-use Rattle.format.specs.Engine.{Answer, placed, next, refused, answerOf, answerUnless, engine, marketIn, resultsIn}
-use Rattle.format.specs.Promises.{Valid, Refused, Answered, withPlaces, withNext, RunEnds, Demand1, FitsBook, interviewsOf}
-use Rattle.format.specs.Promises.{Demand2Placed, Demand2Next, Demand2, Demand3, FitExists, OptimalExists, SameListed, UnlistedUnused, HeadsFit, Promised}
+use Rattle.format.specs.Engine.{placed, next, refused, engine, marketIn, resultsIn, Outcome, outcomeOf, outcomeUnless}
+use Rattle.format.specs.Promises.{Valid, Refused, withPlaces, withNext, RunEnds, Demand1, FitsBook, interviewsOf, ByRule, Demand2Placed, Demand2Next, Demand2, Demand3, FitExists, OptimalExists, SameListed, UnlistedUnused, HeadsFit, Promised}
 use Rattle.format.proofs.Causes.{refusal-some, refusal-none, passed}
 use Rattle.format.proofs.Runs.{rule, wf, distinct, ends, engine-valid, Finished, Stopped, when-placed, when-next, placed-promise, next-promise}
 use Rattle.format.proofs.Books.{extends, agree-listed}
@@ -32,18 +31,18 @@ pub run-ends : RunEnds
 run-ends = ends
 
 pub demand1 : Demand1
-unfolding engine answerUnless answerOf
+unfolding engine outcomeUnless outcomeOf
 demand1 case book room = by-refusal (refusal case book room) refl
   where
-    answered : Valid case book room → (x : Step) → rule case book room ≡ x → Answered case book (answerOf (marketIn case .students) x)
+    answered : Valid case book room → (x : Step) → rule case book room ≡ x → ByRule case book (outcomeOf (marketIn case .students) x)
     answered valid (finished p vs) e = withPlaces p vs e
     answered valid (stopped s w vs) e = withNext s w vs e
     answered valid (going σ) e = absurd (run-ends case book room valid σ e)
 
     by-refusal : (r : Option (ℕ × ℕ))
         → refusal case book room ≡ r
-        → (Valid case book room × Answered case book (answerUnless r (marketIn case) (resultsIn book)))
-        ⊎ ((k : ℕ) × (i : ℕ) × Refused case book room k i × (answerUnless r (marketIn case) (resultsIn book) ≡ refused k i))
+        → (Valid case book room × ByRule case book (outcomeUnless r (marketIn case) (resultsIn book)))
+        ⊎ ((k : ℕ) × (i : ℕ) × Refused case book room k i × (outcomeUnless r (marketIn case) (resultsIn book) ≡ refused k i))
     by-refusal (some (k, i)) e = inr (k, i, refusal-some case book room k i e, refl)
     by-refusal none e =
         let valid : Valid case book room = refusal-none case book room e in
@@ -66,8 +65,8 @@ fits-listed case book O vs met F =
     })
 
 -- the interviews that an answer lists are those of the run
-lists : (n : ℕ) (x : Step) → interviewsOf (answerOf n x) ≡ interviewsIn x
-unfolding answerOf
+lists : (n : ℕ) (x : Step) → interviewsOf (outcomeOf n x) ≡ interviewsIn x
+unfolding outcomeOf
 lists n (finished p vs) = refl
 lists n (stopped s w vs) = refl
 lists n (going σ) = refl
@@ -110,13 +109,13 @@ demand3 case book room places vs e = placed-promise case book room places vs (wh
 pub promised : (case book : List ℕ) (room : Room) → Promised case book room (engine case book room)
 promised case book room = by-answer (engine case book room) refl
   where
-    not-answered : (k i : ℕ) (a : Answer) → Answered case book a → a ≡ refused k i → ⊥
+    not-answered : (k i : ℕ) (a : Outcome) → ByRule case book a → a ≡ refused k i → ⊥
     not-answered k i a (withPlaces p vs r) e = let z : _≡_ {A = ℕ} 0 1 = cc in omega arith
     not-answered k i a (withNext s w vs r) e = let z : _≡_ {A = ℕ} 0 1 = cc in omega arith
 
     when-refused : (k i : ℕ)
         → engine case book room ≡ refused k i
-        → (Valid case book room × Answered case book (engine case book room))
+        → (Valid case book room × ByRule case book (engine case book room))
         ⊎ ((j : ℕ) × (l : ℕ) × Refused case book room j l × (engine case book room ≡ refused j l))
         → Refused case book room k i
     when-refused k i e (inl r) = absurd (not-answered k i (engine case book room) (r .1) e)
@@ -126,7 +125,7 @@ promised case book room = by-answer (engine case book room) refl
         let same-place : l ≡ i = cc in
         rw (same-number, same-place) at r
 
-    by-answer : (a : Answer) → engine case book room ≡ a → Promised case book room a
+    by-answer : (a : Outcome) → engine case book room ≡ a → Promised case book room a
     by-answer (placed places vs) e = (demand2 .whenPlaced case book room places vs e, demand3 case book room places vs e)
     by-answer (next s w vs) e = demand2 .whenNext case book room s w vs e
     by-answer (refused k i) e = when-refused k i e (demand1 case book room)
@@ -142,7 +141,7 @@ optimal-exists case book room valid O strict tiers =
 
 module _ (case book book′ : List ℕ) (room : Room) (valid′ : Valid case book′ room) where
   placed-again : (places : List ℕ) (vs : List Interview) → Finished case book room places vs → SameListed vs book book′ → engine case book′ room ≡ placed places vs
-  unfolding answerOf
+  unfolding outcomeOf
   placed-again places vs f same =
       let P : Placed (marketIn case) (resultsIn book) places vs = placed-promise case book room places vs f in
       let run′ : rule case book′ room ≡ finished (f .matching) vs =
@@ -152,7 +151,7 @@ module _ (case book book′ : List ℕ) (room : Room) (valid′ : Valid case boo
 
   next-again : (s w : ℕ) (vs : List Interview) → Stopped case book room s w vs → SameListed vs book book′ → resultsIn book′ .met s w ≡ false
       → engine case book′ room ≡ next s w vs
-  unfolding answerOf
+  unfolding outcomeOf
   next-again s w vs f same unmet =
       let N : NextInterview (marketIn case) (resultsIn book) s w vs = next-promise case book room s w vs f in
       let run′ : rule case book′ room ≡ stopped s w vs =
@@ -175,7 +174,7 @@ module _ (case book : List ℕ) (room : Room) where
   listed-within : Valid case book room → (vs : List Interview) → Listed (marketIn case) (resultsIn book) vs → length vs ≤ tally (ofKind 3) (rows case)
   listed-within valid vs L = omega (arith, listed-length (marketIn case) (wf case book room valid) (resultsIn book) vs L, pairs-within (rows case))
 
-  answer-within : (a : Answer) → engine case book room ≡ a → length (interviewsOf a) ≤ tally (ofKind 3) (rows case)
+  answer-within : (a : Outcome) → engine case book room ≡ a → length (interviewsOf a) ≤ tally (ofKind 3) (rows case)
   answer-within (placed places vs) e =
       let f : Finished case book room places vs = when-placed case book room places vs e in
       listed-within (f .valid) vs (placed-promise case book room places vs f .minimal .listed)

@@ -11,7 +11,7 @@ use Rattle.lgs.specs.Promises.{Placed, NextInterview}
 use Rattle.lgs.proofs.Valid.{WellFormed, Distinct}
 use Rattle.lgs.proofs.Promises.{lgs-ends, lgs-placed, lgs-next}
 use Rattle.format.specs.Refusals.{Room, refusal}
-use Rattle.format.specs.Engine.{Answer, placed, next, refused, answerOf, answerUnless, engine, marketIn, resultsIn}
+use Rattle.format.specs.Engine.{placed, next, refused, engine, marketIn, resultsIn, Outcome, outcomeOf, outcomeUnless}
 use Rattle.format.specs.Promises.{Valid}
 use Rattle.format.proofs.Reading.{market-wf, results-distinct}
 use Rattle.format.proofs.Causes.{refusal-none, none-refusal, passed}
@@ -30,8 +30,8 @@ module _ (case book : List ℕ) (room : Room) where
     pub ends : (σ : State) → rule ≡ going σ → ⊥
     ends = lgs-ends (marketIn case) wf (resultsIn book) distinct
 
-    pub engine-valid : engine case book room ≡ answerOf (marketIn case .students) rule
-    unfolding engine answerUnless
+    pub engine-valid : engine case book room ≡ outcomeOf (marketIn case .students) rule
+    unfolding engine outcomeUnless
     engine-valid = rw (none-refusal case book room valid)
 
   -- a placement comes from a run that finished
@@ -46,24 +46,24 @@ module _ (case book : List ℕ) (room : Room) where
     pub valid : Valid case book room
     pub run : rule ≡ stopped s w vs
 
-  answered : (a : Answer) → ((k i : ℕ) → refused k i ≡ a → ⊥) → engine case book room ≡ a
-      → Valid case book room × (answerOf (marketIn case .students) rule ≡ a)
-  unfolding engine answerUnless
+  answered : (a : Outcome) → ((k i : ℕ) → refused k i ≡ a → ⊥) → engine case book room ≡ a
+      → Valid case book room × (outcomeOf (marketIn case .students) rule ≡ a)
+  unfolding engine outcomeUnless
   answered a nope e = by-refusal (refusal case book room) refl e
     where
-      by-refusal : (r : Option (ℕ × ℕ)) → refusal case book room ≡ r → answerUnless r (marketIn case) (resultsIn book) ≡ a
-          → Valid case book room × (answerOf (marketIn case .students) rule ≡ a)
+      by-refusal : (r : Option (ℕ × ℕ)) → refusal case book room ≡ r → outcomeUnless r (marketIn case) (resultsIn book) ≡ a
+          → Valid case book room × (outcomeOf (marketIn case .students) rule ≡ a)
       by-refusal (some r) f q = absurd (nope (r .0) (r .1) q)
       by-refusal none f q = (refusal-none case book room f, q)
 
   pub when-placed : (places : List ℕ) (vs : List Interview) → engine case book room ≡ placed places vs → Finished places vs
-  unfolding answerOf
+  unfolding outcomeOf
   when-placed places vs e =
-      let r : Valid case book room × (answerOf (marketIn case .students) rule ≡ placed places vs) =
+      let r : Valid case book room × (outcomeOf (marketIn case .students) rule ≡ placed places vs) =
       answered (placed places vs) (λ k i q. let z : _≡_ {A = ℕ} 0 1 = cc in omega arith) e in
       by-run (r .0) rule refl (r .1)
     where
-      by-run : Valid case book room → (x : Step) → rule ≡ x → answerOf (marketIn case .students) x ≡ placed places vs → Finished places vs
+      by-run : Valid case book room → (x : Step) → rule ≡ x → outcomeOf (marketIn case .students) x ≡ placed places vs → Finished places vs
       by-run valid (finished p us) run q =
           let same : us ≡ vs = cc in
           record { valid = valid; matching = p; run = run ∙ ap (finished p) same; whole = cc }
@@ -71,13 +71,13 @@ module _ (case book : List ℕ) (room : Room) where
       by-run valid (going σ) run q = absurd (ends valid σ run)
 
   pub when-next : (s w : ℕ) (vs : List Interview) → engine case book room ≡ next s w vs → Stopped s w vs
-  unfolding answerOf
+  unfolding outcomeOf
   when-next s w vs e =
-      let r : Valid case book room × (answerOf (marketIn case .students) rule ≡ next s w vs) =
+      let r : Valid case book room × (outcomeOf (marketIn case .students) rule ≡ next s w vs) =
       answered (next s w vs) (λ k i q. let z : _≡_ {A = ℕ} 0 1 = cc in omega arith) e in
       record { valid = r .0; run = by-run rule (r .1) }
     where
-      by-run : (x : Step) → answerOf (marketIn case .students) x ≡ next s w vs → x ≡ stopped s w vs
+      by-run : (x : Step) → outcomeOf (marketIn case .students) x ≡ next s w vs → x ≡ stopped s w vs
       by-run (finished p us) q = let z : _≡_ {A = ℕ} 0 1 = cc in absurd (omega arith)
       by-run (stopped t d us) q =
           let same-student : t ≡ s = cc in

@@ -3,7 +3,7 @@ use Prim.Native.Nat.{ℕ, _*_}
 use mathlib.Core.List.{List, [], _∷_, _++_}
 use lib.ListN.{length, drop, replicate}
 use Rattle.lgs.specs.Rule.{Interview}
-use Rattle.format.specs.Engine.{Answer, placed, next, refused}
+use Rattle.format.specs.Engine.{placed, next, refused, Outcome}
 
 -- "used as student, workshop in the order visited"
 unfoldable pub flat : List Interview → List ℕ
@@ -15,13 +15,13 @@ abbrev pub withHead : List ℕ → List ℕ → List ℕ
 withHead new old = new ++ drop (length new) old
 
 -- "A placement fills places"; a next visit "leaves the places", and a refusal too
-unfoldable pub placesAfter : Answer → List ℕ → List ℕ
+unfoldable pub placesAfter : Outcome → List ℕ → List ℕ
 placesAfter (placed places vs) old = withHead places old
 placesAfter (next s w vs) old = old
 placesAfter (refused k i) old = old
 
 -- a placement fills "the used head of the visits", and so does a next visit; a refusal leaves them
-unfoldable pub visitsAfter : Answer → List ℕ → List ℕ
+unfoldable pub visitsAfter : Outcome → List ℕ → List ℕ
 visitsAfter (placed places vs) old = withHead (flat vs) old
 visitsAfter (next s w vs) old = withHead (flat vs) old
 visitsAfter (refused k i) old = old
@@ -32,7 +32,7 @@ scratchAfter zeroEntry old = replicate (length old) zeroEntry
 
 -- The values of an answer: of a placement "the visit count", of a next visit "the pair and the count of visits already done", of a refusal
 -- its number and place.
-unfoldable pub values : Answer → List ℕ
+unfoldable pub values : Outcome → List ℕ
 values (placed places vs) = length vs ∷ []
 values (next s w vs) = s ∷ w ∷ length vs ∷ []
 values (refused k i) = k ∷ i ∷ []

@@ -8,16 +8,16 @@ use Rattle.lgs.specs.Rule.{Interview, Step, going, stopped, finished, lazyGaleS
 use Rattle.format.specs.Layout.{rows, entries, marketOf, resultsOf}
 use Rattle.format.specs.Refusals.{Room, refusal}
 
-pub data Answer : Type 0 where
-  placed : List ℕ → List Interview → Answer  -- the places of students 1 to n, and the interviews
-  next : ℕ → ℕ → List Interview → Answer  -- the next interview, and the interviews done
-  refused : ℕ → ℕ → Answer  -- number and place
+pub data Outcome : Type 0 where
+  placed : List ℕ → List Interview → Outcome  -- the places of students 1 to n, and the interviews
+  next : ℕ → ℕ → List Interview → Outcome  -- the next interview, and the interviews done
+  refused : ℕ → ℕ → Outcome  -- number and place
 
 -- What a run of the rule with n students answers. The rule is never still going after its last step (`RunEnds`), so that line is never used.
-unfoldable pub answerOf : ℕ → Step → Answer
-answerOf n (finished p vs) = placed (map p (upto n)) vs
-answerOf n (stopped s w vs) = next s w vs
-answerOf n (going σ) = placed (map (σ .held) (upto n)) (σ .interviews)
+unfoldable pub outcomeOf : ℕ → Step → Outcome
+outcomeOf n (finished p vs) = placed (map p (upto n)) vs
+outcomeOf n (stopped s w vs) = next s w vs
+outcomeOf n (going σ) = placed (map (σ .held) (upto n)) (σ .interviews)
 
 abbrev pub marketIn : List ℕ → Market
 marketIn case = marketOf (rows case)
@@ -25,10 +25,10 @@ marketIn case = marketOf (rows case)
 abbrev pub resultsIn : List ℕ → Results
 resultsIn book = resultsOf (entries book)
 
-unfoldable pub answerUnless : Option (ℕ × ℕ) → Market → Results → Answer
-answerUnless (some r) M B = refused (r .0) (r .1)
-answerUnless none M B = answerOf (M .students) (lazyGaleShapley M B)
+unfoldable pub outcomeUnless : Option (ℕ × ℕ) → Market → Results → Outcome
+outcomeUnless (some r) M B = refused (r .0) (r .1)
+outcomeUnless none M B = outcomeOf (M .students) (lazyGaleShapley M B)
 
 -- a refusal, or else what the staged rule gives
-unfoldable pub engine : List ℕ → List ℕ → Room → Answer
-engine case book room = answerUnless (refusal case book room) (marketIn case) (resultsIn book)
+unfoldable pub engine : List ℕ → List ℕ → Room → Outcome
+engine case book room = outcomeUnless (refusal case book room) (marketIn case) (resultsIn book)

@@ -1,13 +1,14 @@
 -- What the program prints, as bytes of ASCII (document 01, "What the program prints").
 use Prim.Native.Nat.{ℕ, zero, suc, _+_, _/_, _%_}
+use mathlib.Core.Path.{_≡_}
 use mathlib.Core.Bool.{cond}
 use mathlib.Core.List.{List, [], _∷_, _++_}
 use mathlib.Core.Option.{Option, some, none}
-use lib.ListN.{length}
+use lib.ListN.{length, take}
 use lib.Dec.{ltb}
 use Rattle.lgs.specs.Rule.{Interview}
 use Rattle.format.specs.Refusals.{Room}
-use Rattle.format.specs.Engine.{Answer, placed, next, refused, engine}
+use Rattle.format.specs.Engine.{placed, next, refused, engine, Outcome}
 
 -- the decimal digits of n, in at most k places
 unfoldable pub digitsWithin : ℕ → ℕ → List ℕ
@@ -60,7 +61,7 @@ unfoldable pub visitsText : List Interview → List ℕ
 visitsText vs = lineOf visitsWord (length vs ∷ []) ++ visitLines vs
 
 -- "A stopped run prints `next` with the pair, then the visits lines. A refusal prints `refused` with number and place."
-unfoldable pub printed : Answer → List ℕ
+unfoldable pub printed : Outcome → List ℕ
 printed (placed places vs) = placeLines 1 places ++ visitsText vs
 printed (next s w vs) = lineOf nextWord (s ∷ w ∷ []) ++ visitsText vs
 printed (refused k i) = lineOf refusedWord (k ∷ i ∷ [])
@@ -86,3 +87,8 @@ programText (some case) (some book) = printed (engine case book programRoom)
 
 unfoldable pub programPrints : Option (List ℕ) → Option (List ℕ) → List ℕ
 programPrints case book = programText (readable case) (readable book)
+
+-- the whole text stands at the head of the buffer, and ends at `end`
+pub record Whole (text out : List ℕ) (end : ℕ) : Type 0 where
+  pub long : end ≡ length text
+  pub bytes : take end out ≡ text

@@ -15,7 +15,7 @@ use Rattle.lgs.specs.Rule.{Interview, interviewed, State, going, stopped, finis
 use Rattle.lgs.specs.Promises.{Listed, OptimalWhateverUnseen, MinimalInterviews, NextInterview, Begins, matchingOf}
 use Rattle.format.specs.Layout.{Entry, rows, entries, rowCount, entryCount, isInterview}
 use Rattle.format.specs.Refusals.{Room, badForm, badOrder, badCounts, badRange, badRoom, badPair, badScores, badRepeat, badTie, needed}
-use Rattle.format.specs.Engine.{Answer, placed, next, refused, engine, marketIn, resultsIn}
+use Rattle.format.specs.Engine.{placed, next, refused, engine, marketIn, resultsIn, Outcome}
 use Rattle.format.specs.Buffers.{placesAfter, visitsAfter}
 
 -- ---- Demand 1 (with crate format's Buffers for what stays and what is zero): "every case and book in the layouts of document 01, with buffers
@@ -53,13 +53,13 @@ module _ (case book : List ℕ) (room : Room) where
     pub earlier : (j l : ℕ) → j < k → Cause j l → ⊥
 
 -- the answer is the placement with which the rule finishes, or the next interview at which it stops
-pub data Answered (case book : List ℕ) : Answer → Type 0 where
+pub data ByRule (case book : List ℕ) : Outcome → Type 0 where
   withPlaces : (p : ℕ → ℕ) (vs : List Interview)
       → lazyGaleShapley (marketIn case) (resultsIn book) ≡ finished p vs
-      → Answered case book (placed (map p (upto (marketIn case .students))) vs)
+      → ByRule case book (placed (map p (upto (marketIn case .students))) vs)
   withNext : (s w : ℕ) (vs : List Interview)
       → lazyGaleShapley (marketIn case) (resultsIn book) ≡ stopped s w vs
-      → Answered case book (next s w vs)
+      → ByRule case book (next s w vs)
 
 -- the rule's steps do not run out
 abbrev pub RunEnds : Type 0
@@ -73,7 +73,7 @@ RunEnds =
 abbrev pub Demand1 : Type 0
 Demand1 =
     (case book : List ℕ) (room : Room)
-    → (Valid case book room × Answered case book (engine case book room))
+    → (Valid case book room × ByRule case book (engine case book room))
     ⊎ ((k : ℕ) × (i : ℕ) × Refused case book room k i × (engine case book room ≡ refused k i))
 
 -- ---- Demand 2.
@@ -87,7 +87,7 @@ abbrev pub ExtendsBook : List ℕ → List ℕ → Type 0
 ExtendsBook book book′ = (e : Entry) → Mem e (entries book) → Mem e (entries book′)
 
 -- the interviews that an answer lists
-abbrev pub interviewsOf : Answer → List Interview
+abbrev pub interviewsOf : Outcome → List Interview
 interviewsOf (placed places vs) = vs
 interviewsOf (next s w vs) = vs
 interviewsOf (refused k i) = []
@@ -180,7 +180,7 @@ pub record HeadsFit : Type 0 where
       → 2 * length (interviewsOf (engine case book room)) ≤ needed (rows case) .visits
 
 -- with an answer, buffers of the lent lengths keep these; "entries past the needed ones stay", and so do those past the listed interviews
-pub record Kept (a : Answer) (n : ℕ) (places visits : List ℕ) : Type 0 where
+pub record Kept (a : Outcome) (n : ℕ) (places visits : List ℕ) : Type 0 where
   pub placesLength : length (placesAfter a places) ≡ length places
   pub placesPast : (i : ℕ) → n ≤ i → getD (placesAfter a places) i 0 ≡ getD places i 0
   pub visitsLength : length (visitsAfter a visits) ≡ length visits
@@ -194,7 +194,7 @@ BuffersKept =
     → Kept (engine case book room) (needed (rows case) .places) places visits
 
 -- ---- The demands of one answer, for a contract: what holds of it, whichever it is.
-abbrev pub Promised : List ℕ → List ℕ → Room → Answer → Type 0
+abbrev pub Promised : List ℕ → List ℕ → Room → Outcome → Type 0
 Promised case book room (placed places vs) =
     Demand2Placed case book places vs × MinimalInterviews (marketIn case) (resultsIn book) places vs
 Promised case book room (next s w vs) = Demand2Next case book room s w vs

@@ -6,7 +6,7 @@ use mathlib.Core.List.{List, [], _∷_, _++_, map}
 use lib.ListN.{length, take, replicate}
 use Rattle.lgs.specs.Rule.{Interview}
 use Rattle.format.specs.Refusals.{Room}
-use Rattle.format.specs.Engine.{Answer, placed, next, refused, engine}
+use Rattle.format.specs.Engine.{placed, next, refused, engine, Outcome}
 use Rattle.format.specs.Printed.{printed}
 use Rattle.format.specs.Promises.{Example}
 
@@ -71,7 +71,7 @@ bookK = bookWith 5 4 1 4 6
 unfoldable pub visitsK : List Interview
 visitsK = (1, 1) ∷ (1, 2) ∷ (2, 2) ∷ (3, 2) ∷ []
 
-unfoldable pub answerK : Answer
+unfoldable pub answerK : Outcome
 answerK = placed (1 ∷ 0 ∷ 2 ∷ []) visitsK
 
 -- the lines that the program prints for K
@@ -91,9 +91,9 @@ printedK =
 pub record Sample : Type 0 where
   pub case : List ℕ
   pub book : List ℕ
-  pub answer : Answer
+  pub answer : Outcome
 
-abbrev pub sample : List ℕ → List ℕ → Answer → Sample
+abbrev pub sample : List ℕ → List ℕ → Outcome → Sample
 sample case book answer = record { case = case; book = book; answer = answer }
 
 -- ---- document 01's fifteen
@@ -214,10 +214,10 @@ shortRooms =
     ∷ []
 
 -- what the engine answers to the samples, and what it should
-unfoldable pub given : List Sample → List Answer
+unfoldable pub given : List Sample → List Outcome
 given ls = map (λ (l : Sample). engine (l .case) (l .book) ample) ls
 
-unfoldable pub expected : List Sample → List Answer
+unfoldable pub expected : List Sample → List Outcome
 expected ls = map (λ (l : Sample). l .answer) ls
 
 -- the tables hold: answers, exact and short buffers (cause 6, before a bad book length), the printed text, and a run with agreeing stages

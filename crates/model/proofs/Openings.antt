@@ -15,7 +15,7 @@ use lib.Pow.{pow-lt}
 use borrow.Author.Tests.{ne-eqb}
 use Rattle.base.specs.Lists.{upto, keep, consIf}
 use Rattle.base.specs.Bits.{member, members, Low}
-use Rattle.model.specs.declared.StudentState.{StudentState}
+use Rattle.api.specs.declared.StudentState.{StudentState}
 use Rattle.model.specs.Model.{Card, setBit, clearBit, told}
 use Rattle.model.specs.Turn.{withMember, withoutMember, toldState}
 use Rattle.base.proofs.Tests.{is-false}

@@ -14,11 +14,12 @@ use Rattle.lgs.specs.Market.{Market, Results}
 use Rattle.lgs.specs.Rule.{Interview}
 use Rattle.lgs.specs.Promises.{pairsIn}
 use Rattle.format.specs.Buffers.{flat, withHead}
-use Rattle.model.specs.declared.StudentState.{StudentState}
+use Rattle.api.specs.declared.StudentState.{StudentState}
 use Rattle.model.specs.declared.Run.{Run}
 use Rattle.model.specs.Model.{Card, Machine, told, begin, dueNow, shutBy}
 use Rattle.model.specs.Store.{part}
-use Rattle.model.specs.Turn.{zeroState, toldState, putAt, dueAt, beginRun}
+use Rattle.model.specs.Turn.{toldState, putAt, dueAt, beginRun}
+use Rattle.api.specs.Answered.{zeroState}
 use Rattle.model.specs.Ready.{Booked, Ready}
 use Rattle.base.proofs.Digits.{keep-same, keep-count, bit-zero}
 use Rattle.model.proofs.Seats.{seat-in}

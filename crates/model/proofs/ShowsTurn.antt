@@ -16,10 +16,11 @@ use Rattle.base.specs.Lists.{upto, keep, consIf}
 use Rattle.base.specs.Bits.{member, members}
 use Rattle.lgs.specs.Market.{Market, Results, studentOutside}
 use Rattle.format.specs.Buffers.{flat, withHead}
-use Rattle.model.specs.declared.StudentState.{StudentState}
+use Rattle.api.specs.declared.StudentState.{StudentState}
 use Rattle.model.specs.Model.{put, Machine, Turn, on, lacks, done, push, dueNow, options, favourite, held, missing, round, opens, answers, applies, acts, takeTurn}
 use Rattle.model.specs.Store.{part, putPart, pushPadded}
-use Rattle.model.specs.Turn.{Left, zeroState, putAt, toldState, RoundSoFar, roundTo, favouriteIn, afterRound, afterSeating, openTier, applyTo, turnOf}
+use Rattle.model.specs.Turn.{Left, putAt, toldState, RoundSoFar, roundTo, favouriteIn, afterRound, afterSeating, openTier, applyTo, turnOf}
+use Rattle.api.specs.Answered.{zeroState}
 use Rattle.base.proofs.Tests.{is-false, and-left, and-right, eq?}
 use Rattle.base.proofs.Members.{consIf-in, in-front, keep-in}
 use Rattle.model.proofs.Seats.{push-fits}

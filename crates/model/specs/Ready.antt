@@ -7,7 +7,7 @@ use lib.ListN.{length, getD}
 use Rattle.base.specs.Lists.{count, total}
 use Rattle.base.specs.Bits.{member}
 use Rattle.lgs.specs.Market.{Market, Results, studentOutside}
-use Rattle.model.specs.declared.StudentState.{StudentState}
+use Rattle.api.specs.declared.StudentState.{StudentState}
 use Rattle.model.specs.declared.Run.{Run}
 use Rattle.model.specs.Store.{part}
 use Rattle.model.specs.Turn.{toldState, dueAt}

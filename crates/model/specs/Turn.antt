@@ -10,7 +10,8 @@ use Rattle.base.specs.Bits.{members}
 use Rattle.lgs.specs.Market.{Market, Results, studentOutside}
 use Rattle.lgs.specs.Rule.{Interview, declined}
 use Rattle.format.specs.Buffers.{flat}
-use Rattle.model.specs.declared.StudentState.{StudentState}
+use Rattle.api.specs.declared.StudentState.{StudentState}
+use Rattle.api.specs.Answered.{zeroState}
 use Rattle.model.specs.declared.Run.{Run}
 use Rattle.model.specs.declared.Turned.{Turned}
 use Rattle.model.specs.Model.{shutBy, favourite}
@@ -22,9 +23,6 @@ withMember n w = bitOr n (2 ^ (w - 1))
 
 unfoldable pub withoutMember : ℕ → ℕ → ℕ
 withoutMember n w = bitAnd n (2 ^ 64 - 1 - 2 ^ (w - 1))
-
-abbrev pub zeroState : StudentState
-zeroState = record { reached = 0; held = 0; openings = 0 }
 
 -- the state of a student whom the workshop has dropped (0: nobody has)
 unfoldable pub toldState : ℕ → StudentState → StudentState

@@ -1,13 +1,7 @@
 // The engine's data; no code. `specs/` has the engine's run as pure functions: on sets and lists (Model), and on the buffers as the code keeps
 // them (Turn). `proofs/` shows that both give the answer of the staged rule.
 
-// A student's state (document 01: a card): the tier reached, the workshop held or 0, and the open workshops, workshop w as bit w - 1.
-#[repr(C)]
-pub struct StudentState {
-    pub reached: u16,
-    pub held: u16,
-    pub openings: u64,
-}
+use api::StudentState;
 
 // Where a run stands: the student in hand, or 0 when it is over; the last student taken in the order of stages; the workshop that has just
 // dropped the student in hand, or 0; the number of interviews held; the student and the workshop of the interview that is missing, or 0.

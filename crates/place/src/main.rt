@@ -3,8 +3,7 @@ ghost use mathlib.Core.Path.{_≡_};
 ghost use Prim.Native.Nat.{_≤_};
 ghost use lib.ListN.{length};
 ghost use Rattle.format.specs.Engine.{engine};
-ghost use Rattle.format.specs.Printed.{printed, programRoom};
-ghost use Rattle.printing.specs.Text.{Whole};
+ghost use Rattle.format.specs.Printed.{printed, programRoom, Whole};
 use libc::STDOUT_FILENO;
 
 // Reads from fd into buf until the end of the input. How many bytes, or all of buf's length where the input is as long or cannot be read.

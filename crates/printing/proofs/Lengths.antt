@@ -9,11 +9,11 @@ use borrow.Author.Tests.{lt-ltb, le-ltb}
 use lib.ListN.{length, getD, take, drop, length-append, length-take}
 use lib.Seq.{sets-eq, take-append-seam}
 use Rattle.base.proofs.Tests.{less?}
-use Rattle.format.specs.Printed.{digitsWithin, decimal, numbers, lineOf, placeWord, visitWord, visitsWord, nextWord, refusedWord, placeLines, visitLines, visitsText}
-use Rattle.answers.specs.Report.{interviewsAt, textOf}
-use Rattle.answers.specs.declared.Answer.{Answer}
-use Rattle.answers.specs.declared.Answer.the-variants.{Placed, Next, Refused}
-use Rattle.printing.specs.Text.{Put, Whole, Fits}
+use Rattle.format.specs.Printed.{digitsWithin, decimal, numbers, lineOf, placeWord, visitWord, visitsWord, nextWord, refusedWord, placeLines, visitLines, visitsText, Whole}
+use Rattle.api.specs.Text.{interviewsAt, textOf}
+use Rattle.api.specs.declared.Answer.{Answer}
+use Rattle.api.specs.declared.Answer.the-variants.{Placed, Next, Refused}
+use Rattle.printing.specs.Text.{Put, TextFits}
 use Rattle.printing.proofs.Lines.{places-on, places-none, visits-on, visits-none, visits-text}
 
 -- a number below ten to the k has at most k digits
@@ -129,7 +129,7 @@ FirstLine (Refused k i) = length (lineOf refusedWord (k ∷ i ∷ [])) ≤ 50
 
 -- the text of an answer from buffers of entries of two bytes
 pub text-length : (a : Answer) (n : ℕ) (places visits : List ℕ)
-    → Fits a n places visits
+    → TextFits a n places visits
     → FirstLine a
     → ((j : ℕ) → getD places j 0 < 65536)
     → ((j : ℕ) → getD visits j 0 < 65536)

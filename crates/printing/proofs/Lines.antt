@@ -8,7 +8,7 @@ use Rattle.base.specs.Lists.{tabulate}
 use Rattle.base.proofs.Below.{tabulate-length}
 use Rattle.lgs.specs.Rule.{Interview}
 use Rattle.format.specs.Printed.{lineOf, placeWord, visitWord, visitsWord, placeLines, visitLines, visitsText}
-use Rattle.answers.specs.Report.{interviewsAt}
+use Rattle.api.specs.Text.{interviewsAt}
 
 pub places-on : (l : List ℕ) (k i : ℕ) → i < length l
     → placeLines k (take (suc i) l) ≡ placeLines k (take i l) ++ lineOf placeWord ((i + k) ∷ getD l i 0 ∷ [])

@@ -4,21 +4,16 @@ use mathlib.Core.Path.{_≡_}
 use mathlib.Core.List.{List}
 use lib.ListN.{length, take}
 use lib.Seq.{sets}
-use Rattle.answers.specs.declared.Answer.{Answer}
-use Rattle.answers.specs.declared.Answer.the-variants.{Placed, Next, Refused}
+use Rattle.api.specs.declared.Answer.{Answer}
+use Rattle.api.specs.declared.Answer.the-variants.{Placed, Next, Refused}
 
 -- `out` has become `after`: the text stands from `at` on, cut off at the buffer's end; the next text goes to `end`
 pub record Put (text : List ℕ) (at : ℕ) (out after : List ℕ) (end : ℕ) : Type 0 where
   pub buffer : after ≡ sets out at text
   pub reach : end ≡ min (at + length text) (length out)
 
--- the whole text stands at the head of the buffer, and ends at `end`
-pub record Whole (text out : List ℕ) (end : ℕ) : Type 0 where
-  pub long : end ≡ length text
-  pub bytes : take end out ≡ text
-
 -- the buffers have what the answer speaks of: n places, and the interviews of its count
-abbrev pub Fits : Answer → ℕ → List ℕ → List ℕ → Type 0
-Fits (Placed count) n places visits = (n ≤ length places) × (2 * count ≤ length visits)
-Fits (Next s w count) n places visits = 2 * count ≤ length visits
-Fits (Refused k i) n places visits = Unit {0}
+abbrev pub TextFits : Answer → ℕ → List ℕ → List ℕ → Type 0
+TextFits (Placed count) n places visits = (n ≤ length places) × (2 * count ≤ length visits)
+TextFits (Next s w count) n places visits = 2 * count ≤ length visits
+TextFits (Refused k i) n places visits = Unit {0}

@@ -3,10 +3,10 @@ ghost use mathlib.Core.Path.{_≡_};
 ghost use mathlib.Core.List.{List, [], _∷_, _++_};
 ghost use Prim.Native.Nat.{ℕ, _+_, _*_, _≤_, _<_};
 ghost use lib.ListN.{length, getD, take};
-ghost use Rattle.format.specs.Printed.{decimal, numbers, lineOf, placeLines, visitLines, visitsText, placeWord, visitWord, visitsWord, nextWord, refusedWord, unread};
-ghost use Rattle.answers.specs.Report.{interviewsAt, textOf};
-ghost use Rattle.printing.specs.Text.{Put, Whole, Fits};
-use answers::Answer;
+ghost use Rattle.format.specs.Printed.{decimal, numbers, lineOf, placeLines, visitLines, visitsText, placeWord, visitWord, visitsWord, nextWord, refusedWord, unread, Whole};
+ghost use Rattle.api.specs.Text.{interviewsAt, textOf};
+ghost use Rattle.printing.specs.Text.{Put, TextFits};
+use api::Answer;
 
 // One byte at `at`; what comes after it.
 fn put_byte(out: &mut [u8], at: usize, b: u8) -> usize
@@ -121,7 +121,7 @@ fn wide(x: u16) -> usize
 // The text of an answer with n students, from the lent buffers. The result is the text's length, or the buffer's where the text is longer.
 // Where `out` has 33 bytes for each entry of the places, 9 for each of the visits and 100 more, it gets the whole text.
 pub fn put_answer(answer: Answer, n: usize, places: &[u16], visits: &[u16], out: &mut [u8]) -> usize
-    requires { ⌜ Fits answer n (now places) (now visits) ⌝ }
+    requires { ⌜ TextFits answer n (now places) (now visits) ⌝ }
     ensures { λ r. ⌜ Put (textOf answer n (now (places .entry)) (now (visits .entry))) 0 (now (out .entry)) (now (out .exit)) r ⌝ }
     ensures { λ r. ⌜ (33 * length (now (places .entry)) + 9 * length (now (visits .entry)) + 100 ≤ length (now (out .entry))
         → Whole (textOf answer n (now (places .entry)) (now (visits .entry))) (now (out .exit)) r) ⌝ }

@@ -19,7 +19,7 @@ use Rattle.records.specs.Records.{pairPlace}
 use Rattle.model.specs.Store.{seatsFrom}
 use Rattle.model.specs.Turn.{dueAt, roundTo}
 use Rattle.lookup.specs.Clean.{PairAt}
-use Rattle.turning.specs.Round.{inTier, Listed}
+use Rattle.turning.specs.Round.{inTier, TierListed}
 use Rattle.turning.proofs.Due.{due-tier, tier-pair, pair-second}
 use Rattle.turning.proofs.Rounds.{Rounding, round-start, count-to, skipped, seats-before, seats-more}
 
@@ -36,15 +36,15 @@ placed f g k x l h room e v b p =
     (less? v k)
 
 module _ (case : List ℕ) (s t : ℕ) (pairs starts : List ℕ) where
-  pub list-start : Listed case s t 0 0 pairs starts
+  pub list-start : TierListed case s t 0 0 pairs starts
   unfolding count
   list-start = record { many = refl; pair = λ v l p. absurd (omega arith); start = λ v l p. absurd (omega arith) }
 
-  pub list-more : (k n : ℕ) → Listed case s t k n pairs starts → n < length pairs → n < length starts → (p q x : ℕ)
+  pub list-more : (k n : ℕ) → TierListed case s t k n pairs starts → n < length pairs → n < length starts → (p q x : ℕ)
       → p ≡ pairPlace case s (k + 1)
       → q ≡ seatsFrom (marketIn case) (k + 1)
       → x ≡ one (inTier (marketIn case) s t (k + 1))
-      → Listed case s t (k + 1) (n + x) (set pairs n p) (set starts n q)
+      → TierListed case s t (k + 1) (n + x) (set pairs n p) (set starts n q)
   unfolding count
   list-more k n l a b p q x d e f = rw (add-one k) (record { many = more; pair = pair′; start = start′ })
     where
@@ -60,7 +60,7 @@ module _ (case : List ℕ) (s t : ℕ) (pairs starts : List ℕ) where
 -- after the first k workshops: n are listed, and `from` is where the next one's seats start
 pub record Listing (case : List ℕ) (s t m : ℕ) (oldPairs oldStarts pairs starts : List ℕ) (n from k : ℕ) : Type 0 where
   pub within : k ≤ m
-  pub listed : Listed case s t k n pairs starts
+  pub listed : TierListed case s t k n pairs starts
   pub seats : from ≡ total (marketIn case .quota) k
   pub small : from ≤ 65536 * k
   pub samePairs : length pairs ≡ length oldPairs
@@ -75,7 +75,7 @@ module _ (case : List ℕ) (s t m : ℕ) (oldPairs oldStarts : List ℕ) where
     pub listing-few : n ≤ k
     listing-few = omega (arith, i .listed .many, count-le (inTier (marketIn case) s t) k)
 
-    pub listing-end : m ≤ k → Listed case s t m n pairs starts
+    pub listing-end : m ≤ k → TierListed case s t m n pairs starts
     listing-end l = let e : m ≡ k = omega (arith, i .within) in rw e (i .listed)
 
     pub listing-more : k < m → m ≤ length oldPairs → m ≤ length oldStarts → (p q x : ℕ)
@@ -144,7 +144,7 @@ module _ (M : Market) (B : Results) (seats : List ℕ) (s t set held : ℕ) (old
 
 -- k of the n workshops listed have been gone over
 pub record Going (case : List ℕ) (B : Results) (seats : List ℕ) (s t set held m n : ℕ) (pairs starts old visits : List ℕ) (total openings k : ℕ) : Type 0 where
-  pub listed : Listed case s t m n pairs starts
+  pub listed : TierListed case s t m n pairs starts
   pub done : ℕ
   pub within : done ≤ m
   pub place : count (inTier (marketIn case) s t) done ≡ k
@@ -162,7 +162,7 @@ pub record Coming (case : List ℕ) (B : Results) (seats : List ℕ) (s t set he
   pub so : Rounding (marketIn case) B seats s t set held old visits total openings at
 
 module _ (case : List ℕ) (B : Results) (seats : List ℕ) (s t set held m n : ℕ) (pairs starts old : List ℕ) where
-  pub going-start : Listed case s t m n pairs starts → Going case B seats s t set held m n pairs starts old old held set 0
+  pub going-start : TierListed case s t m n pairs starts → Going case B seats s t set held m n pairs starts old old held set 0
   unfolding count
   going-start l = record { listed = l; done = 0; within = omega arith; place = refl; so = round-start (marketIn case) B seats s t set held old }
 

@@ -20,7 +20,7 @@ use Rattle.base.proofs.Digits.{count-empty, empty-count}
 use Rattle.lgs.specs.Market.{Market, Results, studentOutside}
 use Rattle.format.specs.Buffers.{flat}
 use Rattle.format.specs.Engine.{marketIn, resultsIn}
-use Rattle.model.specs.declared.StudentState.{StudentState}
+use Rattle.api.specs.declared.StudentState.{StudentState}
 use Rattle.model.specs.declared.Run.{Run}
 use Rattle.model.specs.Model.{favourite}
 use Rattle.model.specs.Store.{seatsFrom, part, putPart, lastOf, pushPadded}

@@ -37,7 +37,7 @@ inTier M s t w = M .paired s w && eqb (M .studentTier s w) t
 
 -- of workshops 1 to m, the n that are of tier t for the student, in rising number: where each one's pair has its record, and where its seats start;
 -- the place of each is how many come before it
-pub record Listed (case : List ℕ) (s t m n : ℕ) (pairs starts : List ℕ) : Type 0 where
+pub record TierListed (case : List ℕ) (s t m n : ℕ) (pairs starts : List ℕ) : Type 0 where
   pub many : n ≡ count (inTier (marketIn case) s t) m
   pub pair : (v : ℕ) → v < m → inTier (marketIn case) s t (suc v) ≡ true → getD pairs (count (inTier (marketIn case) s t) v) 0 ≡ pairPlace case s (suc v)
   pub start : (v : ℕ) → v < m → inTier (marketIn case) s t (suc v) ≡ true → getD starts (count (inTier (marketIn case) s t) v) 0 ≡ seatsFrom (marketIn case) (suc v)

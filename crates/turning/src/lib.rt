@@ -18,9 +18,9 @@ ghost use Rattle.model.specs.Store.{comesAfter, nextIn, seatsFrom, lastOf};
 ghost use Rattle.model.specs.Turn.{toldState, withMember, favouriteIn, RoundSoFar, dueAt, roundTo, putAt, nextRun, afterRound, afterSeating, openTier, applyTo, turnOf, beginRun};
 ghost use Rattle.model.specs.Ready.{Booked, Ready};
 ghost use Rattle.lookup.specs.Clean.{StudentAt, WorkshopAt, PairAt, PairsFound, Clean};
-ghost use Rattle.turning.specs.Round.{SeatsAt, SeatedAll, roundOf, Listed};
+ghost use Rattle.turning.specs.Round.{SeatsAt, SeatedAll, roundOf, TierListed};
+use api::StudentState;
 use model::Run;
-use model::StudentState;
 use model::Turned;
 
 // The state of the student in hand after workshop `lost` has dropped her; 0: nobody has.
@@ -318,7 +318,7 @@ fn list_tier(
     requires { ⌜ PairsFound (now case) students workshops ⌝ }
     requires { ⌜ ((w : ℕ) → 1 ≤ w → w ≤ workshops → WorkshopAt (now case) students w) ⌝ }
     requires { ⌜ ((w : ℕ) → marketIn (now case) .paired s w ≡ true → PairAt (now case) s w) ⌝ }
-    ensures { λ r. ⌜ Listed (now (case .entry)) s tier workshops r (now (pairs .exit)) (now (starts .exit)) ⌝ }
+    ensures { λ r. ⌜ TierListed (now (case .entry)) s tier workshops r (now (pairs .exit)) (now (starts .exit)) ⌝ }
 {
     let rows = records::row_count(case.len());
     let mut n = 0;

@@ -1,5 +1,5 @@
 -- `answering::numbers` meets its contract, case by case.
-use Rattle.answering.specs.Numbers.{numbersOf}
+use Rattle.api.specs.Answers.{reportOf}
 use borrow.Author.Needs.{needs}
 use Rattle.answering.proofs.numbers.Statement.{statement}
 use Rattle.answering.proofs.numbers.Tie as tie
@@ -16,15 +16,15 @@ enum-known-answer-3 : tie.Need-enum-known-answer-3
 enum-known-answer-3 c = search needs
 
 returns : tie.Need-returns
-unfolding numbersOf
+unfolding reportOf
 returns c = rw (c .before .answer .given .1)
 
 returns-2 : tie.Need-returns-2
-unfolding numbersOf
+unfolding reportOf
 returns-2 c = rw (c .before .answer2 .given .1)
 
 returns-3 : tie.Need-returns-3
-unfolding numbersOf
+unfolding reportOf
 returns-3 c = rw (c .before .answer3 .given .1)
 
 pub numbers-spec : {M : Type 1} → statement M

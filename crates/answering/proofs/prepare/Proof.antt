@@ -4,7 +4,7 @@ use mathlib.Core.Path.{_≡_, refl, sym}
 use native.Mathlib.Omega.{arith}
 use lib.ListN.{length}
 use Rattle.format.specs.Engine.{resultsIn}
-use Rattle.answering.specs.Steps.{roomOf}
+use Rattle.api.specs.Answered.{roomOf}
 use Rattle.answering.proofs.Preparing.{found-halted, found-started, clean}
 use borrow.Author.Needs.{needs}
 use Rattle.answering.proofs.prepare.Statement.{statement}

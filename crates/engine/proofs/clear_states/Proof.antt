@@ -41,10 +41,10 @@ use denote.Triple.Table.{entered}
 use denote.Triple.Walked.{says, Stays, stay-slice, walkOf, goes-slice, Walks, ends-at, walked, walk-meets}
 use Rattle.walks.proofs.Slices.{word}
 use Rattle.walks.proofs.Row.{Opened, opens-row, closes-row, takes-elem, puts-elem}
-use Rattle.model.specs.declared.StudentState.{StudentState}
-use Rattle.model.specs.Turn.{zeroState}
-use Rattle.model.proofs.StudentState as T
-use Rattle.model.proofs.StudentState.Laws as T′
+use Rattle.api.specs.declared.StudentState.{StudentState}
+use Rattle.api.specs.Answered.{zeroState}
+use Rattle.api.proofs.StudentState as T
+use Rattle.api.proofs.StudentState.Laws as T′
 use Rattle.engine.proofs.States.{kind, is-zero, spot-fits}
 use Rattle.engine.proofs.Zeros.{front, zeros-on, front-length, front-all}
 use Rattle.engine.proofs.clear_states.Key.{name as #engine·clear-states}

@@ -42,21 +42,20 @@ use Rattle.walks.proofs.Slices.{Spot, spot-of, ref, sv, Loan, anew}
 use Rattle.walks.proofs.Calls.{calls-out, calls-plain}
 use Rattle.walks.proofs.Clauses.{says2}
 use Rattle.walks.proofs.Again.{lends-on, back-on}
-use Rattle.model.specs.declared.StudentState.{StudentState}
-use Rattle.model.proofs.StudentState as T
-use Rattle.answers.specs.declared.Answer.{Answer}
-use Rattle.answers.proofs.Answer as N
-use Rattle.answers.proofs.Answer.Laws as N′
-use Rattle.answering.specs.declared.Report.{Report}
-use Rattle.answering.specs.Answered.{Answered}
-use Rattle.answering.specs.Numbers.{numbersOf}
-use Rattle.answering.proofs.Report as R
-use Rattle.answering.proofs.Report.Laws as R′
+use Rattle.api.specs.declared.StudentState.{StudentState}
+use Rattle.api.proofs.StudentState as T
+use Rattle.api.specs.declared.Answer.{Answer}
+use Rattle.api.proofs.Answer as N
+use Rattle.api.proofs.Answer.Laws as N′
+use Rattle.api.specs.declared.Report.{Report}
+use Rattle.api.specs.Answered.{Answered, answerIn}
+use Rattle.api.specs.Answers.{reportOf}
+use Rattle.api.proofs.Report as R
+use Rattle.api.proofs.Report.Laws as R′
 use Rattle.answering.proofs.numbers as numbers
 use Rattle.answering.proofs.numbers.Symbol as numbers-def
 use Rattle.answering.proofs.numbers.Symbol.{name as #answering·numbers}
 use Rattle.answering.proofs.numbers.Met as numbers-thm
-use Rattle.engine.specs.Answers.{answerIn}
 use Rattle.engine.proofs.place as place
 use Rattle.engine.proofs.place.Symbol as place-def
 use Rattle.engine.proofs.place.Symbol.{name as #engine·place}
@@ -125,7 +124,7 @@ module _ {M : Type 1} (𝓤 : URA M) (H : Heap 𝓤) (A : Atoms 𝓤) (W : Given
 
   exits : (places₁ visits₁ seats₁ index₁ : List ℕ) (states₁ : List StudentState) (r : Report) → length places₁ ≡ length places → length visits₁ ≡ length visits
       → length seats₁ ≡ length seats → length index₁ ≡ length index → length states₁ ≡ length ys
-      → r ≡ numbersOf answer → Answered case book places visits seats index ys answer places₁ visits₁ seats₁ index₁ states₁ → Is R.the-row r (R′.lowered r ∷ [])
+      → r ≡ reportOf answer → Answered case book places visits seats index ys answer places₁ visits₁ seats₁ index₁ states₁ → Is R.the-row r (R′.lowered r ∷ [])
       → ent 𝓤 (⋆ 𝓤 H A (States states₁ ∷ ‵ (flft κ₆ q₆) ∷ Index index₁ ∷ ‵ (flft κ₅ q₅) ∷ Seats seats₁ ∷ ‵ (flft κ₄ q₄) ∷ Visits visits₁ ∷ ‵ (flft κ₃ q₃)
       ∷ Places places₁ ∷ ‵ (flft κ₂ q₂) ∷ Case ∷ ‵ (flft κ₀ q₀) ∷ Book ∷ ‵ (flft κ₁ q₁) ∷ [])) (Post (R′.lowered r))
   exits places₁ visits₁ seats₁ index₁ states₁ r len₂ len₃ len₄ len₅ len₆ f₁ f₂ is =
@@ -180,8 +179,8 @@ module _ {M : Type 1} (𝓤 : URA M) (H : Heap 𝓤) (A : Atoms 𝓤) (W : Given
   asks a is = qed W [] ∵ nothing ! $ owned ! N.the-row (Is N.the-row) (EL.makes N.the-type N′.the-plain 𝓤 H A) a _ is $ fjoin ! $ nothing ! $ join ! $ frame ! $
       done !
 
-  told : (a : Answer) (r : Report) → ent 𝓤 (ensured 𝓤 H A numbers.ended (numbers.clauses 𝓤 H A mem run) tt (a, tt) tt r) (fact 𝓤 (r ≡ numbersOf a))
-  told a r = exE 𝓤 _ (λ ws. snd∗ 𝓤 (sem 𝓤 H A (lasts numbers.ended tt (a, tt) ws)) (fact 𝓤 (r ≡ numbersOf a)))
+  told : (a : Answer) (r : Report) → ent 𝓤 (ensured 𝓤 H A numbers.ended (numbers.clauses 𝓤 H A mem run) tt (a, tt) tt r) (fact 𝓤 (r ≡ reportOf a))
+  told a r = exE 𝓤 _ (λ ws. snd∗ 𝓤 (sem 𝓤 H A (lasts numbers.ended tt (a, tt) ws)) (fact 𝓤 (r ≡ reportOf a)))
 
   module _ (C : Calls 𝓤 H) (Λ : Loops 𝓤 H) (fm : FmC 𝓤 H (W .laws) C) (known-place : Triple 𝓤 (C #engine·place) (PlaceOf 𝓤 H A mem run))
       (known-numbers : Triple 𝓤 (C #answering·numbers) (NumbersOf 𝓤 H A mem run)) where
@@ -257,7 +256,7 @@ module _ {M : Type 1} (𝓤 : URA M) (H : Heap 𝓤) (A : Atoms 𝓤) (W : Given
         move ! (0 ∷ 1 ∷ 2 ∷ 3 ∷ 4 ∷ 5 ∷ 6 ∷ 7 ∷ 8 ∷ 9 ∷ 13 ∷ 11 ∷ 12 ∷ 10 ∷ []) $
         land ! (from ! (stop !)) (init ! 34 refl (EL.lawful N.the-type N′.the-laws 𝓤 H A W tt .typed a _ made .0)) $
         -- its numbers
-        calls-plain ! fm numbers.signature (numbers.spec 𝓤 H A mem run) known-numbers (to-numbers a) (λ r. r ≡ numbersOf a) (told a) R′.lowered (R′.lowers .val-is)
+        calls-plain ! fm numbers.signature (numbers.spec 𝓤 H A mem run) known-numbers (to-numbers a) (λ r. r ≡ reportOf a) (told a) R′.lowered (R′.lowers .val-is)
         (asks a made) (and-then ! (load ! (from ! (stop !)) (look ! 35 refl)) (no-more !)) (λ r e made′.
         land ! (from ! (stop !)) (init ! 50 refl (LL.lawful R.the-type R′.the-laws 𝓤 H A W .typed r _ made′ .0)) $
         returns ! (look ! 50 refl) $ forget ! 14 refl $ forget ! 16 refl $ forget ! 18 refl $ forget ! 20 refl $ forget ! 22 refl $ forget ! 24 refl $
@@ -270,7 +269,7 @@ module _ {M : Type 1} (𝓤 : URA M) (H : Heap 𝓤) (A : Atoms 𝓤) (W : Given
         move ! (18 ∷ 19 ∷ []) $ free1 ! $ move ! (16 ∷ 17 ∷ []) $ free1 ! $ move ! (14 ∷ 15 ∷ []) $ free1 ! $ free0 ! $
         keep ! (0 ∷ 1 ∷ 2 ∷ 3 ∷ 4 ∷ 5 ∷ 6 ∷ 7 ∷ 8 ∷ 9 ∷ 10 ∷ 11 ∷ 12 ∷ 13 ∷ []) $
         by ! (exits (ws .1 .1 .0) (ws .1 .1 .1 .0) (ws .1 .1 .1 .1 .0) (ws .1 .1 .1 .1 .1 .0)
-        (ws .1 .1 .1 .1 .1 .1 .0) r e₂ e₃ e₄ e₅ e₆ (e ∙ ap numbersOf (f .answer))
+        (ws .1 .1 .1 .1 .1 .1 .0) r e₂ e₃ e₄ e₅ e₆ (e ∙ ap reportOf (f .answer))
         (subst (λ (b : Answer). Answered case book places visits seats index ys b (ws .1 .1 .0) (ws .1 .1 .1 .0) (ws .1 .1 .1 .1 .0) (ws .1 .1 .1 .1 .1 .0)
         (ws .1 .1 .1 .1 .1 .1 .0)) (f .answer) f) made′))))))))))))))))))))))))))))))))))
 

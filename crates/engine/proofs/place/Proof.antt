@@ -44,19 +44,18 @@ use denote.Triple.Walked.{says, Stays, stay-slice, stay-none-slice, walkOf, goes
 use Rattle.walks.proofs.Slices.{Spot, spot-of, ref, sv, Loan, anew, word, words-ty, bytes-ty, ptr-ty}
 use Rattle.walks.proofs.Calls.{calls-out}
 use Rattle.walks.proofs.Again.{lends-on, back-on}
-use Rattle.model.specs.declared.StudentState.{StudentState}
+use Rattle.api.specs.declared.StudentState.{StudentState}
 use Rattle.model.specs.declared.Run.{Run}
-use Rattle.model.specs.Turn.{zeroState}
-use Rattle.model.proofs.StudentState as T
+use Rattle.api.specs.Answered.{zeroState, Answered}
+use Rattle.api.proofs.StudentState as T
 use Rattle.model.proofs.Run as S
 use Rattle.model.proofs.Run.Laws as S′
-use Rattle.answers.specs.declared.Answer.{Answer}
-use Rattle.answers.proofs.Answer as N
-use Rattle.answers.proofs.Answer.Laws as N′
+use Rattle.api.specs.declared.Answer.{Answer}
+use Rattle.api.proofs.Answer as N
+use Rattle.api.proofs.Answer.Laws as N′
 use Rattle.answering.specs.declared.Prepared.{Prepared}
 use Rattle.answering.specs.Steps.{Prepares}
 use Rattle.answering.specs.Finish.{Seated, Over, placesEnd, answerEnd}
-use Rattle.answering.specs.Answered.{Answered}
 use Rattle.answering.proofs.Prepared as P
 use Rattle.answering.proofs.Prepared.Laws as P′
 use Rattle.answering.proofs.Composing.{turn-ready, hand-within, run-ends, can-finish, answered}
@@ -68,7 +67,7 @@ use Rattle.answering.proofs.finish as finish
 use Rattle.answering.proofs.finish.Symbol as finish-def
 use Rattle.answering.proofs.finish.Symbol.{name as #answering·finish}
 use Rattle.answering.proofs.finish.Met as finish-thm
-use Rattle.engine.specs.Runs.{Kept, wholeRun, CanRun}
+use Rattle.engine.specs.Runs.{wholeRun, CanRun, RunState}
 use Rattle.engine.proofs.clear_states as clear
 use Rattle.engine.proofs.clear_states.Symbol as clear-def
 use Rattle.engine.proofs.clear_states.Symbol.{name as #engine·clear-states}
@@ -148,7 +147,7 @@ module _ {M : Type 1} (𝓤 : URA M) (H : Heap 𝓤) (A : Atoms 𝓤) (W : Given
   zeros-long = length-replicate (length ys) zeroState
 
   -- what the run leaves
-  abbrev after : List ℕ → Prepared → Kept
+  abbrev after : List ℕ → Prepared → RunState
   after seats₁ p = wholeRun case book visits seats₁ zeros (p .run)
 
   -- what is owned of each slice, at the list l

@@ -44,14 +44,13 @@ use Rattle.walks.proofs.Slices.{Spot, spot-of, ref, sv, Loan, anew}
 use Rattle.walks.proofs.Calls.{calls-out}
 use Rattle.walks.proofs.Again.{lends-on, back-on}
 use Rattle.walks.proofs.Local.{is-repeat, lends-local, local-back}
-use Rattle.model.specs.declared.StudentState.{StudentState}
-use Rattle.model.specs.Turn.{zeroState}
-use Rattle.model.proofs.StudentState as T
-use Rattle.model.proofs.StudentState.Laws as T′
-use Rattle.answers.specs.declared.Answer.{Answer}
-use Rattle.answers.proofs.Answer as N
-use Rattle.answers.proofs.Answer.Laws as N′
-use Rattle.answering.specs.Answered.{Answered}
+use Rattle.api.specs.declared.StudentState.{StudentState}
+use Rattle.api.specs.Answered.{zeroState, Answered}
+use Rattle.api.proofs.StudentState as T
+use Rattle.api.proofs.StudentState.Laws as T′
+use Rattle.api.specs.declared.Answer.{Answer}
+use Rattle.api.proofs.Answer as N
+use Rattle.api.proofs.Answer.Laws as N′
 use Rattle.engine.proofs.States.{kind, is-zero}
 use Rattle.engine.proofs.place as place
 use Rattle.engine.proofs.place.Symbol as place-def

@@ -57,12 +57,13 @@ use Rattle.walks.proofs.Again.{lends-on, back-on}
 use Rattle.lgs.specs.Market.{Market, Results}
 use Rattle.lgs.specs.Rule.{fuel}
 use Rattle.format.specs.Engine.{marketIn, resultsIn}
-use Rattle.model.specs.declared.StudentState.{StudentState}
+use Rattle.api.specs.declared.StudentState.{StudentState}
 use Rattle.model.specs.declared.Run.{Run}
 use Rattle.model.specs.declared.Turned.{Turned}
-use Rattle.model.specs.Turn.{Left, zeroState, turnOf, runOf}
-use Rattle.model.proofs.StudentState as T
-use Rattle.model.proofs.StudentState.Laws as T′
+use Rattle.model.specs.Turn.{Left, turnOf, runOf}
+use Rattle.api.specs.Answered.{zeroState}
+use Rattle.api.proofs.StudentState as T
+use Rattle.api.proofs.StudentState.Laws as T′
 use Rattle.model.proofs.Run as S
 use Rattle.model.proofs.Run.Laws as S′
 use Rattle.model.proofs.Turned as U
@@ -72,7 +73,7 @@ use Rattle.answering.proofs.step as step
 use Rattle.answering.proofs.step.Symbol as step-def
 use Rattle.answering.proofs.step.Symbol.{name as #answering·step}
 use Rattle.answering.proofs.step.Met as step-thm
-use Rattle.engine.specs.Runs.{Kept, hand-of, CanRun}
+use Rattle.engine.specs.Runs.{hand-of, CanRun, RunState}
 use Rattle.engine.proofs.States.{kind, spot-fits}
 use Rattle.engine.proofs.Runs.{turn-on, runs-none, runs-on, runs-out, runs-less}
 use Rattle.engine.proofs.run_all.Key.{name as #engine·run-all}
@@ -131,7 +132,7 @@ module _ {M : Type 1} (𝓤 : URA M) (H : Heap 𝓤) (A : Atoms 𝓤) (W : Given
   results = resultsIn book
 
   -- what k turns leave
-  abbrev after : ℕ → Kept
+  abbrev after : ℕ → RunState
   after k = runOf market results k visits seats ys start
 
   abbrev last : ℕ
@@ -252,14 +253,14 @@ module _ {M : Type 1} (𝓤 : URA M) (H : Heap 𝓤) (A : Atoms 𝓤) (W : Given
 
   -- a student is in hand after k turns
   held : (t : Here) → 0 < t .st .hand → 0 < hand-of (after (t .k))
-  held t l = subst (λ (σ : Kept). 0 < hand-of σ) (t .same) l
+  held t l = subst (λ (σ : RunState). 0 < hand-of σ) (t .same) l
 
   ready : (t : Here) → 0 < t .st .hand → StepReady case book index (t .vs) (t .us) (state-of t) (t .st) students workshops
-  ready t l = subst (λ (σ : Kept). StepReady case book index (σ .0) (σ .1 .0) (getD (σ .1 .1 .0) (hand-of σ - 1) zeroState) (σ .1 .1 .1) students workshops)
+  ready t l = subst (λ (σ : RunState). StepReady case book index (σ .0) (σ .1 .0) (getD (σ .1 .1 .0) (hand-of σ - 1) zeroState) (σ .1 .1 .1) students workshops)
       (sym (t .same)) (can .ready (t .k) (held t l))
 
   within : (t : Here) → 0 < t .st .hand → t .st .hand ≤ length (t .zs)
-  within t l = subst (λ (σ : Kept). hand-of σ ≤ length (σ .1 .1 .0)) (sym (t .same)) (can .within (t .k) (held t l))
+  within t l = subst (λ (σ : RunState). hand-of σ ≤ length (σ .1 .1 .0)) (sym (t .same)) (can .within (t .k) (held t l))
 
   more-left : (t : Here) → 0 < t .st .hand → t .k < last
   more-left t l = runs-less market results visits seats ys start (t .k) last (t .below) (can .ends) (held t l)

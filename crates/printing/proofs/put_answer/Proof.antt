@@ -2,7 +2,7 @@
 use Prim.Native.Nat.{_+_, _*_, _≤_}
 use native.Mathlib.Omega.{arith}
 use lib.ListN.{length}
-use Rattle.answers.specs.Report.{textOf}
+use Rattle.api.specs.Text.{textOf}
 use Rattle.printing.proofs.Laws.{put-then, put-within}
 use Rattle.printing.proofs.Lengths.{FirstLine, text-length, put-both}
 use borrow.Author.Needs.{needs}

@@ -7,7 +7,7 @@ use lib.Dec.{eqb}
 use Rattle.base.proofs.Tests.{and-right}
 use Rattle.lgs.specs.Market.{Market, Results}
 use Rattle.format.specs.Engine.{marketIn, resultsIn}
-use Rattle.model.specs.declared.StudentState.{StudentState}
+use Rattle.api.specs.declared.StudentState.{StudentState}
 use Rattle.model.specs.Turn.{favouriteIn, Left, openTier, applyTo, turnOf}
 use Rattle.model.specs.Ready.{Booked}
 use Rattle.turning.proofs.Turns.{ready-seats, seats-at, may-open, room-to, open-booked, turn-opens, turn-applies, open-seats, apply-visits, best-known, count-test}

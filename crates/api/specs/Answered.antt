@@ -8,20 +8,30 @@ use Rattle.format.specs.Refusals.{Room}
 use Rattle.format.specs.Engine.{engine}
 use Rattle.format.specs.Buffers.{placesAfter, visitsAfter, scratchAfter}
 use Rattle.format.specs.Promises.{Promised}
-use Rattle.model.specs.declared.StudentState.{StudentState}
-use Rattle.model.specs.Turn.{zeroState}
-use Rattle.answers.specs.declared.Answer.{Answer}
-use Rattle.answers.specs.Report.{reportOf}
-use Rattle.answering.specs.Steps.{roomOf}
+use Rattle.api.specs.declared.StudentState.{StudentState}
+use Rattle.api.specs.declared.Answer.{Answer}
+use Rattle.api.specs.Answers.{answerFor}
+
+abbrev pub zeroState : StudentState
+zeroState = record { reached = 0; held = 0; openings = 0 }
+
+-- the lengths of the lent buffers
+abbrev pub roomOf : ℕ → ℕ → ℕ → ℕ → ℕ → Room
+roomOf places visits seats index states =
+    record { places = places; visits = visits; seats = seats; index = index; states = states }
 
 module _ (case book places visits seats index : List ℕ) (states : List StudentState) where
   -- the lent lengths
   abbrev pub lent : Room
   lent = roomOf (length places) (length visits) (length seats) (length index) (length states)
 
+  -- the answer to the case and the book in these buffers
+  abbrev pub answerIn : Answer
+  answerIn = answerFor (engine case book lent)
+
   -- the buffers at entry are places to states, and those with a prime stand at exit
   pub record Answered (a : Answer) (places′ visits′ seats′ index′ : List ℕ) (states′ : List StudentState) : Type 0 where
-    pub answer : a ≡ reportOf (engine case book lent)
+    pub answer : a ≡ answerIn
     pub inPlaces : places′ ≡ placesAfter (engine case book lent) places
     pub inVisits : visits′ ≡ visitsAfter (engine case book lent) visits
     pub inSeats : seats′ ≡ scratchAfter 0 seats

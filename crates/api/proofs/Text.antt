@@ -9,10 +9,11 @@ use lib.Seq.{take-append-seam, ext-getD}
 use Rattle.base.specs.Lists.{tabulate}
 use Rattle.base.proofs.Below.{tabulate-length, tabulate-at}
 use Rattle.lgs.specs.Rule.{Interview}
-use Rattle.format.specs.Engine.{Answer, placed, next, refused}
+use Rattle.format.specs.Engine.{placed, next, refused, Outcome}
 use Rattle.format.specs.Buffers.{flat, withHead, placesAfter, visitsAfter, values}
 use Rattle.format.specs.Printed.{placeLines, visitsText, printed}
-use Rattle.answers.specs.Report.{reportOf, valuesOf, interviewsAt, textOf}
+use Rattle.api.specs.Answers.{answerFor, valuesOf}
+use Rattle.api.specs.Text.{interviewsAt, textOf}
 
 flat-first : (vs : List Interview) (rest : List ℕ) (i : ℕ) → i < length vs → getD (flat vs ++ rest) (2 * i) 0 ≡ getD vs i (0, 0) .0
 unfolding flat
@@ -41,23 +42,23 @@ interviews-back vs rest =
     tabulate-at f (length vs) i (0, 0) h ∙ (ap (λ (a : ℕ). (a, f i .1)) (flat-first vs rest i h) ∙ ap (λ (b : ℕ). (getD vs i (0, 0) .0, b)) (flat-second vs rest i h)))
 
 -- an answer whose places are those of n students
-abbrev pub PlacesOf : ℕ → Answer → Type 0
+abbrev pub PlacesOf : ℕ → Outcome → Type 0
 PlacesOf n (placed places vs) = length places ≡ n
 PlacesOf n (next s w vs) = Unit {0}
 PlacesOf n (refused k i) = Unit {0}
 
 -- the text from the buffers is the answer's text
-pub text-printed : (a : Answer) (n : ℕ) (places visits : List ℕ) → PlacesOf n a
-    → textOf (reportOf a) n (placesAfter a places) (visitsAfter a visits) ≡ printed a
-unfolding textOf reportOf placesAfter visitsAfter printed
+pub text-printed : (a : Outcome) (n : ℕ) (places visits : List ℕ) → PlacesOf n a
+    → textOf (answerFor a) n (placesAfter a places) (visitsAfter a visits) ≡ printed a
+unfolding textOf answerFor placesAfter visitsAfter printed
 text-printed (placed ps vs) n places visits e =
     rw (interviews-back vs (drop (length (flat vs)) visits), ← e, take-append-seam ps (drop (length ps) places))
 text-printed (next s w vs) n places visits e = rw (interviews-back vs (drop (length (flat vs)) visits))
 text-printed (refused k i) n places visits e = refl
 
 -- the enum's values are those of the answer
-pub values-same : (a : Answer) → valuesOf (reportOf a) ≡ values a
-unfolding valuesOf reportOf values
+pub values-same : (a : Outcome) → valuesOf (answerFor a) ≡ values a
+unfolding valuesOf answerFor values
 values-same (placed ps vs) = refl
 values-same (next s w vs) = refl
 values-same (refused k i) = refl
