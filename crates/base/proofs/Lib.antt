@@ -7,3 +7,4 @@ pub mod Below
 pub mod Shift
 pub mod Signed
 pub mod Digits
+pub mod Grid
