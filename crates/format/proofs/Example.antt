@@ -58,7 +58,7 @@ module _ (rs : List Row) (none : someDiffer rs ≡ false) where
       let y : (q .0 .kind ≡ 3) × (q .0 .first ≡ t) × (q .0 .second ≡ w) = pair-says t w (q .0) (q .1) in
       rw (y .0, y .1, y .2, x .1, x .2, eq-eqb w w refl) at (q .2)
 
-  stages-agree : ConsistentStages (marketOf rs)
+  stages-agree : ConsistentStages (marketOf rs) (marketOf rs .stage)
   unfolding differ
   stages-agree = record { earlier = earlier; together = together }
     where

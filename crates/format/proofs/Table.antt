@@ -5,10 +5,11 @@ use mathlib.Core.List.{List, [], _∷_, map}
 use Rattle.base.specs.Lists.{count, total, upto, tabulate, keep, any, tally, find, pick, update}
 use Rattle.base.specs.Search.{firstBad}
 use Rattle.base.specs.Words.{word, signed}
-use Rattle.lgs.specs.Rule.{interviewed, insert, byStage, start, declined, open?, choices, due, holders, below, lowestOf, best, interviewAll, close, settle, apply, turn, step, run, fuel, lazyGaleShapley}
-use Rattle.format.specs.Layout.{rowAt, rows, marketOf, entryAt, entries, resultsOf}
-use Rattle.format.specs.Refusals.{badForm, kindFalls, badNumber, notRising, namesNobody, badOrder, badCounts, badStudent, badWorkshop, badTiers, badRange, needed, badRoom, badPair, badScores, badRepeat, studentTies, workshopTies, badTie, causes, refusal, Room}
-use Rattle.format.specs.Engine.{refused, engine, outcomeOf, outcomeUnless}
+use Rattle.lgs.specs.Market.{allSeats, seatsOf, outscored}
+use Rattle.lgs.specs.Rule.{interviewed, insert, byStage, start, declined, unopened, open?, choices, due, holders, below, lowestOf, best, interviewAll, close, settle, apply, turn, step, run, fuel, lazyGaleShapley}
+use Rattle.format.specs.Layout.{rowAt, rows, unnamed, marketOf, entryAt, entries, resultsOf}
+use Rattle.format.specs.Refusals.{badForm, kindFalls, badNumber, notRising, namesNobody, badOrder, badCounts, badStudent, badWorkshop, badTiers, badRange, needed, badRoom, badPair, badScores, badRepeat, studentTies, workshopTies, badTie, caseCauses, roomCauses, bookCauses, causes, refusal, Room}
+use Rattle.format.specs.Engine.{refused, engine, outcomeOf, ruleOutcome, outcomeUnless}
 use Rattle.format.specs.Printed.{digitsWithin, decimal, numbers, placeLines, visitLines, visitsText, printed}
 use Rattle.format.specs.Table.{words, caseRecord, concat, caseOf, bookOf, studentsK, workshopsK, pairsK, caseWith, bookWith, K, bookK, visitsK, answerK, printedK, table, ownTable, ample, exact, shortRooms, given, expected}
 
@@ -21,5 +22,5 @@ pub record Computed : Type 0 where
   pub text : printed answerK ≡ printedK
 
 pub computed : Computed
-unfolding given expected table ownTable ample exact shortRooms words caseRecord concat caseOf bookOf studentsK workshopsK pairsK caseWith bookWith K bookK visitsK answerK printedK engine outcomeUnless outcomeOf refusal causes badTie workshopTies studentTies badRepeat badScores badPair badRoom needed badRange badTiers badWorkshop badStudent badCounts badOrder namesNobody notRising badNumber kindFalls badForm resultsOf entries entryAt marketOf rows rowAt signed word firstBad update pick find tally any keep tabulate upto total count lazyGaleShapley fuel run step turn apply settle close interviewAll best lowestOf below holders due choices open? declined start byStage insert interviewed printed visitsText visitLines placeLines numbers decimal digitsWithin
+unfolding given expected table ownTable ample exact shortRooms words caseRecord concat caseOf bookOf studentsK workshopsK pairsK caseWith bookWith K bookK visitsK answerK printedK engine outcomeUnless ruleOutcome outcomeOf refusal causes caseCauses roomCauses bookCauses badTie workshopTies studentTies badRepeat badScores badPair badRoom needed allSeats seatsOf badRange badTiers badWorkshop badStudent badCounts badOrder namesNobody notRising badNumber kindFalls badForm resultsOf entries entryAt unnamed marketOf rows rowAt signed word firstBad update pick find tally any keep tabulate upto total count lazyGaleShapley fuel run step turn apply settle close interviewAll best lowestOf below holders due choices open? unopened declined outscored start byStage insert interviewed printed visitsText visitLines placeLines numbers decimal digitsWithin
 computed = record { answers = refl; own = refl; exactly = refl; shortly = refl; text = refl }

@@ -1,4 +1,5 @@
 pub mod Layout
+pub mod Causes
 pub mod Refusals
 pub mod Engine
 pub mod Buffers
