@@ -7,7 +7,7 @@ use lib.ListN.{length, take, replicate}
 use Rattle.lgs.specs.Rule.{Interview}
 use Rattle.format.specs.Refusals.{Room}
 use Rattle.format.specs.Engine.{placed, next, refused, engine, Outcome}
-use Rattle.format.specs.Printed.{printed}
+use Rattle.format.specs.Printed.{ascii, printed}
 use Rattle.format.specs.Promises.{Example}
 
 -- ---- bytes from fields
@@ -77,15 +77,14 @@ answerK = placed (1 ∷ 0 ∷ 2 ∷ []) visitsK
 -- the lines that the program prints for K
 unfoldable pub printedK : List ℕ
 printedK =
-    112 ∷ 108 ∷ 97 ∷ 99 ∷ 101 ∷ 32 ∷ 49 ∷ 32 ∷ 49 ∷ 10  -- place 1 1
-    ∷ 112 ∷ 108 ∷ 97 ∷ 99 ∷ 101 ∷ 32 ∷ 50 ∷ 32 ∷ 48 ∷ 10  -- place 2 0
-    ∷ 112 ∷ 108 ∷ 97 ∷ 99 ∷ 101 ∷ 32 ∷ 51 ∷ 32 ∷ 50 ∷ 10  -- place 3 2
-    ∷ 118 ∷ 105 ∷ 115 ∷ 105 ∷ 116 ∷ 115 ∷ 32 ∷ 52 ∷ 10  -- visits 4
-    ∷ 118 ∷ 105 ∷ 115 ∷ 105 ∷ 116 ∷ 32 ∷ 49 ∷ 32 ∷ 49 ∷ 10  -- visit 1 1
-    ∷ 118 ∷ 105 ∷ 115 ∷ 105 ∷ 116 ∷ 32 ∷ 49 ∷ 32 ∷ 50 ∷ 10  -- visit 1 2
-    ∷ 118 ∷ 105 ∷ 115 ∷ 105 ∷ 116 ∷ 32 ∷ 50 ∷ 32 ∷ 50 ∷ 10  -- visit 2 2
-    ∷ 118 ∷ 105 ∷ 115 ∷ 105 ∷ 116 ∷ 32 ∷ 51 ∷ 32 ∷ 50 ∷ 10  -- visit 3 2
-    ∷ []
+    ascii "place 1 1\n"
+    ++ ascii "place 2 0\n"
+    ++ ascii "place 3 2\n"
+    ++ ascii "visits 4\n"
+    ++ ascii "visit 1 1\n"
+    ++ ascii "visit 1 2\n"
+    ++ ascii "visit 2 2\n"
+    ++ ascii "visit 3 2\n"
 
 -- a case, a book, and the answer to them
 pub record Sample : Type 0 where
