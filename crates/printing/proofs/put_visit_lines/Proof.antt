@@ -1,4 +1,4 @@
--- `printing::put_visits` meets its contract. The invariant: the lines of the first i interviews are put after the line with the count.
+-- `printing::put_visit_lines` meets its contract. The invariant: the lines of the first i interviews are put.
 use Prim.Native.Nat.{ℕ, _+_, _*_, _≤_, _-_}
 use mathlib.Core.Path.{_≡_, refl, ap, sym, _∙_}
 use mathlib.Core.List.{List, [], _∷_, _++_}
@@ -6,33 +6,26 @@ use native.Mathlib.Omega.{arith}
 use native.Mathlib.Numerals.{add-one}
 use borrow.Author.Needs.{needs}
 use lib.ListN.{length, getD, take}
-use Rattle.format.specs.Printed.{lineOf, placeWord, visitWord, placeLines, visitLines}
+use Rattle.format.specs.Printed.{lineOf, visitWord, visitLines}
 use Rattle.api.specs.Text.{interviewsAt}
 use Rattle.printing.specs.Text.{Put}
 use Rattle.printing.proofs.Laws.{put-none, put-then, put-within, put-length}
-use Rattle.printing.proofs.Lines.{places-on, places-none, visits-on, visits-none, visits-text}
-use Rattle.printing.proofs.put_visits.Statement.{statement}
-use Rattle.printing.proofs.put_visits.Tie as tie
-use Rattle.printing.proofs.put_visits.Reads as reads
-use Rattle.printing.proofs.put_visits.Lts as lts
-use Rattle.printing.proofs.put_line1.Reads as put-line1-reads
+use Rattle.printing.proofs.Lines.{visits-on, visits-none}
+use Rattle.printing.proofs.put_visit_lines.Statement.{statement}
+use Rattle.printing.proofs.put_visit_lines.Tie as tie
+use Rattle.printing.proofs.put_visit_lines.Reads as reads
+use Rattle.printing.proofs.put_visit_lines.Lts as lts
 use Rattle.printing.proofs.put_line2.Reads as put-line2-reads
 use Rattle.printing.proofs.wide.Reads as wide-reads
 
 abbrev Inv-loop : tie.InvT-loop
-Inv-loop out₀ at visits count end₀ i₀ t8 out end i = (i ≤ count) × Put (visitLines (interviewsAt i visits)) end₀ out₀ out end
+Inv-loop out₀ at visits count end₀ i₀ t8 out end i = (i ≤ count) × Put (visitLines (interviewsAt i visits)) at out₀ out end
 
 abbrev μ-loop : tie.MeasureT-loop
 μ-loop out₀ at visits count end₀ i₀ t8 out end i = count - i
 
-slice-aggregate-put-line1 : tie.Need-slice-aggregate-put-line1 Inv-loop μ-loop
-slice-aggregate-put-line1 c = search needs
-
-put-line1-requires : tie.Need-put-line1-requires Inv-loop μ-loop
-put-line1-requires c κs = search needs
-
 loop-holds : tie.Need-loop-holds Inv-loop μ-loop
-loop-holds c = (omega arith, rw (visits-none (c .before .before .before .before .before .before .before .args .visits .now)) (put-none _ _ (put-within (c .before .before .put-line1 .ensures))))
+loop-holds c = (omega arith, rw (visits-none (c .before .before .args .visits .now)) (put-none _ _ (c .before .before .pre .0)))
 
 slice-aggregate-put-line2 : tie.Need-slice-aggregate-put-line2 Inv-loop μ-loop
 slice-aggregate-put-line2 c = search needs
@@ -76,28 +69,27 @@ loop-less c = omega arith
 loop-again : tie.Need-loop-again Inv-loop μ-loop
 loop-again c =
     let here = c .before .before .before .before .before .before .before .before .before .before .loop in
-    let start = c .before .before .before .before .before .before .before .before .before .before .before .before .before .before .before .before .before .before in
+    let start = c .before .before .before .before .before .before .before .before .before .before .before .before .before in
     let l = start .args .visits .now in
-    let line : Put (lineOf visitWord (getD l (2 * here .i) 0 ∷ getD l (2 * here .i + 1) 0 ∷ [])) (here .end) (here .out) (c .before .before .put-line2 .last .0) (c .before .before .put-line2 .result) = rw (c .before .before .before .before .before .wide .ensures, c .before .before .before .wide2 .ensures) at (c .before .before .put-line2 .ensures .0) in
-    (omega arith, rw (add-one (here .i), visits-on l (here .i)) (put-then (put-within (c .before .before .before .before .before .before .before .before .before .before .before .before .before .put-line1 .ensures)) (here .inv .1) line))
+    let put = c .before .before .put-line2 in
+    let line : Put (lineOf visitWord (getD l (2 * here .i) 0 ∷ getD l (2 * here .i + 1) 0 ∷ [])) (here .end) (here .out) (put .last .0) (put .result) =
+    rw (c .before .before .before .before .before .wide .ensures, c .before .before .before .wide2 .ensures) at (put .ensures .0) in
+    (omega arith, rw (add-one (here .i), visits-on l (here .i)) (put-then (start .pre .0) (here .inv .1) line))
 
 same-length : tie.Need-same-length Inv-loop μ-loop
-same-length c = put-length (c .before .loop .inv .1) ∙ put-length (c .before .before .before .before .put-line1 .ensures)
+same-length c = put-length (c .before .loop .inv .1)
 
 returns : tie.Need-returns Inv-loop μ-loop
 returns c =
-    let start = c .before .before .before .before .before .before .before .before .before in
-    let e : c .before .loop .i ≡ start .args .count = omega arith in
-    rw (visits-text (start .args .visits .now) (start .args .count)) at (put-then (start .pre .0) (c .before .before .before .before .put-line1 .ensures) (rw e at (c .before .loop .inv .1)))
+    let e : c .before .loop .i ≡ c .before .before .before .before .args .count = omega arith in
+    rw e at (c .before .loop .inv .1)
 
-pub put-visits-spec : {M : Type 1} → statement M
-put-visits-spec =
+pub put-visit-lines-spec : {M : Type 1} → statement M
+put-visit-lines-spec =
     tie.close
     (tie.spec
     Inv-loop
     μ-loop
-    slice-aggregate-put-line1
-    put-line1-requires
     loop-holds
     slice-aggregate-put-line2
     mul-wide

@@ -1,0 +1,38 @@
+-- `printing::put_visits` meets its contract: the line with the count, and then the lines of the interviews.
+use Rattle.printing.proofs.Laws.{put-then}
+use Rattle.printing.proofs.Lines.{visits-text}
+use borrow.Author.Needs.{needs}
+use Rattle.printing.proofs.put_visits.Statement.{statement}
+use Rattle.printing.proofs.put_visits.Tie as tie
+use Rattle.printing.proofs.put_visits.Reads as reads
+use Rattle.printing.proofs.put_visits.Lts as lts
+use Rattle.printing.proofs.put_line1.Reads as put-line1-reads
+use Rattle.printing.proofs.put_visit_lines.Reads as put-visit-lines-reads
+
+slice-aggregate-put-line1 : tie.Need-slice-aggregate-put-line1
+slice-aggregate-put-line1 c = search needs
+
+put-line1-requires : tie.Need-put-line1-requires
+put-line1-requires c κs = search needs
+
+put-visit-lines-requires : tie.Need-put-visit-lines-requires
+put-visit-lines-requires c κs = search needs
+
+same-length : tie.Need-same-length
+same-length c = search needs
+
+returns : tie.Need-returns
+returns c =
+    let start = c .before .before .before .before .before .before .before .before .before .before .before in
+    let both = put-then (start .pre .0) (c .before .before .before .before .before .before .put-line1 .ensures) (c .before .before .put-visit-lines .ensures) in
+    rw (visits-text (start .args .visits .now) (start .args .count)) at both
+
+pub put-visits-spec : {M : Type 1} → statement M
+put-visits-spec =
+    tie.close
+    (tie.spec
+    slice-aggregate-put-line1
+    put-line1-requires
+    put-visit-lines-requires
+    same-length
+    returns)
