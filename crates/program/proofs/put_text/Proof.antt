@@ -2,12 +2,12 @@
 use mathlib.Core.Path.{_≡_, sym}
 use native.Mathlib.Omega.{arith}
 use lib.ListN.{length}
-use Rattle.place.proofs.Laws.{answer-fits, answer-text}
+use Rattle.program.proofs.Laws.{answer-fits, answer-text}
 use borrow.Author.Needs.{needs}
-use Rattle.place.proofs.put_text.Statement.{statement}
-use Rattle.place.proofs.put_text.Tie as tie
-use Rattle.place.proofs.put_text.Reads as reads
-use Rattle.place.proofs.put_text.Lts as lts
+use Rattle.program.proofs.put_text.Statement.{statement}
+use Rattle.program.proofs.put_text.Tie as tie
+use Rattle.program.proofs.put_text.Reads as reads
+use Rattle.program.proofs.put_text.Lts as lts
 use Rattle.answering.proofs.count_students.Reads as count-students-reads
 use Rattle.engine.proofs.place_alone.Reads as place-alone-reads
 use Rattle.printing.proofs.put_answer.Reads as put-answer-reads
@@ -37,7 +37,9 @@ slice-aggregate-put-answer-2 : tie.Need-slice-aggregate-put-answer-2
 slice-aggregate-put-answer-2 c = search needs
 
 put-answer-requires : tie.Need-put-answer-requires
-put-answer-requires c κs = rw (c .before .before .before .count-students .ensures) (answer-fits _ _ _ _ _ _ _ _ _ _ _ _ _ (c .before .before .before .before .before .before .before .before .place-alone .ensures))
+put-answer-requires c κs =
+    rw (c .before .before .before .count-students .ensures)
+    (answer-fits (c .before .before .before .before .before .before .before .before .place-alone .ensures))
 
 same-length : tie.Need-same-length
 same-length c = search needs
@@ -47,7 +49,9 @@ returns c =
     let engine = c .before .before .before .before .before .before .before .before .before .before .before .place-alone in
     let places : length (engine .last .1 .1 .0) ≡ 512 = engine .kept .1 .1 .0 in
     let visits : length (engine .last .1 .1 .1 .0) ≡ 8192 = engine .kept .1 .1 .1 .0 in
-    rw (sym (answer-text _ _ _ _ _ _ _ _ _ _ _ _ _ (engine .ensures)), sym (c .before .before .before .before .before .before .count-students .ensures)) (c .before .before .put-answer .ensures .1 (omega arith))
+    let put = c .before .before .put-answer .ensures in
+    rw (sym (answer-text (engine .ensures)), sym (c .before .before .before .before .before .before .count-students .ensures))
+    (record { put = put .0; whole = put .1 (omega arith) })
 
 pub put-text-spec : {M : Type 1} → statement M
 put-text-spec =
