@@ -3,6 +3,7 @@
 pub mod brute;
 pub mod fast;
 pub mod gen;
+pub mod header;
 pub mod lending;
 pub mod literal;
 pub mod model;

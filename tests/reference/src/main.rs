@@ -10,7 +10,7 @@ use reference::lending::{self, Call, Loan};
 use reference::model::*;
 use reference::mutants::{self, Mutant};
 use reference::tally::{self, Part, Tally};
-use reference::{literal, program, proved};
+use reference::{header, literal, program, proved};
 use std::path::Path;
 use std::process::ExitCode;
 
@@ -135,6 +135,7 @@ fn parts(options: &Options) -> Vec<Part<'_>> {
         part("flaws of engines", flaws_found),
         part("oversized input", oversized_input),
         part("slips break demands", slips_break_demands),
+        part("C header", |tally, _| header::run(tally)),
     ];
     match std::env::var_os("PLACE_BIN") {
         Some(path) => parts.push(Part {
@@ -507,11 +508,8 @@ fn flaws_found(tally: &mut Tally, options: &Options) {
     tally.check(blamed == 0, || format!("honest, blamed {blamed} times"));
     tally.note(&format!("{} inputs, found by:", inputs.len()));
     for flaw in &lending::FLAWS {
-        let found = count_found(&|case: &[u8], book: &[u8], loan: &Loan| {
-            let outcome = lending::honest(case, book, loan);
-            (flaw.spoil)(loan, &outcome);
-            outcome
-        });
+        let found =
+            count_found(&|case: &[u8], book: &[u8], loan: &Loan| flaw.spoil(case, book, loan));
         tally.note(&format!("{found:6} {}", flaw.name));
         tally.check(found > 0, || format!("not found: {}", flaw.name));
     }
