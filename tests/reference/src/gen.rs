@@ -618,7 +618,7 @@ fn book_swap(rng: &mut Rng, input: &mut Input) {
 /// The input cut to every shorter length, and with every byte of every record changed.
 pub fn sweep(input: &Input) -> Vec<Input> {
     let mut inputs = Vec::new();
-    let cut = |length: usize, part: fn(&mut Input) -> &mut Vec<u8>| {
+    let cut = |length: usize, part: Bytes| {
         let mut shorter = input.clone();
         part(&mut shorter).truncate(length);
         shorter
@@ -634,21 +634,19 @@ pub fn sweep(input: &Input) -> Vec<Input> {
     inputs
 }
 
-fn case_part(input: &mut Input) -> &mut Vec<u8> {
+/// The case's bytes or the book's.
+pub type Bytes = fn(&mut Input) -> &mut Vec<u8>;
+
+pub fn case_part(input: &mut Input) -> &mut Vec<u8> {
     &mut input.case
 }
 
-fn book_part(input: &mut Input) -> &mut Vec<u8> {
+pub fn book_part(input: &mut Input) -> &mut Vec<u8> {
     &mut input.book
 }
 
 /// Flips each bit of one byte, and sets it to 0, to 255, one up and one down.
-fn change_every_way(
-    inputs: &mut Vec<Input>,
-    input: &Input,
-    at: usize,
-    part: fn(&mut Input) -> &mut Vec<u8>,
-) {
+fn change_every_way(inputs: &mut Vec<Input>, input: &Input, at: usize, part: Bytes) {
     let mut original = input.clone();
     let byte = part(&mut original)[at];
     let flips = (0..8).map(|bit| byte ^ (1 << bit));
