@@ -236,33 +236,20 @@ fn devices(tally: &mut Tally, bench: &Bench) {
 
 // ---- Lengths and pipes ----
 
+/// Each file by name, with its record's size and an input where it has a given length.
+const FILES: [(&str, usize, fn(usize) -> Input); 2] = [
+    ("case", CASE_RECORD, with_case_of),
+    ("book", BOOK_RECORD, with_book_of),
+];
+
 /// Empty files and files around the longest length.
 fn sizes(tally: &mut Tally, bench: &Bench) {
-    for length in [
-        0,
-        1,
-        15,
-        16,
-        MAX_FILE - 1,
-        MAX_FILE,
-        MAX_FILE + 1,
-        MAX_FILE + 16,
-    ] {
-        let name = format!("case of {length} bytes");
-        bench.expect_answer(tally, &name, &with_case_of(length));
-    }
-    for length in [
-        0,
-        1,
-        7,
-        8,
-        MAX_FILE - 1,
-        MAX_FILE,
-        MAX_FILE + 1,
-        MAX_FILE + 8,
-    ] {
-        let name = format!("book of {length} bytes");
-        bench.expect_answer(tally, &name, &with_book_of(length));
+    for (file, record, with) in FILES {
+        let short = [0, 1, record - 1, record];
+        let long = [MAX_FILE - 1, MAX_FILE, MAX_FILE + 1, MAX_FILE + record];
+        for length in short.into_iter().chain(long) {
+            bench.expect_answer(tally, &format!("{file} of {length} bytes"), &with(length));
+        }
     }
     let both = Input {
         book: with_book_of(MAX_FILE).book,
@@ -316,24 +303,14 @@ fn pipes(tally: &mut Tally, bench: &Bench) {
     ] {
         bench.expect_piped(tally, &format!("pipes cut at {cuts:?}"), &example, cuts);
     }
-    for length in [MAX_FILE, MAX_FILE + 1] {
-        for cut in [length / 2, length - 1] {
-            let input = with_case_of(length);
-            let cuts = (cut, input.book.len() / 2);
-            bench.expect_piped(
-                tally,
-                &format!("case of {length} cut at {cuts:?}"),
-                &input,
-                cuts,
-            );
-            let input = with_book_of(length);
-            let cuts = (input.case.len() / 2, cut);
-            bench.expect_piped(
-                tally,
-                &format!("book of {length} cut at {cuts:?}"),
-                &input,
-                cuts,
-            );
+    for (file, _, with) in FILES {
+        for length in [MAX_FILE, MAX_FILE + 1] {
+            let input = with(length);
+            let (case, book) = (input.case.len(), input.book.len());
+            for cuts in [(case / 2, book / 2), (case - 1, book - 1)] {
+                let name = format!("{file} of {length} bytes, pipes cut at {cuts:?}");
+                bench.expect_piped(tally, &name, &input, cuts);
+            }
         }
     }
 }
