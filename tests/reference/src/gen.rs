@@ -388,7 +388,12 @@ const DAMAGES: [Damage; 10] = [
     book_equal_mark,
 ];
 
-const FILE_DAMAGES: [FileDamage; 4] = [change_length, change_byte, swap_records, repeat_record];
+const FILE_DAMAGES: [FileDamage; 4] = [
+    change_length,
+    repeat_record,
+    |rng, bytes, size| change_byte(rng, bytes, size),
+    |rng, bytes, size| swap_records(rng, bytes, size),
+];
 
 /// A small input with one to three damages.
 pub fn damaged_input(rng: &mut Rng) -> Input {
@@ -437,7 +442,7 @@ fn change_length(rng: &mut Rng, bytes: &mut Vec<u8>, size: usize) {
     }
 }
 
-fn change_byte(rng: &mut Rng, bytes: &mut Vec<u8>, size: usize) {
+fn change_byte(rng: &mut Rng, bytes: &mut [u8], size: usize) {
     if let Some(start) = record_start(rng, bytes, size) {
         let byte = &mut bytes[start + rng.below(size)];
         *byte = match rng.below(3) {
@@ -448,7 +453,7 @@ fn change_byte(rng: &mut Rng, bytes: &mut Vec<u8>, size: usize) {
     }
 }
 
-fn swap_records(rng: &mut Rng, bytes: &mut Vec<u8>, size: usize) {
+fn swap_records(rng: &mut Rng, bytes: &mut [u8], size: usize) {
     if let Some(first) = record_start(rng, bytes, size) {
         let records = bytes.len() / size;
         let second = if rng.chance(50) {

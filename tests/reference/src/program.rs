@@ -236,8 +236,10 @@ fn devices(tally: &mut Tally, bench: &Bench) {
 
 // ---- Lengths and pipes ----
 
-/// Each file by name, with its record's size and an input where it has a given length.
-const FILES: [(&str, usize, fn(usize) -> Input); 2] = [
+/// A file by name, with its record's size and an input where it has a given length.
+type Sized = (&'static str, usize, fn(usize) -> Input);
+
+const FILES: [Sized; 2] = [
     ("case", CASE_RECORD, with_case_of),
     ("book", BOOK_RECORD, with_book_of),
 ];
