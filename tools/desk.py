@@ -98,6 +98,9 @@ class Problems:
         where = f'{file}, row {row}' + (f', column "{heading}"' if heading else "")
         self.lines.append(f"{where}: {text}")
 
+    def has(self, file):
+        return any(line.startswith(file) for line in self.lines)
+
     def stop_if_any(self):
         if self.lines:
             rest = [f"and {len(self.lines) - 20} more."] if len(self.lines) > 20 else []
@@ -225,7 +228,7 @@ def check_people(file, rows, problems):
             problems.add(file, row.at, heading, f'"{name}" stands in row {first[name]} already. Two of the same name need something to tell them apart.')
         else:
             first[name] = row.at
-    if not rows:
+    if not rows and not problems.has(file):
         problems.add(file, 2, heading, "there is nobody. At least one row is needed below the headings.")
     if len(rows) > MOST[file]:
         problems.add(file, rows[MOST[file]].at, "", f"there are {len(rows)} rows; {MOST[file]} is the most.")
