@@ -169,7 +169,7 @@ def read_headings(file, rows):
     places = {}
     for column in COLUMNS[file]:
         if found.count(column.heading) != 1:
-            how = "twice" if column.heading in found else "missing"
+            how = "there twice" if column.heading in found else "missing"
             seen = ", ".join(cell for cell in found if cell)
             raise Stop(f'{file}, row 1: the column "{column.heading}" is {how}. The headings are {seen}; needed are {headings_of(file)}.')
         places[column.heading] = found.index(column.heading)

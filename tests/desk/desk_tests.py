@@ -339,7 +339,7 @@ WRONG = [
     ("a heading missing", "students.csv", "student;line group\nAnna;2\n",
      'students.csv, row 1: the column "stage" is missing. The headings are student, line group; needed are student, stage, line group.\n'),
     ("a heading twice", "students.csv", "student,stage,stage,line group\nAnna,1,1,2\n",
-     'students.csv, row 1: the column "stage" is twice. The headings are student, stage, stage, line group; needed are student, stage, line group.\n'),
+     'students.csv, row 1: the column "stage" is there twice. The headings are student, stage, stage, line group; needed are student, stage, line group.\n'),
     ("an empty cell", "students.csv", students("Anna,,2\n"), f'students.csv, row 2, column "stage": the cell is empty; {RANGE} 1 to 512.{END}'),
     ("a stage of 0", "students.csv", students("Anna,0,2\n"), f'students.csv, row 2, column "stage": "0" is there; {RANGE} 1 to 512.{END}'),
     ("a word for a number", "students.csv", students("Anna,1,two\n"),
