@@ -153,17 +153,3 @@ pub seat-in : (ys : List ℕ) (i : ℕ) → 0 < getD ys i 0 → Mem (getD ys i 0
 seat-in [] i p = absurd (omega arith)
 seat-in (y ∷ ys) zero p = here refl
 seat-in (y ∷ ys) (suc i) p = later (seat-in ys i p)
-
-pub seat-at : (y : ℕ) (ys : List ℕ) → Mem y ys → (i : ℕ) × (i < length ys) × (getD ys i 0 ≡ y)
-seat-at y [] m = absurd (not-nil m)
-seat-at y (z ∷ ys) m =
-    ⊎-elim (λ (e : y ≡ z). (0, omega arith, sym e))
-    (λ k. let r : (i : ℕ) × (i < length ys) × (getD ys i 0 ≡ y) = seat-at y ys k in (suc (r .0), omega (arith, r .1), r .2))
-    (cases-cons m)
-
-pub ranked-once : (rank : ℕ → ℕ) (ys : List ℕ) → Ranked rank ys → (i j : ℕ) → 0 < getD ys i 0 → getD ys i 0 ≡ getD ys j 0 → i ≡ j
-ranked-once rank [] r i j p e = absurd (omega arith)
-ranked-once rank (y ∷ ys) r zero zero p e = refl
-ranked-once rank (y ∷ ys) r zero (suc j) p e = absurd (omega (arith, r .0 (getD ys j 0) (seat-in ys j (omega arith)), ap rank e))
-ranked-once rank (y ∷ ys) r (suc i) zero p e = absurd (omega (arith, r .0 (getD ys i 0) (seat-in ys i p), ap rank e))
-ranked-once rank (y ∷ ys) r (suc i) (suc j) p e = ap suc (ranked-once rank ys (r .1) i j p e)
