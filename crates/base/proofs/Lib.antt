@@ -7,3 +7,5 @@ pub mod Below
 pub mod Shift
 pub mod Signed
 pub mod Digits
+pub mod Grid
+pub mod Coding

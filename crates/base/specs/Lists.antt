@@ -60,5 +60,5 @@ pick better x [] = x
 pick better x (y ∷ ys) = pick better (cond (better y x) y x) ys
 
 -- the function f, changed at k to v
-unfoldable pub update : (ℕ → ℕ) → ℕ → ℕ → ℕ → ℕ
+unfoldable pub update : {A : Type 0} → (ℕ → A) → ℕ → A → ℕ → A
 update f k v x = cond (eqb x k) v (f x)

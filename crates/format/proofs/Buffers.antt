@@ -15,7 +15,8 @@ use Rattle.format.specs.Layout.{rows}
 use Rattle.format.specs.Refusals.{Room, badRoom, needed}
 use Rattle.format.specs.Engine.{placed, next, refused, engine, Outcome}
 use Rattle.format.specs.Buffers.{flat, withHead, placesAfter, visitsAfter}
-use Rattle.format.specs.Promises.{Valid, short, interviewsOf, Kept, BuffersKept}
+use Rattle.format.specs.Promises.{Valid, interviewsOf, Kept, BuffersKept}
+use Rattle.format.proofs.Causes.{room-passes}
 use Rattle.format.proofs.Runs.{when-placed, when-next}
 use Rattle.format.proofs.Promises.{heads-fit}
 
@@ -44,7 +45,7 @@ module _ (case book : List ℕ) (room : Room) where
   unfolding badRoom
   enough valid =
       let r : (ltb (room .places) (needed (rows case) .places) ≡ false) × (_ ≡ false) =
-      or-false (ltb (room .places) (needed (rows case) .places)) _ (is-false (badRoom (rows case) room) (λ b. valid 6 0 (short b))) in
+      or-false (ltb (room .places) (needed (rows case) .places)) _ (is-false (badRoom (rows case) room) (room-passes case book room valid)) in
       (ltb-false _ _ (r .0), ltb-false _ _ (or-false (ltb (room .visits) (needed (rows case) .visits)) _ (r .1) .0))
 
   kept : (places visits : List ℕ) → length places ≡ room .places → length visits ≡ room .visits

@@ -19,7 +19,7 @@ use Rattle.lgs.proofs.OptimalExists.{optimal-exists as optimal-for}
 use Rattle.lgs.proofs.Promises.{fits-exists, listed-length}
 use Rattle.format.specs.Layout.{rows, resultsOf, ofKind}
 use Rattle.format.specs.Refusals.{Room, refusal, needed}
-use Rattle.format.specs.Engine.{placed, next, refused, engine, marketIn, resultsIn, Outcome, outcomeOf, outcomeUnless}
+use Rattle.format.specs.Engine.{placed, next, refused, engine, marketIn, resultsIn, Outcome, outcomeOf, ruleOutcome, outcomeUnless}
 use Rattle.format.specs.Promises.{Valid, Refused, withPlaces, withNext, RunEnds, Demand1, FitsBook, interviewsOf, ByRule, Demand2Placed, Demand2Next, Demand2, Demand3, FitExists, OptimalExists, SameListed, UnlistedUnused, HeadsFit, Promised}
 use Rattle.format.proofs.Causes.{refusal-some, refusal-none, passed}
 use Rattle.format.proofs.Runs.{rule, wf, distinct, ends, engine-valid, Finished, Stopped, when-placed, when-next, placed-promise, next-promise}
@@ -31,7 +31,7 @@ pub run-ends : RunEnds
 run-ends = ends
 
 pub demand1 : Demand1
-unfolding engine outcomeUnless outcomeOf
+unfolding engine outcomeUnless ruleOutcome outcomeOf
 demand1 case book room = by-refusal (refusal case book room) refl
   where
     answered : Valid case book room → (x : Step) → rule case book room ≡ x → ByRule case book (outcomeOf (marketIn case .students) x)
@@ -126,8 +126,9 @@ promised case book room = by-answer (engine case book room) refl
         rw (same-number, same-place) at r
 
     by-answer : (a : Outcome) → engine case book room ≡ a → Promised case book room a
-    by-answer (placed places vs) e = (demand2 .whenPlaced case book room places vs e, demand3 case book room places vs e)
-    by-answer (next s w vs) e = demand2 .whenNext case book room s w vs e
+    by-answer (placed places vs) e =
+        (when-placed case book room places vs e .valid, demand2 .whenPlaced case book room places vs e, demand3 case book room places vs e)
+    by-answer (next s w vs) e = (when-next case book room s w vs e .valid, demand2 .whenNext case book room s w vs e)
     by-answer (refused k i) e = when-refused k i e (demand1 case book room)
 
 -- ---- that these say something

@@ -11,7 +11,7 @@ use Rattle.lgs.specs.Promises.{Placed, NextInterview}
 use Rattle.lgs.proofs.Valid.{WellFormed, Distinct}
 use Rattle.lgs.proofs.Promises.{lgs-ends, lgs-placed, lgs-next}
 use Rattle.format.specs.Refusals.{Room, refusal}
-use Rattle.format.specs.Engine.{placed, next, refused, engine, marketIn, resultsIn, Outcome, outcomeOf, outcomeUnless}
+use Rattle.format.specs.Engine.{placed, next, refused, engine, marketIn, resultsIn, Outcome, outcomeOf, ruleOutcome, outcomeUnless}
 use Rattle.format.specs.Promises.{Valid}
 use Rattle.format.proofs.Reading.{market-wf, results-distinct}
 use Rattle.format.proofs.Causes.{refusal-none, none-refusal, passed}
@@ -31,7 +31,7 @@ module _ (case book : List ℕ) (room : Room) where
     ends = lgs-ends (marketIn case) wf (resultsIn book) distinct
 
     pub engine-valid : engine case book room ≡ outcomeOf (marketIn case .students) rule
-    unfolding engine outcomeUnless
+    unfolding engine outcomeUnless ruleOutcome
     engine-valid = rw (none-refusal case book room valid)
 
   -- a placement comes from a run that finished
@@ -48,7 +48,7 @@ module _ (case book : List ℕ) (room : Room) where
 
   answered : (a : Outcome) → ((k i : ℕ) → refused k i ≡ a → ⊥) → engine case book room ≡ a
       → Valid case book room × (outcomeOf (marketIn case .students) rule ≡ a)
-  unfolding engine outcomeUnless
+  unfolding engine outcomeUnless ruleOutcome
   answered a nope e = by-refusal (refusal case book room) refl e
     where
       by-refusal : (r : Option (ℕ × ℕ)) → refusal case book room ≡ r → outcomeUnless r (marketIn case) (resultsIn book) ≡ a

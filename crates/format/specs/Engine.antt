@@ -25,9 +25,13 @@ marketIn case = marketOf (rows case)
 abbrev pub resultsIn : List ℕ → Results
 resultsIn book = resultsOf (entries book)
 
+-- what the staged rule answers on a market and results
+unfoldable pub ruleOutcome : Market → Results → Outcome
+ruleOutcome M B = outcomeOf (M .students) (lazyGaleShapley M B)
+
 unfoldable pub outcomeUnless : Option (ℕ × ℕ) → Market → Results → Outcome
 outcomeUnless (some r) M B = refused (r .0) (r .1)
-outcomeUnless none M B = outcomeOf (M .students) (lazyGaleShapley M B)
+outcomeUnless none M B = ruleOutcome M B
 
 -- a refusal, or else what the staged rule gives
 unfoldable pub engine : List ℕ → List ℕ → Room → Outcome

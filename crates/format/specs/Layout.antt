@@ -1,7 +1,7 @@
 -- The case and the book as lists of bytes, numbers below 256, and the market and the results that they hold (document 01, "The case and the book").
 use Prim.Native.Nat.{ℕ, zero, suc, _+_, _*_, _/_}
-use mathlib.Core.Bool.{Bool, _&&_}
-use mathlib.Core.List.{List}
+use mathlib.Core.Bool.{Bool, cond, _&&_}
+use mathlib.Core.List.{List, [], _∷_}
 use lib.ListN.{length, getD}
 use lib.Dec.{eqb}
 use Rattle.base.specs.Lists.{tabulate, any, tally, find}
@@ -21,7 +21,9 @@ pub record Row : Type 0 where
   pub second : ℕ  -- bytes 4 and 5
   pub third : ℕ  -- bytes 6 and 7
   pub fourth : ℕ  -- bytes 8 and 9
-  pub rest : ℕ  -- bytes 10 to 15, as the sum of their three fields: 0 exactly when all six are 0
+  pub fifth : ℕ  -- bytes 10 and 11
+  pub sixth : ℕ  -- bytes 12 and 13
+  pub seventh : ℕ  -- bytes 14 and 15
 
 unfoldable pub rowAt : List ℕ → ℕ → Row
 rowAt bytes i =
@@ -33,7 +35,9 @@ rowAt bytes i =
       second = word bytes (at + 4);
       third = word bytes (at + 6);
       fourth = word bytes (at + 8);
-      rest = word bytes (at + 10) + word bytes (at + 12) + word bytes (at + 14);
+      fifth = word bytes (at + 10);
+      sixth = word bytes (at + 12);
+      seventh = word bytes (at + 14);
     }
 
 -- how many whole records the case has
@@ -45,10 +49,18 @@ rows case = tabulate (rowAt case) (rowCount case)
 
 -- what stands for a record that is not there
 abbrev pub noRow : Row
-noRow = record { kind = 0; pad = 0; first = 0; second = 0; third = 0; fourth = 0; rest = 0 }
+noRow =
+    record { kind = 0; pad = 0; first = 0; second = 0; third = 0; fourth = 0; fifth = 0; sixth = 0; seventh = 0 }
 
 abbrev pub ofKind : ℕ → Row → Bool
 ofKind k r = eqb (r .kind) k
+
+-- "bytes not named are zero": byte 1 and the fields that a record of its kind does not name
+unfoldable pub unnamed : Row → List ℕ
+unnamed r =
+    cond (ofKind 3 r)
+    (r .pad ∷ r .fifth ∷ r .sixth ∷ r .seventh ∷ [])
+    (r .pad ∷ r .fourth ∷ r .fifth ∷ r .sixth ∷ r .seventh ∷ [])
 
 -- the record of student s
 abbrev pub isStudent : ℕ → Row → Bool

@@ -1,6 +1,6 @@
 -- The three demands, for every case and book in bytes and every room lent, and what shows that they are not empty. The proofs are in
 -- proofs/Promises.antt.
-use Prim.Native.Nat.{ℕ, _*_, _%_, _≤_, _<_}
+use Prim.Native.Nat.{ℕ, _*_, _≤_}
 use mathlib.Core.Bool.{Bool, true, false}
 use mathlib.Core.Path.{_≡_}
 use mathlib.Core.Logic.{_⊎_}
@@ -13,8 +13,9 @@ use Rattle.lgs.specs.Market.{ConsistentStages}
 use Rattle.lgs.specs.Profiles.{Profile, StrictProfile, RespectsTiers, Fits, StudentOptimal}
 use Rattle.lgs.specs.Rule.{Interview, interviewed, State, going, stopped, finished, lazyGaleShapley}
 use Rattle.lgs.specs.Promises.{Listed, OptimalWhateverUnseen, MinimalInterviews, NextInterview, Begins, matchingOf}
-use Rattle.format.specs.Layout.{Entry, rows, entries, rowCount, entryCount, isInterview}
-use Rattle.format.specs.Refusals.{Room, badForm, badOrder, badCounts, badRange, badRoom, badPair, badScores, badRepeat, badTie, needed}
+use Rattle.format.specs.Layout.{Entry, rows, entries, isInterview}
+use Rattle.format.specs.Causes.{Cause, NothingFound, FoundFirst}
+use Rattle.format.specs.Refusals.{Room, needed, causes}
 use Rattle.format.specs.Engine.{placed, next, refused, engine, marketIn, resultsIn, Outcome}
 use Rattle.format.specs.Buffers.{placesAfter, visitsAfter}
 
@@ -22,35 +23,20 @@ use Rattle.format.specs.Buffers.{placesAfter, visitsAfter}
 -- of at least the stated lengths, gets the next visit or a finished placement, and the run ends. All other input gets one of eleven refusals with
 -- its record".
 
--- i is the first of the places 0 to n - 1 that is bad
-pub record First (bad : ℕ → Bool) (n i : ℕ) : Type 0 where
-  pub within : i < n
-  pub found : bad i ≡ true
-  pub earlier : (k : ℕ) → k < i → bad k ≡ false
-
 module _ (case book : List ℕ) (room : Room) where
-  -- the table of causes: the cause with this number finds this place
-  pub data Cause : ℕ → ℕ → Type 0 where
-    caseLength : (length case % 16 ≡ 0 → ⊥) → Cause 1 0
-    form : (i : ℕ) → First (badForm (rows case)) (rowCount case) i → Cause 2 i
-    order : (i : ℕ) → First (badOrder (rows case)) (rowCount case) i → Cause 3 i
-    counts : badCounts (rows case) ≡ true → Cause 4 0
-    range : (i : ℕ) → First (badRange (rows case)) (rowCount case) i → Cause 5 i
-    short : badRoom (rows case) room ≡ true → Cause 6 0
-    bookLength : (length book % 8 ≡ 0 → ⊥) → Cause 7 0
-    pair : (i : ℕ) → First (badPair (rows case) (entries book)) (entryCount book) i → Cause 8 i
-    score : (i : ℕ) → First (badScores (rows case) (entries book)) (entryCount book) i → Cause 9 i
-    repeated : (i : ℕ) → First (badRepeat (rows case) (entries book)) (entryCount book) i → Cause 10 i
-    tie : (i : ℕ) → First (badTie (rows case) (entries book)) (entryCount book) i → Cause 11 i
-
   -- no cause finds anything
   abbrev pub Valid : Type 0
-  Valid = (k i : ℕ) → Cause k i → ⊥
+  Valid = NothingFound (causes case book room)
 
-  -- the cause k finds the place i, and no earlier cause finds anything
-  pub record Refused (k i : ℕ) : Type 0 where
-    pub cause : Cause k i
-    pub earlier : (j l : ℕ) → j < k → Cause j l → ⊥
+  -- the cause k finds the place i, and no cause before it in the table finds anything
+  abbrev pub Refused : ℕ → ℕ → Type 0
+  Refused = FoundFirst (causes case book room)
+
+-- "one of eleven refusals": the numbers of the causes, in the table's order
+abbrev pub Eleven : Type 0
+Eleven =
+    (case book : List ℕ) (room : Room)
+    → map (λ (c : Cause). c .0) (causes case book room) ≡ 1 ∷ 2 ∷ 3 ∷ 4 ∷ 5 ∷ 6 ∷ 7 ∷ 8 ∷ 9 ∷ 10 ∷ 11 ∷ []
 
 -- the answer is the placement with which the rule finishes, or the next interview at which it stops
 pub data ByRule (case book : List ℕ) : Outcome → Type 0 where
@@ -196,8 +182,8 @@ BuffersKept =
 -- ---- The demands of one answer, for a contract: what holds of it, whichever it is.
 abbrev pub Promised : List ℕ → List ℕ → Room → Outcome → Type 0
 Promised case book room (placed places vs) =
-    Demand2Placed case book places vs × MinimalInterviews (marketIn case) (resultsIn book) places vs
-Promised case book room (next s w vs) = Demand2Next case book room s w vs
+    Valid case book room × Demand2Placed case book places vs × MinimalInterviews (marketIn case) (resultsIn book) places vs
+Promised case book room (next s w vs) = Valid case book room × Demand2Next case book room s w vs
 Promised case book room (refused k i) = Refused case book room k i
 
 -- a case and a book with agreeing stages and a finished run that lists more than the placed pairs
@@ -205,5 +191,5 @@ pub record Example (case book : List ℕ) (room : Room) : Type 0 where
   pub places : List ℕ
   pub interviews : List Interview
   pub answer : engine case book room ≡ placed places interviews
-  pub consistent : ConsistentStages (marketIn case)
+  pub consistent : ConsistentStages (marketIn case) (marketIn case .stage)
   pub listedUnplaced : (s : ℕ) × (w : ℕ) × (interviewed interviews s w ≡ true) × (matchingOf places s ≡ w → ⊥)

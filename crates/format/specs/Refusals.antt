@@ -1,14 +1,14 @@
 -- The eleven refusals (document 01, "When the desk says no"). Each cause is a test on one record, given by its place, or on a whole file.
 use Prim.Native.Nat.{ℕ, suc, _+_, _-_, _*_, _%_}
 use mathlib.Core.Bool.{Bool, not, _&&_, _||_}
-use mathlib.Core.List.{List, [], _∷_}
-use mathlib.Core.Option.{Option, some, none}
+use mathlib.Core.List.{List, [], _∷_, _++_}
+use mathlib.Core.Option.{Option}
 use lib.ListN.{length, getD, take}
 use lib.Dec.{ltb, eqb}
-use Rattle.base.specs.Lists.{total, any, tally}
-use Rattle.base.specs.Search.{firstBad, someIf}
-use Rattle.lgs.specs.Market.{Market}
-use Rattle.format.specs.Layout.{Row, Entry, noRow, noEntry, rows, entries, rowCount, entryCount, ofKind, isStudent, isWorkshop, isPair, isInterview, marketOf, outsideScore}
+use Rattle.base.specs.Lists.{any, tally}
+use Rattle.lgs.specs.Market.{Market, allSeats}
+use Rattle.format.specs.Layout.{Row, Entry, noRow, noEntry, rows, entries, rowCount, entryCount, ofKind, unnamed, isStudent, isWorkshop, isPair, isInterview, marketOf, outsideScore}
+use Rattle.format.specs.Causes.{Cause, whole, each, firstCause}
 
 -- the number is not from low to high
 abbrev pub notWithin : ℕ → ℕ → ℕ → Bool
@@ -30,12 +30,9 @@ module _ (rs : List Row) where
   abbrev pub row : ℕ → Row
   row i = getD rs i noRow
 
-  -- 2: "kind not 1 to 3, or a byte that should be zero": byte 1, bytes 8 and 9 of a student or workshop, and bytes 10 to 15
+  -- 2: "kind not 1 to 3, or a byte that should be zero"
   unfoldable pub badForm : ℕ → Bool
-  badForm i =
-      let r = row i in
-      notWithin 1 3 (r .kind)
-      || (not (eqb (r .pad) 0) || (not (eqb (r .rest) 0) || (not (eqb (r .kind) 3) && not (eqb (r .fourth) 0))))
+  badForm i = notWithin 1 3 (row i .kind) || any (λ x. not (eqb x 0)) (unnamed (row i))
 
   -- 3: "kinds fall" from the record before; the first record has none before it and is compared with itself (0 - 1 is 0)
   unfoldable pub kindFalls : ℕ → Bool
@@ -88,7 +85,7 @@ module _ (rs : List Row) where
       record {
         places = M .students;
         visits = 2 * pairs;
-        seats = total (M .quota) (M .workshops);
+        seats = allSeats M;
         index = pairs;
         states = M .students;
       }
@@ -134,30 +131,36 @@ module _ (rs : List Row) where
     unfoldable pub badTie : ℕ → Bool
     badTie i = any (λ f. studentTies (entry i) f || workshopTies (entry i) f) (take i es)
 
--- ---- the causes, in the table's order, each with its number and the place that it found: the first bad record, or 0 for a whole file
+-- ---- the causes: those of the case, the lent buffers' and those of the book, each in the table's order
 
-unfoldable pub causes : List ℕ → List ℕ → Room → List (ℕ × Option ℕ)
-causes case book room =
+unfoldable pub caseCauses : List ℕ → List Cause
+caseCauses case =
     let rs = rows case in
-    let es = entries book in
-    (1, someIf (not (eqb (length case % 16) 0)) 0)
-    ∷ (2, firstBad (badForm rs) (rowCount case))
-    ∷ (3, firstBad (badOrder rs) (rowCount case))
-    ∷ (4, someIf (badCounts rs) 0)
-    ∷ (5, firstBad (badRange rs) (rowCount case))
-    ∷ (6, someIf (badRoom rs room) 0)
-    ∷ (7, someIf (not (eqb (length book % 8) 0)) 0)
-    ∷ (8, firstBad (badPair rs es) (entryCount book))
-    ∷ (9, firstBad (badScores rs es) (entryCount book))
-    ∷ (10, firstBad (badRepeat rs es) (entryCount book))
-    ∷ (11, firstBad (badTie rs es) (entryCount book))
+    (1, whole (not (eqb (length case % 16) 0)))
+    ∷ (2, each (rowCount case) (badForm rs))
+    ∷ (3, each (rowCount case) (badOrder rs))
+    ∷ (4, whole (badCounts rs))
+    ∷ (5, each (rowCount case) (badRange rs))
     ∷ []
 
--- the first cause that found a place: its number and that place
-abbrev pub firstCause : List (ℕ × Option ℕ) → Option (ℕ × ℕ)
-firstCause [] = none
-firstCause (c ∷ cs) = elim (c .1) [ none ↦ firstCause cs | some i ↦ some (c .0, i) ]
+unfoldable pub roomCauses : List ℕ → Room → List Cause
+roomCauses case room = (6, whole (badRoom (rows case) room)) ∷ []
 
--- "Each cause is tested over its whole file before the next one, in this order."
+unfoldable pub bookCauses : List ℕ → List ℕ → List Cause
+bookCauses case book =
+    let rs = rows case in
+    let es = entries book in
+    (7, whole (not (eqb (length book % 8) 0)))
+    ∷ (8, each (entryCount book) (badPair rs es))
+    ∷ (9, each (entryCount book) (badScores rs es))
+    ∷ (10, each (entryCount book) (badRepeat rs es))
+    ∷ (11, each (entryCount book) (badTie rs es))
+    ∷ []
+
+-- the engine's table
+unfoldable pub causes : List ℕ → List ℕ → Room → List Cause
+causes case book room = caseCauses case ++ (roomCauses case room ++ bookCauses case book)
+
+-- the first cause that finds a place: its number and that place
 unfoldable pub refusal : List ℕ → List ℕ → Room → Option (ℕ × ℕ)
 refusal case book room = firstCause (causes case book room)

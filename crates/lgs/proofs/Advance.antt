@@ -14,7 +14,7 @@ use Rattle.base.proofs.Members.{in-upto, in-keep, keep-in, in-rest, in-front, i
 pub use Rattle.base.proofs.Members.{update-at, update-off}
 use Rattle.lgs.specs.Market.{Market, Results, studentOutside, workshopOutside}
 use Rattle.lgs.specs.Profiles.{Profile}
-use Rattle.lgs.specs.Rule.{State, start, interviewed, declined, open?, choices, due, advance}
+use Rattle.lgs.specs.Rule.{State, start, interviewed, unopened, open?, choices, due, advance}
 use Rattle.lgs.proofs.Invariant.{Setting, Open, open-parts, open-make, Seen, Chosen, Gone, seatless, beyond, taken, Inv, closed-why}
 use Rattle.lgs.proofs.Interviews.{interviewsWith, withInterviews, interviewed-or, interviewed-before, interviewed-after, interviewed-of}
 use Rattle.lgs.proofs.Interviews.{interviewed-in}
@@ -159,11 +159,11 @@ module _ (M : Market) (B : Results) (O : Profile) (Vs : ℕ → ℕ → Bool) (E
       past′ : (t w : ℕ)
           → interviewed (advanced .interviews) t w ≡ true
           → M .studentTier t w < advanced .reached t
-          → (σ .deleted t w ≡ true) ⊎ (declined M B t w ≡ true)
+          → (σ .deleted t w ≡ true) ⊎ (unopened M B t w ≡ true)
       past′ t w v less = ⊎-elim before now (interview-cases t w v)
         where
           -- nothing of the tier that she leaves is open
-          before : interviewed (σ .interviews) t w ≡ true → (σ .deleted t w ≡ true) ⊎ (declined M B t w ≡ true)
+          before : interviewed (σ .interviews) t w ≡ true → (σ .deleted t w ≡ true) ⊎ (unopened M B t w ≡ true)
           before u =
               ⊎-elim
               (λ (e : t ≡ s).
@@ -171,7 +171,7 @@ module _ (M : Market) (B : Results) (O : Profile) (Vs : ℕ → ℕ → Bool) (E
               (λ ne. I .past t w u (omega (arith, theirs t ne)))
               (eq? t s)
 
-          now : (t ≡ s) × Due w → (σ .deleted t w ≡ true) ⊎ (declined M B t w ≡ true)
+          now : (t ≡ s) × Due w → (σ .deleted t w ≡ true) ⊎ (unopened M B t w ≡ true)
           now (e, k) = absurd (omega (arith, k .tier, mine t e, ap (λ u. M .studentTier u w) e))
 
       stays : (t x : ℕ) → (t ≡ s → ⊥) → Chosen M B O Vs σ t x → Chosen M B O Vs advanced t x

@@ -9,8 +9,8 @@ use lib.Dec.{eqb, ltb}
 use Rattle.base.specs.Lists.{upto, keep, update, consIf, count}
 use Rattle.base.proofs.Tests.{bool-cases}
 use Rattle.base.proofs.Members.{keep-in, consIf-in, pick-same}
-use Rattle.lgs.specs.Market.{Market, Results, studentOutside}
-use Rattle.lgs.specs.Rule.{State, Step, going, stopped, finished, Interview, interviewed, declined, open?, choices, due, holders, below}
+use Rattle.lgs.specs.Market.{Market, Results, studentOutside, outscored}
+use Rattle.lgs.specs.Rule.{State, Step, going, stopped, finished, Interview, interviewed, unopened, declined, open?, choices, due, holders, below}
 use Rattle.lgs.specs.Rule.{lowestOf, best, advance, addInterview, interviewAll, close, handOn, settle, apply, turn, step, run, fuel, start}
 use Rattle.lgs.specs.Rule.{lazyGaleShapley}
 use Rattle.lgs.specs.Promises.{Begins, interviewsIn}
@@ -53,7 +53,7 @@ module _ (M : Market) (B : Results) where
   unfolding turn
   turn-grows σ s rest [] = interviews-grow s (due M B σ s) (advance M B σ s)
   turn-grows σ s rest (x ∷ xs) =
-      subst (λ us. Begins (σ .interviews) us) (sym (apply-interviews σ s rest (best M B σ s x xs))) (begins-self (σ .interviews))
+      subst (λ us. Begins (σ .interviews) us) (sym (apply-interviews σ s rest (best M B s x xs))) (begins-self (σ .interviews))
 
   step-grows : (σ : State) (l : List ℕ) → Begins (σ .interviews) (interviewsIn (step M B σ l))
   unfolding step
@@ -97,7 +97,7 @@ module _ (M : Market) (B B′ : Results) (Vs : ℕ → ℕ → Bool) (A : AgreeO
   Inside σ = (s w : ℕ) → interviewed (σ .interviews) s w ≡ true → Vs s w ≡ true
 
   below-same : (σ : State) → Inside σ → (w x y : ℕ) → below M B′ σ w x y ≡ below M B σ w x y
-  unfolding below
+  unfolding below outscored
   below-same σ i w x y =
       ⊎-elim
       (λ (vx : interviewed (σ .interviews) x w ≡ true).
@@ -142,7 +142,7 @@ module _ (M : Market) (B B′ : Results) (Vs : ℕ → ℕ → Bool) (A : AgreeO
       (λ t w v. i t w (subst (λ us. interviewed us t w ≡ true) (settle-interviews M B τ (suc c) rest over) v)) (suc c))
 
   open-same : (σ : State) → Inside σ → (s w : ℕ) → open? M B′ σ s w ≡ open? M B σ s w
-  unfolding open? declined
+  unfolding open? unopened declined
   open-same σ i s w =
       ⊎-elim (λ (v : interviewed (σ .interviews) s w ≡ true). rw (A .workshop s w (i s w v), A .workshopOutside w))
       (λ (v : interviewed (σ .interviews) s w ≡ false). rw v)
@@ -161,7 +161,7 @@ module _ (M : Market) (B B′ : Results) (Vs : ℕ → ℕ → Bool) (A : AgreeO
       (λ k. A .student s y (i s y (open-parts M B σ s y (keep-in (open? M B σ s) (upto (M .workshops)) y k .0) .interview)))
       (consIf-in (eqb (studentOutside M s) (σ .reached s)) 0 y (keep (open? M B σ s) (upto (M .workshops))) m)
 
-  best-same : (σ : State) → Inside σ → (s x : ℕ) (xs : List ℕ) → choices M B σ s ≡ x ∷ xs → best M B′ σ s x xs ≡ best M B σ s x xs
+  best-same : (σ : State) → Inside σ → (s x : ℕ) (xs : List ℕ) → choices M B σ s ≡ x ∷ xs → best M B′ s x xs ≡ best M B s x xs
   unfolding best
   best-same σ i s x xs c =
       pick-same (λ y z. ltb (B′ .studentScore s z) (B′ .studentScore s y)) (λ y z. ltb (B .studentScore s z) (B .studentScore s y)) x xs

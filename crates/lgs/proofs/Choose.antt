@@ -50,7 +50,7 @@ module _ (M : Market) (B : Results) (O : Profile) (Vs : ℕ → ℕ → Bool) (E
   none-in e = in-front (eqb (studentOutside M s) (σ .reached s)) 0 0 _ e refl
 
   module _ (x : ℕ) (xs : List ℕ) (some : choices M B σ s ≡ x ∷ xs) where
-    best-picked : Picked (λ y z. O .studentRank s y ≤ O .studentRank s z) Choice x xs (best M B σ s x xs)
+    best-picked : Picked (λ y z. O .studentRank s y ≤ O .studentRank s z) Choice x xs (best M B s x xs)
     unfolding best
     best-picked =
         picked (λ y z. ltb (B .studentScore s z) (B .studentScore s y)) (λ y z. O .studentRank s y ≤ O .studentRank s z) Choice
@@ -59,7 +59,7 @@ module _ (M : Market) (B : Results) (O : Profile) (Vs : ℕ → ℕ → Bool) (E
         (λ a b ka kb e. student-by-score M B O Vs E s a b (ka .known) (kb .known) (ka .tier ∙ sym (kb .tier)) (ltb-false _ _ e))
         x xs (choice-in x (rw some (here refl))) (λ y m. choice-in y (rw some (later m)))
 
-    pub best-chosen : Chosen M B O Vs σ s (best M B σ s x xs)
+    pub best-chosen : Chosen M B O Vs σ s (best M B s x xs)
     best-chosen =
         record {
           tier = best-picked .chosen .tier;
@@ -68,13 +68,13 @@ module _ (M : Market) (B : Results) (O : Profile) (Vs : ℕ → ℕ → Bool) (E
           none = ⊎-elim (λ e. among 0 (none-in e))
               (λ e. let ne : studentOutside M s ≡ σ .reached s → ⊥ = eqb-false _ _ e in
               let l : σ .reached s < studentOutside M s = omega (arith, I .outside s) in
-              omega (arith, E .full .students .keeps s (best M B σ s x xs) 0 (best-picked .chosen .known .option) refl (omega (arith, best-picked .chosen .tier))))
+              omega (arith, E .full .students .keeps s (best M B s x xs) 0 (best-picked .chosen .known .option) refl (omega (arith, best-picked .chosen .tier))))
               (bool-cases (eqb (studentOutside M s) (σ .reached s)));
-          real = λ l. let k : Open M B σ s (best M B σ s x xs) = open-parts M B σ s (best M B σ s x xs) (best-picked .chosen .real l) in (k .interview, k .welcome);
+          real = λ l. let k : Open M B σ s (best M B s x xs) = open-parts M B σ s (best M B s x xs) (best-picked .chosen .real l) in (k .interview, k .welcome);
         }
       where
-        among : (d : ℕ) → Mem d (choices M B σ s) → O .studentRank s (best M B σ s x xs) ≤ O .studentRank s d
+        among : (d : ℕ) → Mem d (choices M B σ s) → O .studentRank s (best M B s x xs) ≤ O .studentRank s d
         among d m = ⊎-elim (λ (e : d ≡ x). rw e (best-picked .first)) (λ k. best-picked .others d k) (cases-cons (rw some at m))
 
-    pub best-open : 0 < best M B σ s x xs → open? M B σ s (best M B σ s x xs) ≡ true
+    pub best-open : 0 < best M B s x xs → open? M B σ s (best M B s x xs) ≡ true
     best-open l = best-picked .chosen .real l

@@ -13,7 +13,7 @@ use Rattle.base.proofs.Tests.{bool-cases, never, and-left, and-right, and-false
 use Rattle.base.proofs.Members.{NoDup}
 use Rattle.lgs.specs.Market.{Market, Results, studentOutside, workshopOutside}
 use Rattle.lgs.specs.Profiles.{Profile, Fits, RespectsScores, Acceptable, Stable, outsideOr, flip, seated}
-use Rattle.lgs.specs.Rule.{State, start, interviewed, declined, open?}
+use Rattle.lgs.specs.Rule.{State, start, interviewed, unopened, declined, open?}
 use Rattle.lgs.proofs.Valid.{WellFormed, Refining, Distinct, refining}
 use Rattle.lgs.proofs.Sides.{Known, real, by-score, no-worse}
 use Rattle.lgs.proofs.Optimal.{Unattainable}
@@ -37,14 +37,14 @@ module _ (M : Market) (B : Results) where
     pub interview : interviewed (σ .interviews) s w ≡ true
     pub tier : M .studentTier s w ≡ σ .reached s
     pub kept : σ .deleted s w ≡ false
-    pub welcome : declined M B s w ≡ false
+    pub welcome : unopened M B s w ≡ false
 
   pub open-parts : (σ : State) (s w : ℕ) → open? M B σ s w ≡ true → Open σ s w
   unfolding open?
   open-parts σ s w e =
-      let r : (eqb (M .studentTier s w) (σ .reached s) && (not (σ .deleted s w) && not (declined M B s w))) ≡ true =
+      let r : (eqb (M .studentTier s w) (σ .reached s) && (not (σ .deleted s w) && not (unopened M B s w))) ≡ true =
       and-right (interviewed (σ .interviews) s w) _ e in
-      let q : (not (σ .deleted s w) && not (declined M B s w)) ≡ true = and-right (eqb (M .studentTier s w) (σ .reached s)) _ r in
+      let q : (not (σ .deleted s w) && not (unopened M B s w)) ≡ true = and-right (eqb (M .studentTier s w) (σ .reached s)) _ r in
       record {
         interview = and-left (interviewed (σ .interviews) s w) _ e;
         tier = eqb-true _ _ (and-left (eqb (M .studentTier s w) (σ .reached s)) _ r);
@@ -79,7 +79,7 @@ module _ (M : Market) (B : Results) (O : Profile) (Vs : ℕ → ℕ → Bool) wh
     pub known : Known (M .paired) Vs s x
     pub top : (d : ℕ) → open? M B σ s d ≡ true → O .studentRank s x ≤ O .studentRank s d
     pub none : O .studentRank s x ≤ O .studentRank s 0
-    pub real : 0 < x → (interviewed (σ .interviews) s x ≡ true) × (declined M B s x ≡ false)
+    pub real : 0 < x → (interviewed (σ .interviews) s x ≡ true) × (unopened M B s x ≡ false)
 
   pub record Inv (σ : State) : Type 0 where
     -- the interviews held; a workshop in a tier reached was interviewed or deleted; one in a tier left behind is deleted or has declined
@@ -89,7 +89,7 @@ module _ (M : Market) (B : Results) (O : Profile) (Vs : ℕ → ℕ → Bool) wh
     pub past : (s w : ℕ)
         → interviewed (σ .interviews) s w ≡ true
         → M .studentTier s w < σ .reached s
-        → (σ .deleted s w ≡ true) ⊎ (declined M B s w ≡ true)
+        → (σ .deleted s w ≡ true) ⊎ (unopened M B s w ≡ true)
     pub outside : (s : ℕ) → σ .reached s ≤ studentOutside M s
     -- who is held has what she chose, and so has who neither waits nor is held; who waits is held nowhere, is a student, and waits once
     pub chosen : (s : ℕ) → 0 < σ .held s → Chosen σ s (σ .held s)
@@ -140,15 +140,15 @@ module _ (M : Market) (B : Results) (O : Profile) (Vs : ℕ → ℕ → Bool) (E
   none-known r vs p = record { option = refl; seen = refl }
 
   -- whoever the workshop has declined is below its outside option, and whoever else it has interviewed is above
-  pub declined-below : (σ : State) (s w : ℕ) → Seen M Vs σ s w → declined M B s w ≡ true → O .workshopRank w 0 < O .workshopRank w s
-  unfolding declined
-  declined-below σ s w k t =
+  pub unopened-below : (σ : State) (s w : ℕ) → Seen M Vs σ s w → unopened M B s w ≡ true → O .workshopRank w 0 < O .workshopRank w s
+  unfolding unopened declined
+  unopened-below σ s w k t =
       E .results .workshops .higher w 0 s refl (known-by σ s w k .option) refl (known-by σ s w k .seen)
       (sym (eqb-true _ _ (and-left (eqb (M .workshopTier w s) (workshopOutside M w)) _ t)))
       (ltb-true _ _ (and-right (eqb (M .workshopTier w s) (workshopOutside M w)) _ t))
 
-  pub taken-in : (σ : State) (s w : ℕ) → Seen M Vs σ s w → declined M B s w ≡ false → O .workshopRank w s < O .workshopRank w 0
-  unfolding declined
+  pub taken-in : (σ : State) (s w : ℕ) → Seen M Vs σ s w → unopened M B s w ≡ false → O .workshopRank w s < O .workshopRank w 0
+  unfolding unopened declined
   taken-in σ s w k t = ⊎-elim better same (less? (M .workshopTier w s) (workshopOutside M w))
     where
       better : M .workshopTier w s < workshopOutside M w → O .workshopRank w s < O .workshopRank w 0
@@ -183,20 +183,20 @@ module _ (M : Market) (B : Results) (O : Profile) (Vs : ℕ → ℕ → Bool) (E
   pub closed-why : (σ : State) → Inv M B O Vs σ → (s d : ℕ)
       → interviewed (σ .interviews) s d ≡ true
       → open? M B σ s d ≡ false
-      → (σ .deleted s d ≡ true) ⊎ (declined M B s d ≡ true)
+      → (σ .deleted s d ≡ true) ⊎ (unopened M B s d ≡ true)
   closed-why σ I s d v o =
       ⊎-elim (λ less. I .past s d v less)
-      (λ le. ⊎-elim inl (λ f. ⊎-elim inr (λ g. never (opens le f g) o) (bool-cases (declined M B s d))) (bool-cases (σ .deleted s d)))
+      (λ le. ⊎-elim inl (λ f. ⊎-elim inr (λ g. never (opens le f g) o) (bool-cases (unopened M B s d))) (bool-cases (σ .deleted s d)))
       (less? (M .studentTier s d) (σ .reached s))
     where
-      opens : σ .reached s ≤ M .studentTier s d → σ .deleted s d ≡ false → declined M B s d ≡ false → open? M B σ s d ≡ true
+      opens : σ .reached s ≤ M .studentTier s d → σ .deleted s d ≡ false → unopened M B s d ≡ false → open? M B σ s d ≡ true
       opens le f g = open-make M B σ s d (record { interview = v; tier = omega (arith, I .seen s d v .tier); kept = f; welcome = g })
 
   -- so it cannot be had
   pub closed-lost : (σ : State) → Inv M B O Vs σ → (s d : ℕ) → interviewed (σ .interviews) s d ≡ true → open? M B σ s d ≡ false → Unattainable M O s d
   closed-lost σ I s d v o =
       ⊎-elim (λ f. I .lost s d (I .seen s d v .pair) f)
-      (λ f ν st e. omega (arith, declined-below σ s d (I .seen s d v) f, acceptable-at ν st e))
+      (λ f ν st e. omega (arith, unopened-below σ s d (I .seen s d v) f, acceptable-at ν st e))
       (closed-why σ I s d v o)
     where
       acceptable-at : (ν : ℕ → ℕ) → Stable M O ν → ν s ≡ d → O .workshopRank d s < O .workshopRank d 0

@@ -65,7 +65,7 @@ module _ (M : Market) (wf : WellFormed M) (B : Results) (distinct : Distinct M B
     listed-determined = record { optimal = λ O′ F. listed-optimal O′ (revealed-fits M B O O′ (interviewed vs) met fits F) }
 
     -- with consistent stages, whoever is sure, and has the placed pairs, has every listed interview
-    pub listed-needed : ConsistentStages M → (Us : ℕ → ℕ → Bool) (ν : ℕ → ℕ)
+    pub listed-needed : ConsistentStages M (M .stage) → (Us : ℕ → ℕ → Bool) (ν : ℕ → ℕ)
         → Determined M Us O ν
         → ((s : ℕ) → 0 < p s → Us s (p s) ≡ true)
         → (s c : ℕ) → interviewed vs s c ≡ true → Us s c ≡ true

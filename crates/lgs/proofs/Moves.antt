@@ -67,17 +67,17 @@ module _ (M : Market) (B : Results) (σ : State) (s : ℕ) (rest : List ℕ) whe
     interviews : choices M B σ s ≡ [] → ((w : ℕ) → Mem w (due M B σ s) → B .met s w ≡ true)
         → σ′ ≡ withInterviews (advance M B σ s) (σ .interviews ++ interviewsWith s (due M B σ s)) → Move σ′
     -- step 2: the outside option is best
-    leaves : (x : ℕ) (xs : List ℕ) → choices M B σ s ≡ x ∷ xs → best M B σ s x xs ≡ 0 → σ′ ≡ handOn M B σ rest (σ .held) → Move σ′
+    leaves : (x : ℕ) (xs : List ℕ) → choices M B σ s ≡ x ∷ xs → best M B s x xs ≡ 0 → σ′ ≡ handOn M B σ rest (σ .held) → Move σ′
     -- steps 2 and 4: the workshop has room
-    sits : (x : ℕ) (xs : List ℕ) (c : ℕ) → choices M B σ s ≡ x ∷ xs → best M B σ s x xs ≡ suc c
+    sits : (x : ℕ) (xs : List ℕ) (c : ℕ) → choices M B σ s ≡ x ∷ xs → best M B s x xs ≡ suc c
         → seated M (joinedState (suc c) .held) (suc c) ≤ M .quota (suc c)
         → σ′ ≡ close M B (joinedState (suc c)) (suc c) → Move σ′
     -- steps 2 to 5: the workshop drops its lowest
-    drops : (x : ℕ) (xs : List ℕ) (c : ℕ) → choices M B σ s ≡ x ∷ xs → best M B σ s x xs ≡ suc c
+    drops : (x : ℕ) (xs : List ℕ) (c : ℕ) → choices M B σ s ≡ x ∷ xs → best M B s x xs ≡ suc c
         → M .quota (suc c) < seated M (joinedState (suc c) .held) (suc c)
         → σ′ ≡ close M B (handOn M B σ (dropped (suc c) ∷ rest) (update (joinedState (suc c) .held) (dropped (suc c)) 0)) (suc c) → Move σ′
 
-  by-best : (σ′ : State) (x : ℕ) (xs : List ℕ) → choices M B σ s ≡ x ∷ xs → (b : ℕ) → best M B σ s x xs ≡ b
+  by-best : (σ′ : State) (x : ℕ) (xs : List ℕ) → choices M B σ s ≡ x ∷ xs → (b : ℕ) → best M B s x xs ≡ b
       → apply M B σ s rest b ≡ going σ′ → Move σ′
   unfolding apply settle
   by-best σ′ x xs some zero z e = leaves x xs some z (same-state e)
@@ -92,7 +92,7 @@ module _ (M : Market) (B : Results) (σ : State) (s : ℕ) (rest : List ℕ) whe
       let r : (σ′ ≡ withInterviews (advance M B σ s) (σ .interviews ++ interviewsWith s (due M B σ s))) × ((w : ℕ) → Mem w (due M B σ s) → B .met s w ≡ true) =
       interviewAll-going M B s (due M B σ s) (advance M B σ s) σ′ e in
       interviews c (r .1) (r .0)
-  by-choices σ′ (x ∷ xs) c e = by-best σ′ x xs c (best M B σ s x xs) refl e
+  by-choices σ′ (x ∷ xs) c e = by-best σ′ x xs c (best M B s x xs) refl e
 
   pub moves : (σ′ : State) → step M B σ (s ∷ rest) ≡ going σ′ → Move σ′
   unfolding step

@@ -65,7 +65,7 @@ module _ (M : Market) where
   staged-sorted zero = tt
   staged-sorted (suc n) = insert-sorted (suc n) (byStage (M .stage) n) (staged-sorted n)
 
-module _ (M : Market) (agree : ConsistentStages M) (Vs : ℕ → ℕ → Bool) where
+module _ (M : Market) (agree : ConsistentStages M (M .stage)) (Vs : ℕ → ℕ → Bool) where
   rivals : (σ : State) (w s t : ℕ) → Seen M Vs σ s w → Seen M Vs σ t w → Rivals M w s t
   rivals σ w s t a b = record { seats = a .seats; pair = a .pair; pair′ = b .pair; within = a .outside; within′ = b .outside }
 
@@ -182,7 +182,7 @@ module _ (M : Market) (B : Results) (O : Profile) (Vs : ℕ → ℕ → Bool) (E
               close-deletes M B τ c t (omega (arith, S .fits))
               (or-left (ltb (M .workshopTier c (lowestOf M B τ c (holders M B τ c))) (M .workshopTier c t)) _ (lt-ltb _ _ (a _ (l .holder))))
 
-  module _ (agree : ConsistentStages M) (σ : State) (I : Inv M B O Vs σ) (N : Needed M σ) (s : ℕ) (rest : List ℕ) (wait : σ .waiting ≡ s ∷ rest) where
+  module _ (agree : ConsistentStages M (M .stage)) (σ : State) (I : Inv M B O Vs σ) (N : Needed M σ) (s : ℕ) (rest : List ℕ) (wait : σ .waiting ≡ s ∷ rest) where
     -- whoever has had an interview with the workshop that the student applies to is in her tier there or a better one
     module _ (c : ℕ) (pos : 0 < c) (k : Chosen M B O Vs σ s c) where
       no-better : (t : ℕ) → interviewed (σ .interviews) t c ≡ true → M .workshopTier c t ≤ M .workshopTier c s
@@ -241,6 +241,6 @@ module _ (M : Market) (B : Results) (O : Profile) (Vs : ℕ → ℕ → Bool) (E
         k : Chosen M B O Vs σ s (suc c)
         k = rw z at (best-chosen M B O Vs E σ I s x xs some)
 
-  pub last-needed : ConsistentStages M → (τ : State) → Reaches M B τ (start M B)
+  pub last-needed : ConsistentStages M (M .stage) → (τ : State) → Reaches M B τ (start M B)
       → ((t w : ℕ) → interviewed (τ .interviews) t w ≡ true → Vs t w ≡ true) → Needed M τ
   last-needed agree τ r known = last-with M B O Vs E (Needed M) (λ σ σ′ I s rest w m N. move-needed agree σ I N s rest w σ′ m) start-needed τ r known .1

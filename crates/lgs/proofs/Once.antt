@@ -9,9 +9,10 @@ use native.Mathlib.Omega.{arith}
 use lib.Dec.{eqb}
 use lib.ListN.{length}
 use borrow.Author.Tests.{eqb-true, eq-eqb}
-use Rattle.base.specs.Lists.{count, total, upto, any}
+use Rattle.base.specs.Lists.{count, total, upto, any, tally}
 use Rattle.base.proofs.Tests.{never, is-false, and-left, and-right, and-make, or-true, or-left, or-right}
-use Rattle.base.proofs.Counting.{count-less, count-mono, total-less}
+use Rattle.base.proofs.Counting.{count-less, count-mono, total-le, total-less}
+use Rattle.base.proofs.Grid.{named-within}
 use Rattle.base.proofs.Members.{NoDup, upto-distinct, keep-distinct}
 use Rattle.lgs.specs.Market.{Market, Results}
 use Rattle.lgs.specs.Profiles.{Profile}
@@ -104,6 +105,28 @@ unfolding pairsIn
 listed-fits M wf vs Us d pair inside =
     fits-set (M .students) (M .workshops) vs (λ s w. M .paired s w && Us s w) d
     (λ s w v. (wf .student s w (pair s w v), wf .workshop s w (pair s w v), and-make (pair s w v) (inside s w v)))
+
+-- ---- and a set has no more pairs than a list that names them all
+
+one-each : (vs : List Interview) → tally (λ v. true) vs ≡ length vs
+unfolding tally
+one-each [] = refl
+one-each (v ∷ vs) = omega (arith, one-each vs)
+
+pub listed-counted : (M : Market) → WellFormed M → (vs : List Interview) → NoRepeats vs
+    → ((s w : ℕ) → interviewed vs s w ≡ true → M .paired s w ≡ true)
+    → pairsIn M (interviewed vs) ≡ length vs
+unfolding pairsIn interviewed
+listed-counted M wf vs d pair =
+    let m = M .workshops in
+    omega (
+      arith,
+      listed-fits M wf vs (interviewed vs) d pair (λ s w v. v),
+      total-le (λ s. count (λ w. M .paired s w && interviewed vs s w) m) (λ s. count (interviewed vs s) m) (M .students)
+          (λ s. count-mono (λ w. M .paired s w && interviewed vs s w) (interviewed vs s) m (λ w l u e. and-right (M .paired s w) _ e)),
+      named-within (M .students) m {A = Interview} (λ v. true) (λ v. v .0) (λ v. v .1) vs,
+      one-each vs,
+    )
 
 -- ---- the run
 

@@ -22,7 +22,7 @@ use Rattle.lgs.proofs.Undetermined.{reveals-itself}
 use Rattle.lgs.proofs.Exists.{scoreProfile, score-fits}
 use Rattle.lgs.proofs.Finished.{End, lgs-end, lgs-optimal, lgs-met, lgs-placed-listed}
 use Rattle.lgs.proofs.Minimal.{listed-optimal, listed-determined, listed-needed}
-use Rattle.lgs.proofs.Once.{last-once, listed-fits}
+use Rattle.lgs.proofs.Once.{last-once, listed-fits, listed-counted}
 use Rattle.lgs.proofs.Stopped.{Stopped, lgs-stopped}
 use Rattle.lgs.proofs.Ends.{run-answers}
 use Rattle.lgs.proofs.Agreement.{AgreeOn, next-held}
@@ -88,13 +88,17 @@ module _ (M : Market) (wf : WellFormed M) (B : Results) (distinct : Distinct M B
     minimal =
         record {
           listed = listed;
-          determined = λ O fits. rw same-matching (listed-determined M wf B distinct p vs run O fits);
-          placed = λ s l.
-              rw (same-place s)
-              (lgs-placed-listed M B p vs run (scoreProfile M wf B) (B .met) setting (lgs-met M B p vs run) s (rw (same-place s) at l));
-          minimal = λ agree O fits Vs μ determined has.
+          itself = λ O fits.
+              record {
+                sure = rw same-matching (listed-determined M wf B distinct p vs run O fits);
+                holds = λ s l.
+                    rw (same-place s)
+                    (lgs-placed-listed M B p vs run (scoreProfile M wf B) (B .met) setting (lgs-met M B p vs run) s (rw (same-place s) at l));
+              };
+          counted = listed-counted M wf vs (listed .once) (listed .pair);
+          minimal = λ agree O fits Vs μ set.
               let every : (s w : ℕ) → interviewed vs s w ≡ true → Vs s w ≡ true =
-              listed-needed M wf B distinct p vs run O fits agree Vs μ determined (λ s l. rw (same-place s) at (has s (rw (same-place s) l))) in
+              listed-needed M wf B distinct p vs run O fits agree Vs μ (set .sure) (λ s l. rw (same-place s) at (set .holds s (rw (same-place s) l))) in
               (every, listed-fits M wf vs Vs (listed .once) (listed .pair) every);
         }
 

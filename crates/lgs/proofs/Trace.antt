@@ -94,7 +94,7 @@ module _ (M : Market) (B : Results) where
   unfolding turn
   turn-unfinished σ s rest [] p vs e = interviewAll-unfinished s (due M B σ s) (advance M B σ s) p vs e
   turn-unfinished σ s rest (x ∷ xs) p vs e =
-      let g : IsGoing (apply M B σ s rest (best M B σ s x xs)) = apply-goes σ s rest (best M B σ s x xs) in
+      let g : IsGoing (apply M B σ s rest (best M B s x xs)) = apply-goes σ s rest (best M B s x xs) in
       finished-not-going p vs (g .0, sym e ∙ g .1)
 
   -- a run finishes when nobody waits
@@ -173,7 +173,7 @@ module _ (M : Market) (B : Results) where
   unfolding turn
   turn-stopped σ s rest [] t d vs e = (refl, interviewAll-stopped s (due M B σ s) (advance M B σ s) t d vs e)
   turn-stopped σ s rest (x ∷ xs) t d vs e =
-      let g : IsGoing (apply M B σ s rest (best M B σ s x xs)) = apply-goes σ s rest (best M B σ s x xs) in
+      let g : IsGoing (apply M B σ s rest (best M B s x xs)) = apply-goes σ s rest (best M B s x xs) in
       absurd (stopped-not-going t d vs (g .0, sym e ∙ g .1))
 
   pub step-stopped : (σ : State) (t d : ℕ) (vs : List Interview) → step M B σ (σ .waiting) ≡ stopped t d vs → Stops σ t d vs

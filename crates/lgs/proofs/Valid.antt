@@ -2,8 +2,9 @@
 -- respects the tiers, one side at a time: `Refining`.
 use Prim.Native.Nat.{ℕ, _≤_, _<_}
 use mathlib.Core.Path.{_≡_}
-use mathlib.Core.Bool.{Bool, true}
-use Rattle.lgs.specs.Market.{Market, Results}
+use mathlib.Core.Bool.{Bool, true, false}
+use borrow.Author.Tests.{ltb-true, ltb-false}
+use Rattle.lgs.specs.Market.{Market, Results, outscored}
 use Rattle.lgs.specs.Profiles.{Profile, StrictProfile, RespectsTiers, outsideOr, flip}
 
 -- a pair names a student and a workshop of the market, and tiers count from 1
@@ -51,3 +52,13 @@ module _ (M : Market) (O : Profile) where
   pub refining-tiers : Refining M O → RespectsTiers M O
   refining-tiers full =
       record { students = record { better = full .students .keeps }; workshops = record { better = full .workshops .keeps } }
+
+-- ---- how a workshop compares two whom it has interviewed
+module _ (B : Results) (w x y : ℕ) where
+  pub outscored-less : outscored B w x y ≡ true → B .workshopScore w x < B .workshopScore w y
+  unfolding outscored
+  outscored-less e = ltb-true _ _ e
+
+  pub outscored-not : outscored B w x y ≡ false → B .workshopScore w y ≤ B .workshopScore w x
+  unfolding outscored
+  outscored-not e = ltb-false _ _ e

@@ -1,7 +1,9 @@
 -- The market that a case describes, and the results of the interviews that a book holds.
-use Prim.Native.Nat.{ℕ, _≤_, _<_}
+use Prim.Native.Nat.{ℕ, _-_, _≤_, _<_}
 use mathlib.Core.Bool.{Bool, true}
 use mathlib.Core.Path.{_≡_}
+use lib.Dec.{ltb}
+use Rattle.base.specs.Lists.{total}
 
 -- The case, decoded: students 1 to `students`, workshops 1 to `workshops`. A tier is document 01's group, and a lower one is better.
 -- Where an option is named, 0 is the outside option (document 01: none); its tier is the person's outside tier (the line group).
@@ -21,12 +23,34 @@ studentOutside M s = M .studentTier s 0
 abbrev pub workshopOutside : Market → ℕ → ℕ
 workshopOutside M w = M .workshopTier w 0
 
+-- ---- Seats. "A seat slice .. in which each workshop's seats are its own part."
+
+-- how many seats the workshop's part has
+unfoldable pub seatsOf : Market → ℕ → ℕ
+seatsOf M w = M .quota w
+
+-- where its part starts: the seats of the workshops before it
+unfoldable pub seatsBefore : Market → ℕ → ℕ
+seatsBefore M w = total (seatsOf M) (w - 1)
+
+-- "one 16-bit entry per seat of all quotas"
+unfoldable pub allSeats : Market → ℕ
+allSeats M = total (seatsOf M) (M .workshops)
+
+-- ---- Results.
+
 -- The book, decoded: which interviews (document 01: visits) have a record, and the scores (marks) that they gave. A score is stored 32768 above its
 -- value, so that the order is that of natural numbers; the outside option has the score of 0.
 pub record Results : Type 0 where
   pub met : ℕ → ℕ → Bool  -- student, workshop: the book has a record of the interview
   pub studentScore : ℕ → ℕ → ℕ  -- student, then a workshop or 0: what she gave
   pub workshopScore : ℕ → ℕ → ℕ  -- workshop, then a student or 0: what it gave
+
+-- of two students of one tier whom the workshop has interviewed, it scored y higher than x
+unfoldable pub outscored : Results → ℕ → ℕ → ℕ → Bool
+outscored B w x y = ltb (B .workshopScore w x) (B .workshopScore w y)
+
+-- ---- Stages.
 
 module _ (M : Market) where
   -- two students of whom the stages must tell: both have pairs at the workshop, which has seats, and neither is beyond its outside tier
@@ -37,7 +61,7 @@ module _ (M : Market) where
     pub within : M .workshopTier w s ≤ workshopOutside M w
     pub within′ : M .workshopTier w t ≤ workshopOutside M w
 
-  -- "The stages agree": of two such students the one in the better tier has the earlier stage, and equal tiers have equal stages.
-  pub record ConsistentStages : Type 0 where
-    pub earlier : (w s t : ℕ) → Rivals w s t → M .workshopTier w s < M .workshopTier w t → M .stage s < M .stage t
-    pub together : (w s t : ℕ) → Rivals w s t → M .workshopTier w s ≡ M .workshopTier w t → M .stage s ≡ M .stage t
+  -- "The stages agree" (a student's stage is `stage s`): of two such students the one in the better tier has the earlier stage, and equal tiers have equal stages.
+  pub record ConsistentStages (stage : ℕ → ℕ) : Type 0 where
+    pub earlier : (w s t : ℕ) → Rivals w s t → M .workshopTier w s < M .workshopTier w t → stage s < stage t
+    pub together : (w s t : ℕ) → Rivals w s t → M .workshopTier w s ≡ M .workshopTier w t → stage s ≡ stage t

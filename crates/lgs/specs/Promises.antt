@@ -45,21 +45,24 @@ module _ (M : Market) (B : Results) where
   pub record OptimalWhateverUnseen (places : List ℕ) (vs : List Interview) : Type 0 where
     pub optimal : (O : Profile) → Fits M B (interviewed vs) O → StudentOptimal M O (matchingOf places)
 
+  -- "Such a set" of interviews, with results under O: it "makes its holder sure" of the matching μ, and it "holds every placed pair" of the places.
+  pub record SureSet (places : List ℕ) (O : Profile) (Vs : ℕ → ℕ → Bool) (μ : ℕ → ℕ) : Type 0 where
+    pub sure : Determined M Vs O μ
+    pub holds : (s : ℕ) → 0 < matchingOf places s → Vs s (matchingOf places s) ≡ true
+
   -- Demand 3. "Let the results come from any full order that fits the groups and the book."
   pub record MinimalInterviews (places : List ℕ) (vs : List Interview) : Type 0 where
-    -- "Our list is itself such a set and names no pair twice": it makes its holder sure of this placement, and it holds every placed pair. This
-    -- needs no agreeing stages.
+    -- "Our list is itself such a set", and its holder is sure of this placement; it "names no pair twice", so it has as many pairs as it is long.
+    -- This needs no agreeing stages.
     pub listed : Listed vs
-    pub determined : (O : Profile) → Fits M B (B .met) O → Determined M (interviewed vs) O (matchingOf places)
-    pub placed : (s : ℕ) → 0 < matchingOf places s → interviewed vs s (matchingOf places s) ≡ true
-    -- "every set of visits that makes its holder sure of the student-best placement, and that holds every placed pair, holds every visit on
-    -- our list", and so "has at least as many visits as the count we return"
-    pub minimal : ConsistentStages M
+    pub itself : (O : Profile) → Fits M B (B .met) O → SureSet places O (interviewed vs) (matchingOf places)
+    pub counted : pairsIn M (interviewed vs) ≡ length vs
+    -- every such set "holds every visit on our list", and so "has at least as many visits as the count we return"
+    pub minimal : ConsistentStages M (M .stage)
         → (O : Profile)
         → Fits M B (B .met) O
         → (Vs : ℕ → ℕ → Bool) (μ : ℕ → ℕ)
-        → Determined M Vs O μ
-        → ((s : ℕ) → 0 < matchingOf places s → Vs s (matchingOf places s) ≡ true)
+        → SureSet places O Vs μ
         → ((s w : ℕ) → interviewed vs s w ≡ true → Vs s w ≡ true) × (length vs ≤ pairsIn M Vs)
 
   -- an answer with a placement (from bytes: `Demand2Placed` and `Demand3` of the crate format)

@@ -4,7 +4,7 @@ use mathlib.Core.Bool.{Bool, true, false, not, cond, _&&_, _||_}
 use mathlib.Core.List.{List, [], _∷_, _++_}
 use lib.Dec.{ltb, eqb}
 use Rattle.base.specs.Lists.{count, total, upto, keep, any, pick, update, consIf}
-use Rattle.lgs.specs.Market.{Market, Results, studentOutside, workshopOutside}
+use Rattle.lgs.specs.Market.{Market, Results, studentOutside, workshopOutside, outscored}
 
 -- an interview (document 01: visit): student, workshop
 abbrev pub Interview : Type 0
@@ -53,12 +53,20 @@ module _ (M : Market) (B : Results) where
   unfoldable pub declined : ℕ → ℕ → Bool
   declined s w = eqb (M .workshopTier w s) (workshopOutside M w) && ltb (B .workshopScore w s) (B .workshopScore w 0)
 
+  -- "Each is then open, unless": the interview opens nothing
+  unfoldable pub unopened : ℕ → ℕ → Bool
+  unopened s w = declined s w
+
+  -- the best of these choices: all are in the tier reached, so their scores tell
+  unfoldable pub best : ℕ → ℕ → List ℕ → ℕ
+  best s x xs = pick (λ y z. ltb (B .studentScore s z) (B .studentScore s y)) x xs
+
   module _ (σ : State) where
-    -- the workshop is open to the student: interviewed, in the tier that she has reached, and neither deleted nor declined
+    -- the workshop is open to the student: interviewed, in the tier that she has reached, and neither deleted nor left unopened by the interview
     unfoldable pub open? : ℕ → ℕ → Bool
     open? s w =
         interviewed (σ .interviews) s w
-        && (eqb (M .studentTier s w) (σ .reached s) && (not (σ .deleted s w) && not (declined s w)))
+        && (eqb (M .studentTier s w) (σ .reached s) && (not (σ .deleted s w) && not (unopened s w)))
 
     -- what is open to the student; "in her line group, none is open too": 0, which stands first
     unfoldable pub choices : ℕ → List ℕ
@@ -80,16 +88,12 @@ module _ (M : Market) (B : Results) where
         ltb (M .workshopTier w y) (M .workshopTier w x)
         || (eqb (M .workshopTier w x) (M .workshopTier w y)
         && (interviewed (σ .interviews) x w
-        && (interviewed (σ .interviews) y w && ltb (B .workshopScore w x) (B .workshopScore w y))))
+        && (interviewed (σ .interviews) y w && outscored B w x y)))
 
     -- the lowest of these students; a workshop that has just been applied to holds somebody, so the list is not empty where this is used
     unfoldable pub lowestOf : ℕ → List ℕ → ℕ
     lowestOf w [] = 0
     lowestOf w (x ∷ xs) = pick (below w) x xs
-
-    -- the best of these choices: all are in the tier reached, so their scores tell
-    unfoldable pub best : ℕ → ℕ → List ℕ → ℕ
-    best s x xs = pick (λ y z. ltb (B .studentScore s z) (B .studentScore s y)) x xs
 
   -- Step 1: go to the next tier. Counting up by one gives the same as "her next group that has pairs or her line": a number with neither
   -- has no interview and opens nothing, so the next step counts on.
@@ -156,7 +160,7 @@ module _ (M : Market) (B : Results) where
   -- the student in hand: "while she has nothing open" step 1, and else steps 2 to 5
   unfoldable pub turn : State → ℕ → List ℕ → List ℕ → Step
   turn σ s rest [] = interviewAll s (due σ s) (advance σ s)
-  turn σ s rest (x ∷ xs) = apply σ s rest (best σ s x xs)
+  turn σ s rest (x ∷ xs) = apply σ s rest (best s x xs)
 
   unfoldable pub step : State → List ℕ → Step
   step σ [] = finished (σ .held) (σ .interviews)
