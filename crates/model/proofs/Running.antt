@@ -8,8 +8,7 @@ use native.Mathlib.Omega.{arith}
 use native.Mathlib.Nat.{pos-of-ne-zero}
 use lib.ListN.{length}
 use borrow.Author.Tests.{eq-eqb, ne-eqb}
-use Rattle.base.specs.Lists.{total}
-use Rattle.lgs.specs.Market.{Market, Results}
+use Rattle.lgs.specs.Market.{Market, Results, allSeats}
 use Rattle.lgs.specs.Profiles.{Profile}
 use Rattle.lgs.specs.Rule.{Interview, stopped, finished, fuel, lazyGaleShapley}
 use Rattle.lgs.specs.Promises.{pairsIn}
@@ -185,7 +184,7 @@ module _ (M : Market) (wf : WellFormed M) (B : Results) (distinct : Distinct M B
         (eq? (x .run .hand) 0)
 
     -- ---- from zeroed buffers
-    module _ (room : 2 * pairsIn M (M .paired) ≤ length old) (n k : ℕ) (seats : total (M .quota) (M .workshops) ≤ n) (states : M .students ≤ k) where
+    module _ (room : 2 * pairsIn M (M .paired) ≤ length old) (n k : ℕ) (seats : allSeats M ≤ n) (states : M .students ≤ k) where
       abbrev pub stands : ℕ → Stand
       stands j = after M B j (beginning M B old n k)
 
