@@ -36,7 +36,8 @@ use Rattle.model.proofs.Shows.{Lacking, Stand}
 use Rattle.model.proofs.Running.{stands, Ends, stops, finishes, Finished, ends-hand, run-ready, run-is-rule}
 use Rattle.lookup.specs.Clean.{Clean}
 use Rattle.api.specs.declared.Answer.{Answer as Brief}
-use Rattle.api.specs.Answers.{answerFor}
+use Rattle.api.specs.Answers.{answerFor, valuesOf}
+use Rattle.api.proofs.Text.{values-same}
 use Rattle.answering.specs.declared.Prepared.{Prepared}
 use Rattle.answering.specs.Finish.{toPlace, heldAt, placesHeld, CanRead, answerEnd}
 use Rattle.answering.specs.Steps.{StepReady, Halted, Started, Found, Prepares}
@@ -254,6 +255,7 @@ module _ (case book places visits seats index : List ℕ) (states : List Student
     answered a seats₃ index₃ places₃ ea ep es ei =
         record {
           answer = ea ∙ outcome .answer;
+          values = ap valuesOf (ea ∙ outcome .answer) ∙ values-same (engine case book room);
           inPlaces = ep ∙ outcome .inPlaces;
           inVisits = outcome .inVisits;
           inSeats = es;
