@@ -370,38 +370,53 @@ pub fn experiment(rng: &mut Rng, students: usize, workshops: usize, d: usize, e:
 // ---- Damage ----
 
 /// One kind of damage; it may leave the input as it was.
-pub type Damage = fn(&mut Rng, &mut Input);
+type Damage = fn(&mut Rng, &mut Input);
 
-pub const DAMAGES: [Damage; 19] = [
-    case_length,
-    case_byte,
-    case_byte,
+/// Damage of a file with records of a size.
+type FileDamage = fn(&mut Rng, &mut Vec<u8>, usize);
+
+const DAMAGES: [Damage; 10] = [
     case_field,
     case_field,
-    case_swap,
-    case_repeat,
     case_remove,
     crowd,
     nobody,
     shorter_buffer,
     longer_buffers,
-    book_length,
-    book_byte,
     book_stranger,
     book_mark,
-    book_repeat,
     book_equal_mark,
-    book_swap,
+];
+
+const FILE_DAMAGES: [FileDamage; 4] = [
+    change_length,
+    repeat_record,
+    |rng, bytes, size| change_byte(rng, bytes, size),
+    |rng, bytes, size| swap_records(rng, bytes, size),
 ];
 
 /// A small input with one to three damages.
 pub fn damaged_input(rng: &mut Rng) -> Input {
     let mut input = small_input(rng);
     for _ in 0..rng.range(1, 3) {
-        let damage = rng.pick(&DAMAGES);
-        damage(rng, &mut input);
+        if rng.chance(50) {
+            damage_file(rng, &mut input);
+        } else {
+            let damage = rng.pick(&DAMAGES);
+            damage(rng, &mut input);
+        }
     }
     input
+}
+
+/// The case or the book gets a damage that may hit any file.
+fn damage_file(rng: &mut Rng, input: &mut Input) {
+    let damage = rng.pick(&FILE_DAMAGES);
+    if rng.chance(50) {
+        damage(rng, &mut input.case, CASE_RECORD);
+    } else {
+        damage(rng, &mut input.book, BOOK_RECORD);
+    }
 }
 
 /// Where a random record starts, if there is a whole one.
@@ -462,14 +477,6 @@ fn repeat_record(rng: &mut Rng, bytes: &mut Vec<u8>, size: usize) {
     }
 }
 
-fn case_length(rng: &mut Rng, input: &mut Input) {
-    change_length(rng, &mut input.case, CASE_RECORD);
-}
-
-fn case_byte(rng: &mut Rng, input: &mut Input) {
-    change_byte(rng, &mut input.case, CASE_RECORD);
-}
-
 /// Puts a number at the edge of some range into one of the fields.
 fn case_field(rng: &mut Rng, input: &mut Input) {
     const EDGES: [u16; 14] = [
@@ -480,14 +487,6 @@ fn case_field(rng: &mut Rng, input: &mut Input) {
         let at = start + 2 * rng.range(1, fields);
         set_field(&mut input.case, at, rng.pick(&EDGES));
     }
-}
-
-fn case_swap(rng: &mut Rng, input: &mut Input) {
-    swap_records(rng, &mut input.case, CASE_RECORD);
-}
-
-fn case_repeat(rng: &mut Rng, input: &mut Input) {
-    repeat_record(rng, &mut input.case, CASE_RECORD);
 }
 
 fn case_remove(rng: &mut Rng, input: &mut Input) {
@@ -547,7 +546,7 @@ fn lengths_of(lent: &mut Lengths) -> [&mut usize; 5] {
 }
 
 /// Takes some entries off one buffer, mostly just one.
-pub fn shorter_buffer(rng: &mut Rng, input: &mut Input) {
+fn shorter_buffer(rng: &mut Rng, input: &mut Input) {
     let which = rng.below(5);
     let length = &mut lengths_of(&mut input.lent)[which];
     let less = rng.pick(&[1, 1, 1, 2, usize::MAX]);
@@ -558,14 +557,6 @@ pub fn longer_buffers(rng: &mut Rng, input: &mut Input) {
     for length in lengths_of(&mut input.lent) {
         *length += rng.pick(&[0, 1, 2, 3, 700]);
     }
-}
-
-fn book_length(rng: &mut Rng, input: &mut Input) {
-    change_length(rng, &mut input.book, BOOK_RECORD);
-}
-
-fn book_byte(rng: &mut Rng, input: &mut Input) {
-    change_byte(rng, &mut input.book, BOOK_RECORD);
 }
 
 /// Makes a record name somebody else, or nobody.
@@ -588,10 +579,6 @@ fn book_mark(rng: &mut Rng, input: &mut Input) {
     }
 }
 
-fn book_repeat(rng: &mut Rng, input: &mut Input) {
-    repeat_record(rng, &mut input.book, BOOK_RECORD);
-}
-
 /// Gives a record the mark of another record of the same person, if one is found.
 fn book_equal_mark(rng: &mut Rng, input: &mut Input) {
     let book = &mut input.book;
@@ -611,14 +598,10 @@ fn book_equal_mark(rng: &mut Rng, input: &mut Input) {
     }
 }
 
-fn book_swap(rng: &mut Rng, input: &mut Input) {
-    swap_records(rng, &mut input.book, BOOK_RECORD);
-}
-
 /// The input cut to every shorter length, and with every byte of every record changed.
 pub fn sweep(input: &Input) -> Vec<Input> {
     let mut inputs = Vec::new();
-    let cut = |length: usize, part: fn(&mut Input) -> &mut Vec<u8>| {
+    let cut = |length: usize, part: Bytes| {
         let mut shorter = input.clone();
         part(&mut shorter).truncate(length);
         shorter
@@ -634,21 +617,19 @@ pub fn sweep(input: &Input) -> Vec<Input> {
     inputs
 }
 
-fn case_part(input: &mut Input) -> &mut Vec<u8> {
+/// The case's bytes or the book's.
+pub type Bytes = fn(&mut Input) -> &mut Vec<u8>;
+
+pub fn case_part(input: &mut Input) -> &mut Vec<u8> {
     &mut input.case
 }
 
-fn book_part(input: &mut Input) -> &mut Vec<u8> {
+pub fn book_part(input: &mut Input) -> &mut Vec<u8> {
     &mut input.book
 }
 
 /// Flips each bit of one byte, and sets it to 0, to 255, one up and one down.
-fn change_every_way(
-    inputs: &mut Vec<Input>,
-    input: &Input,
-    at: usize,
-    part: fn(&mut Input) -> &mut Vec<u8>,
-) {
+fn change_every_way(inputs: &mut Vec<Input>, input: &Input, at: usize, part: Bytes) {
     let mut original = input.clone();
     let byte = part(&mut original)[at];
     let flips = (0..8).map(|bit| byte ^ (1 << bit));

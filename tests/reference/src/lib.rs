@@ -2,6 +2,7 @@
 
 pub mod brute;
 pub mod fast;
+pub mod folder;
 pub mod gen;
 pub mod header;
 pub mod lending;
