@@ -92,19 +92,21 @@ class Stop(Exception):
 @dataclass
 class Problems:
     """Wrong rows, told together."""
-    lines: list = field(default_factory=list)
+    found: list = field(default_factory=list)    # file, row, text
 
     def add(self, file, row, heading, text):
-        where = f'{file}, row {row}' + (f', column "{heading}"' if heading else "")
-        self.lines.append(f"{where}: {text}")
+        where = f"{file}, row {row}" + (f', column "{heading}"' if heading else "")
+        self.found.append((file, row, f"{where}: {text}"))
 
     def has(self, file):
-        return any(line.startswith(file) for line in self.lines)
+        return any(problem[0] == file for problem in self.found)
 
     def stop_if_any(self):
-        if self.lines:
-            rest = [f"and {len(self.lines) - 20} more."] if len(self.lines) > 20 else []
-            raise Stop("\n".join(self.lines[:20] + rest + ["Nothing was written. Correct this and run desk.py again."]))
+        if self.found:
+            self.found.sort(key=lambda problem: (list(COLUMNS).index(problem[0]), problem[1]))
+            lines = [problem[2] for problem in self.found[:20]]
+            rest = [f"and {len(self.found) - 20} more."] if len(self.found) > 20 else []
+            raise Stop("\n".join(lines + rest + ["Nothing was written. Correct this and run desk.py again."]))
 
 
 # ---------------------------------------------------------------- reading the four files
@@ -492,7 +494,7 @@ def tell_stages(year):
     lines = [f"  {name}: {who[0]} and {who[1]}" for name, who in found if who]
     if len(lines) > 3:
         lines = lines[:3] + [f"  and {len(lines) - 3} more workshops"]
-    return lines and ["", "Note: the stages do not agree with the groups there, so more visits may be asked for than needed:"] + lines
+    return lines and ["", "Note: at these workshops the stages do not agree with the groups, so more visits may be asked for than needed:"] + lines
 
 
 def explain_refusal(year, number, place):

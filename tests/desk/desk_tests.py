@@ -178,7 +178,7 @@ class HiddenYear:
         draw = random.Random(seed)
         self.stage = {f'Berg, Åse "{n}"' if n % 7 == 0 else f"Student {n}": draw.randint(1, 3) for n in range(1, students + 1)}
         self.quota = {f"Werkstatt; {n}" if n % 5 == 0 else f"Workshop {n}": draw.randint(0, 7) for n in range(1, workshops + 1)}
-        self.couples = {(s, w): None for s in self.stage for w in self.quota if draw.random() < 0.6}
+        self.couples = {(s, w): None for s in self.stage for w in self.quota if draw.random() < 0.5}
         self.order, self.group, self.line = {}, {}, {}
         for s in self.stage:
             self.rank(draw, s, [w for w in self.quota if (s, w) in self.couples], lambda w: draw.randint(1, 4), draw.randint(2, 5))
@@ -366,6 +366,13 @@ WRONG = [
      'pairs.csv, row 2, column "student": there is no "Ana Berg" in students.csv. Did you mean "Anna Berg"?\n'
      'pairs.csv, row 2, column "workshop": there is no "dye house" in workshops.csv. Did you mean "Dye house"?\n'
      f'pairs.csv, row 3, column "student": there is no "Zoe" in students.csv.{END}'),
+    ("wrong rows in their order", "pairs.csv", pairs("Anna Berg,Dye house,1,two\nAnna Berg,Dye house,1,1\nBen,Dye house,0,1\n"),
+     f'pairs.csv, row 2, column "group from workshop": "two" is there; {RANGE} 1 to 513.\n'
+     "pairs.csv, row 3: Anna Berg and Dye house stand in row 2 already.\n"
+     'pairs.csv, row 4, column "student": there is no "Ben" in students.csv.\n'
+     f'pairs.csv, row 4, column "group from student": "0" is there; {RANGE} 1 to 65.{END}'),
+    ("many wrong rows", "students.csv", students("".join(f"S{n},0,1\n" for n in range(25))),
+     "".join(f'students.csv, row {n + 2}, column "stage": "0" is there; {RANGE} 1 to 512.\n' for n in range(20)) + f"and 5 more.{END}"),
     ("a pair twice", "pairs.csv", pairs("Anna Berg,Dye house,1,1\nBen Olsen,Dye house,1,1\nAnna Berg,Dye house,2,1\n"),
      f"pairs.csv, row 4: Anna Berg and Dye house stand in row 2 already.{END}"),
     ("a group of 66", "pairs.csv", pairs("Anna Berg,Dye house,66,1\n"),

@@ -107,7 +107,12 @@ fn main() -> ExitCode {
             return ExitCode::FAILURE;
         }
     };
-    let tally = tally::run(&parts(&options));
+    let parts = parts(&options);
+    if parts.is_empty() {
+        eprintln!("no part has {} in its name", options.only);
+        return ExitCode::FAILURE;
+    }
+    let tally = tally::run(&parts);
     println!("{} passed, {} failed", tally.passed, tally.failed);
     if tally.failed == 0 {
         ExitCode::SUCCESS
@@ -322,13 +327,15 @@ fn drive(
 /// Demands 2 and 3 on tiny cases, and that wrong answers break them.
 fn all_strict_orders(tally: &mut Tally, options: &Options) {
     let mut rng = options.rng(7);
+    let mut comparison = Comparison::new(options.rng(107));
     let mut effort = Effort::default();
     let (mut finished, mut agreeing, mut orders) = (0, 0, 0);
     while finished < options.count(6000) {
         let shape = Shape::tiny(&mut rng);
         let case = gen::case(&mut rng, &shape);
         let book = gen::some_book(&mut rng, &case, &shape);
-        let Answer::Placed { places, visits } = literal::answer(&case.input(&book)) else {
+        let answer = comparison.check(tally, &case.input(&book));
+        let Answer::Placed { places, visits } = answer else {
             continue;
         };
         let Some(world) = World::new(&case) else {
