@@ -1,15 +1,15 @@
--- `turning::is_declined` meets its contract. By the test of the tier; the score that is passed on is bits, and `toZ-ofZ` reads it back.
+-- `turning::is_unopened` meets its contract. By the test of the tier; the score that is passed on is bits, and `toZ-ofZ` reads it back.
 use mathlib.Core.Path.{_≡_, sym, _∙_}
 use mir.Syntax.{w16}
 use mir.ValLaws.{toZ-ofZ}
 use lib.Dec.{ltb}
 use borrow.Author.Tests.{eq-eqb, ne-eqb}
 use Rattle.base.specs.Words.{biased}
-use Rattle.lgs.specs.Rule.{declined}
+use Rattle.lgs.specs.Rule.{declined, unopened}
 use Rattle.format.specs.Layout.{outsideScore, resultsOf}
 use borrow.Author.Needs.{needs}
-use Rattle.turning.proofs.is_declined.Statement.{statement}
-use Rattle.turning.proofs.is_declined.Tie as tie
+use Rattle.turning.proofs.is_unopened.Statement.{statement}
+use Rattle.turning.proofs.is_unopened.Tie as tie
 
 workshop-tier-requires : tie.Need-workshop-tier-requires
 workshop-tier-requires c κs = search needs
@@ -24,7 +24,7 @@ negative-requires : tie.Need-negative-requires
 negative-requires c κs = search needs
 
 returns : tie.Need-returns
-unfolding declined resultsOf
+unfolding unopened declined resultsOf
 returns c = λ s p q.
     let x = c .before .workshop-score in
     let f = toZ-ofZ w16 (x .result) (record { sfits = x .ok }) in
@@ -33,12 +33,12 @@ returns c = λ s p q.
     rw (e, x .ensures, q, eq-eqb _ _ t)
 
 returns-2 : tie.Need-returns-2
-unfolding declined
+unfolding unopened declined
 returns-2 c = λ s p q.
     sym (rw (ne-eqb _ _ (λ t. c .if1 .left (c .before .before .workshop-tier .ensures ∙ p ∙ t ∙ sym (c .before .workshop-outside .ensures)))))
 
-pub is-declined-spec : {M : Type 1} → statement M
-is-declined-spec =
+pub is-unopened-spec : {M : Type 1} → statement M
+is-unopened-spec =
     tie.close
     (tie.spec
     workshop-tier-requires
