@@ -25,8 +25,8 @@ extern "C" {
 #endif
 
 typedef struct {
-    uint16_t reached;
-    uint16_t held;
+    uint32_t reached;
+    uint32_t held;
     uint64_t openings;
 } lgs_student_state;
 

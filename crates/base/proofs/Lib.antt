@@ -8,3 +8,4 @@ pub mod Shift
 pub mod Signed
 pub mod Digits
 pub mod Grid
+pub mod Coding

@@ -4,7 +4,7 @@ use Prim.Native.Nat.{ℕ, _<_}
 use mathlib.Core.Path.{_≡_, refl, ap}
 use mathlib.Core.Logic.{⊎-elim}
 use mathlib.Core.Bool.{Bool, true, false, not, _&&_, _||_}
-use mathlib.Core.List.{List, [], _∷_}
+use mathlib.Core.List.{List, [], _∷_, flatMap}
 use native.Mathlib.Omega.{arith}
 use lib.Dec.{eqb, ltb}
 use borrow.Author.Tests.{lt-ltb, le-ltb, eq-eqb, ne-eqb}
@@ -15,7 +15,8 @@ use Rattle.lgs.specs.Market.{Market, ConsistentStages, Rivals, workshopOutside}
 use Rattle.lgs.specs.Rule.{interviewed}
 use Rattle.format.specs.Layout.{Row, isPair, ofKind, rowAt, rows, marketOf}
 use Rattle.format.specs.Promises.{Example}
-use Rattle.format.specs.Table.{words, caseRecord, concat, caseOf, studentsK, workshopsK, pairsK, caseWith, K, bookK, visitsK, answerK, exact, TablesHold}
+use Rattle.format.specs.Encoding.{words, rowBytes, caseBytes}
+use Rattle.format.specs.Table.{caseOf, studentsK, workshopsK, pairsK, caseWith, K, bookK, visitsK, answerK, exact, TablesHold}
 use Rattle.format.proofs.Positions.{pair-says}
 use Rattle.format.proofs.Table.{computed}
 
@@ -96,7 +97,7 @@ module _ (rs : List Row) (none : someDiffer rs ≡ false) where
 -- ---- example K
 
 agrees-k : someDiffer (rows K) ≡ false
-unfolding someDiffer meets differ marketOf rows rowAt word any find tally tabulate K caseWith caseOf concat caseRecord words studentsK workshopsK pairsK
+unfolding someDiffer meets differ marketOf rows rowAt word any find tally tabulate K caseWith caseOf flatMap caseBytes rowBytes words studentsK workshopsK pairsK
 agrees-k = refl
 
 pub example-k : Example K bookK exact
@@ -112,12 +113,4 @@ example-k =
 
 -- ---- the tables of proved cases
 pub tables-hold : TablesHold
-tables-hold =
-    record {
-      answers = computed .answers;
-      own = computed .own;
-      exactly = computed .exactly;
-      shortly = computed .shortly;
-      text = computed .text;
-      agreeing = example-k;
-    }
+tables-hold = record { computed = computed; agreeing = example-k }

@@ -9,3 +9,4 @@ pub mod Promises
 pub mod Buffers
 pub mod Example
 pub mod Table
+pub mod Encoding

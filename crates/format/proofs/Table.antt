@@ -1,26 +1,20 @@
 -- The table of proved cases: the definitions give document 01's fifteen answers, and those of our own list.
 -- Shown by computation, from the bytes to the answer. Also: exact and short buffers, and the printed text of K.
-use mathlib.Core.Path.{_≡_, refl}
-use mathlib.Core.List.{List, [], _∷_, map}
+use mathlib.Core.Path.{refl}
+use mathlib.Core.List.{flatMap}
 use Rattle.base.specs.Lists.{count, total, upto, tabulate, keep, any, tally, find, pick, update}
 use Rattle.base.specs.Search.{firstBad}
 use Rattle.base.specs.Words.{word, signed}
 use Rattle.lgs.specs.Market.{allSeats, seatsOf, outscored}
 use Rattle.lgs.specs.Rule.{interviewed, insert, byStage, start, declined, unopened, open?, choices, due, holders, below, lowestOf, best, interviewAll, close, settle, apply, turn, step, run, fuel, lazyGaleShapley}
 use Rattle.format.specs.Layout.{rowAt, rows, unnamed, marketOf, entryAt, entries, resultsOf}
-use Rattle.format.specs.Refusals.{badForm, kindFalls, badNumber, notRising, namesNobody, badOrder, badCounts, badStudent, badWorkshop, badTiers, badRange, needed, badRoom, badPair, badScores, badRepeat, studentTies, workshopTies, badTie, caseCauses, roomCauses, bookCauses, causes, refusal, Room}
-use Rattle.format.specs.Engine.{refused, engine, outcomeOf, ruleOutcome, outcomeUnless}
+use Rattle.format.specs.Refusals.{badForm, kindFalls, badNumber, notRising, namesNobody, badOrder, badCounts, badStudent, badWorkshop, badTiers, badRange, needed, badRoom, badPair, badScores, badRepeat, studentTies, workshopTies, badTie, caseCauses, roomCauses, bookCauses, causes, refusal}
+use Rattle.format.specs.Encoding.{words, rowBytes, caseBytes}
+use Rattle.format.specs.Buffers.{flat, placesAfter, visitsAfter, values}
+use Rattle.format.specs.Engine.{engine, outcomeOf, ruleOutcome, outcomeUnless}
 use Rattle.format.specs.Printed.{digitsWithin, decimal, numbers, placeLines, visitLines, visitsText, printed}
-use Rattle.format.specs.Table.{words, caseRecord, concat, caseOf, bookOf, studentsK, workshopsK, pairsK, caseWith, bookWith, K, bookK, visitsK, answerK, printedK, table, ownTable, ample, exact, shortRooms, given, expected}
-
--- all of it but the agreeing stages, which Example.antt shows
-pub record Computed : Type 0 where
-  pub answers : given table ≡ expected table
-  pub own : given ownTable ≡ expected ownTable
-  pub exactly : engine K bookK exact ≡ answerK
-  pub shortly : map (λ (room : Room). engine K (0 ∷ []) room) shortRooms ≡ map (λ (room : Room). refused 6 0) shortRooms
-  pub text : printed answerK ≡ printedK
+use Rattle.format.specs.Table.{Computed, caseOf, bookOf, studentsK, workshopsK, pairsK, caseWith, bookWith, K, bookK, visitsK, answerK, printedK, table, ownTable, ample, exact, shortRooms, people, countsRefused, buffersAfter, buffersExpected, given, expected}
 
 pub computed : Computed
-unfolding given expected table ownTable ample exact shortRooms words caseRecord concat caseOf bookOf studentsK workshopsK pairsK caseWith bookWith K bookK visitsK answerK printedK engine outcomeUnless ruleOutcome outcomeOf refusal causes caseCauses roomCauses bookCauses badTie workshopTies studentTies badRepeat badScores badPair badRoom needed allSeats seatsOf badRange badTiers badWorkshop badStudent badCounts badOrder namesNobody notRising badNumber kindFalls badForm resultsOf entries entryAt unnamed marketOf rows rowAt signed word firstBad update pick find tally any keep tabulate upto total count lazyGaleShapley fuel run step turn apply settle close interviewAll best lowestOf below holders due choices open? unopened declined outscored start byStage insert interviewed printed visitsText visitLines placeLines numbers decimal digitsWithin
-computed = record { answers = refl; own = refl; exactly = refl; shortly = refl; text = refl }
+unfolding given expected table ownTable ample exact shortRooms people countsRefused buffersAfter buffersExpected flat placesAfter visitsAfter values words rowBytes caseBytes flatMap caseOf bookOf studentsK workshopsK pairsK caseWith bookWith K bookK visitsK answerK printedK engine outcomeUnless ruleOutcome outcomeOf refusal causes caseCauses roomCauses bookCauses badTie workshopTies studentTies badRepeat badScores badPair badRoom needed allSeats seatsOf badRange badTiers badWorkshop badStudent badCounts badOrder namesNobody notRising badNumber kindFalls badForm resultsOf entries entryAt unnamed marketOf rows rowAt signed word firstBad update pick find tally any keep tabulate upto total count lazyGaleShapley fuel run step turn apply settle close interviewAll best lowestOf below holders due choices open? unopened declined outscored start byStage insert interviewed printed visitsText visitLines placeLines numbers decimal digitsWithin
+computed = record { answers = refl; own = refl; counts = refl; exactly = refl; shortly = refl; buffers = refl; text = refl }

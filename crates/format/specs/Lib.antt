@@ -1,5 +1,6 @@
 pub mod Layout
 pub mod Causes
+pub mod Encoding
 pub mod Refusals
 pub mod Engine
 pub mod Buffers

@@ -1,37 +1,44 @@
 -- The table of proved cases (document 01), and a list of our own for the slips that it does not catch. proofs/Table.antt has the one proof that
 -- the definitions give them.
-use Prim.Native.Nat.{ℕ, _-_, _/_, _%_}
+use Prim.Native.Nat.{ℕ, _-_}
 use mathlib.Core.Path.{_≡_}
-use mathlib.Core.List.{List, [], _∷_, _++_, map}
-use lib.ListN.{length, take, replicate}
+use mathlib.Core.Bool.{Bool, true, false}
+use mathlib.Core.List.{List, [], _∷_, _++_, map, flatMap}
+use lib.ListN.{getD, take, replicate}
+use Rattle.base.specs.Lists.{upto}
 use Rattle.lgs.specs.Rule.{Interview}
-use Rattle.format.specs.Refusals.{Room}
+use Rattle.format.specs.Layout.{Row}
+use Rattle.format.specs.Encoding.{words, rowBytes, caseBytes}
+use Rattle.format.specs.Refusals.{Room, badCounts}
 use Rattle.format.specs.Engine.{placed, next, refused, engine, Outcome}
+use Rattle.format.specs.Buffers.{placesAfter, visitsAfter, scratchAfter, values}
 use Rattle.format.specs.Printed.{printed}
 use Rattle.format.specs.Promises.{Example}
 
 -- ---- bytes from fields
 
--- 16-bit fields, low byte first
-unfoldable pub words : List ℕ → List ℕ
-words [] = []
-words (x ∷ xs) = x % 256 ∷ x / 256 ∷ words xs
-
--- a record of the case: kind and fields, filled up with zeros to 16 bytes
-unfoldable pub caseRecord : ℕ → List ℕ → List ℕ
-caseRecord kind fields = kind ∷ 0 ∷ words fields ++ replicate (14 - length (words fields)) 0
-
-unfoldable pub concat : List (List ℕ) → List ℕ
-concat [] = []
-concat (x ∷ xs) = x ++ concat xs
+-- a record of the case by its kind and its fields, the others zero
+abbrev pub rowWith : ℕ → List ℕ → Row
+rowWith kind fields =
+    record {
+      kind = kind;
+      pad = 0;
+      first = getD fields 0 0;
+      second = getD fields 1 0;
+      third = getD fields 2 0;
+      fourth = getD fields 3 0;
+      fifth = getD fields 4 0;
+      sixth = getD fields 5 0;
+      seventh = getD fields 6 0;
+    }
 
 -- a case by the fields of its students, workshops and pairs
 unfoldable pub caseOf : List (List ℕ) → List (List ℕ) → List (List ℕ) → List ℕ
-caseOf students workshops pairs = concat (map (caseRecord 1) students ++ map (caseRecord 2) workshops ++ map (caseRecord 3) pairs)
+caseOf students workshops pairs = caseBytes (map (rowWith 1) students ++ map (rowWith 2) workshops ++ map (rowWith 3) pairs)
 
 -- a book by the fields of its records
 unfoldable pub bookOf : List (List ℕ) → List ℕ
-bookOf records = concat (map words records)
+bookOf records = flatMap words records
 
 -- the field of the mark -x
 abbrev pub neg : ℕ → ℕ
@@ -159,7 +166,7 @@ ownTable =
     (placed (0 ∷ []) ((1, 1) ∷ []))
     -- each refusal that the fifteen lack, at its first record
     ∷ sample (oneEach (f3 1 1 1) (1 ∷ 1 ∷ 1 ∷ 7 ∷ []) []) [] (refused 2 1)
-    ∷ sample (caseRecord 4 (f3 1 1 1)) [] (refused 2 0)
+    ∷ sample (caseBytes (rowWith 4 (f3 1 1 1) ∷ [])) [] (refused 2 0)
     ∷ sample (oneEach (f3 1 1 1) (f3 2 1 1) []) [] (refused 3 1)
     ∷ sample (caseOf (f3 1 1 1 ∷ []) [] (f4 1 1 1 1 ∷ [])) [] (refused 3 1)
     ∷ sample (oneEach (f3 1 1 1) (f3 1 1 1) (f4 1 1 1 1 ∷ f4 1 1 1 1 ∷ [])) [] (refused 3 3)
@@ -171,13 +178,16 @@ ownTable =
     ∷ sample (oneEach (f3 1 1 1) (f3 1 1 1) []) (bookOf (f4 1 1 1 1 ∷ [])) (refused 8 0)
     ∷ sample K (bookOf (f4 1 1 5 3 ∷ f4 1 2 2 0 ∷ [])) (refused 9 1)
     ∷ sample K (bookOf (f4 1 1 5 3 ∷ f4 1 1 4 2 ∷ [])) (refused 10 1)
-    -- byte 1, and bytes 10 to 15
+    -- byte 1, bytes 8 and 9 of a student, and bytes 10 to 15
     ∷ sample (1 ∷ 1 ∷ words (f3 1 1 1) ++ replicate 8 0) [] (refused 2 0)
-    ∷ sample (caseRecord 1 (1 ∷ 1 ∷ 1 ∷ 0 ∷ 0 ∷ 0 ∷ 256 ∷ [])) [] (refused 2 0)
-    ∷ sample (caseRecord 0 (f3 1 1 1)) [] (refused 2 0)
+    ∷ sample (oneEach (f4 1 1 1 7) (f3 1 1 1) []) [] (refused 2 0)
+    ∷ sample (oneEach (f3 1 1 1) (f3 1 1 1) ((1 ∷ 1 ∷ 1 ∷ 1 ∷ 1 ∷ []) ∷ [])) [] (refused 2 2)
+    ∷ sample (oneEach (f3 1 1 1) (f3 1 1 1) ((1 ∷ 1 ∷ 1 ∷ 1 ∷ 0 ∷ 256 ∷ []) ∷ [])) [] (refused 2 2)
+    ∷ sample (oneEach (1 ∷ 1 ∷ 1 ∷ 0 ∷ 0 ∷ 0 ∷ 256 ∷ []) (f3 1 1 1) []) [] (refused 2 0)
+    ∷ sample (caseBytes (rowWith 0 (f3 1 1 1) ∷ [])) [] (refused 2 0)
     -- a pair before its workshop, kinds that fall, a pair with nobody, pairs not rising by workshop and by student
-    ∷ sample (concat (caseRecord 1 (f3 1 1 1) ∷ caseRecord 3 (f4 1 1 1 1) ∷ caseRecord 2 (f3 1 1 1) ∷ [])) [] (refused 3 1)
-    ∷ sample (concat (caseRecord 2 (f3 1 1 1) ∷ caseRecord 1 (f3 1 1 1) ∷ [])) [] (refused 3 1)
+    ∷ sample (caseBytes (rowWith 1 (f3 1 1 1) ∷ rowWith 3 (f4 1 1 1 1) ∷ rowWith 2 (f3 1 1 1) ∷ [])) [] (refused 3 1)
+    ∷ sample (caseBytes (rowWith 2 (f3 1 1 1) ∷ rowWith 1 (f3 1 1 1) ∷ [])) [] (refused 3 1)
     ∷ sample (oneEach (f3 1 1 1) (f3 1 1 1) (f4 2 1 1 1 ∷ [])) [] (refused 3 2)
     ∷ sample (caseOf (f3 1 1 1 ∷ []) (f3 1 1 1 ∷ f3 2 1 1 ∷ []) (f4 1 2 1 1 ∷ f4 1 1 1 1 ∷ [])) [] (refused 3 4)
     ∷ sample (caseOf (f3 1 1 1 ∷ f3 2 1 1 ∷ []) (f3 1 1 1 ∷ []) (f4 2 1 1 1 ∷ f4 1 1 1 1 ∷ [])) [] (refused 3 4)
@@ -185,10 +195,14 @@ ownTable =
     -- the first numbers out of range
     ∷ sample (oneEach (f3 1 0 1) (f3 1 1 1) []) [] (refused 5 0)
     ∷ sample (oneEach (f3 1 1 66) (f3 1 1 1) []) [] (refused 5 0)
+    ∷ sample (oneEach (f3 1 1 0) (f3 1 1 1) []) [] (refused 5 0)
+    ∷ sample (oneEach (f3 1 1 1) (f3 1 1 0) []) [] (refused 5 1)
     ∷ sample (oneEach (f3 1 1 1) (f3 1 1 514) []) [] (refused 5 1)
     ∷ sample (oneEach (f3 1 1 1) (f3 1 1 1) (f4 1 1 0 1 ∷ [])) [] (refused 5 2)
     ∷ sample (oneEach (f3 1 1 1) (f3 1 1 1) (f4 1 1 1 514 ∷ [])) [] (refused 5 2)
     ∷ sample K (bookWith (neg 1001) 4 1 4 6) (refused 9 0)
+    ∷ sample K (bookWith 5 1001 1 4 6) (refused 9 1)
+    ∷ sample K (bookWith 5 4 (neg 1001) 4 6) (refused 9 2)
     ∷ sample K (bookOf (f4 1 1 5 3 ∷ f4 1 2 0 4 ∷ [])) (refused 9 1)
     -- a student's equal marks in one group, at the later record
     ∷ sample K (bookOf (f4 1 1 5 3 ∷ f4 1 2 5 4 ∷ [])) (refused 11 1)
@@ -213,6 +227,52 @@ shortRooms =
     ∷ record { places = 3; visits = 12; seats = 2; index = 6; states = 2 }
     ∷ []
 
+-- ---- counts at their limits: so many students and workshops, and whether cause 4 refuses them
+unfoldable pub people : ℕ → ℕ → List Row
+people n m = map (λ s. rowWith 1 (s ∷ [])) (upto n) ++ map (λ w. rowWith 2 (w ∷ [])) (upto m)
+
+unfoldable pub countsRefused : List Bool
+countsRefused =
+    badCounts (people 0 1)
+    ∷ badCounts (people 1 0)
+    ∷ badCounts (people 512 64)
+    ∷ badCounts (people 513 1)
+    ∷ badCounts (people 1 65)
+    ∷ []
+
+-- ---- lent buffers after an answer: K's with a place more than needed and two visits more than used, and those of a next visit and a refusal
+
+abbrev pub nextK : Outcome
+nextK = next 2 2 ((1, 1) ∷ (1, 2) ∷ [])
+
+unfoldable pub buffersAfter : List (List ℕ)
+buffersAfter =
+    placesAfter answerK (replicate 4 9)
+    ∷ visitsAfter answerK (replicate 10 9)
+    ∷ placesAfter nextK (replicate 3 9)
+    ∷ visitsAfter nextK (replicate 6 9)
+    ∷ placesAfter (refused 9 0) (replicate 3 9)
+    ∷ visitsAfter (refused 9 0) (replicate 3 9)
+    ∷ scratchAfter 0 (replicate 3 9)
+    ∷ values answerK
+    ∷ values nextK
+    ∷ values (refused 9 1)
+    ∷ []
+
+unfoldable pub buffersExpected : List (List ℕ)
+buffersExpected =
+    (1 ∷ 0 ∷ 2 ∷ 9 ∷ [])
+    ∷ (1 ∷ 1 ∷ 1 ∷ 2 ∷ 2 ∷ 2 ∷ 3 ∷ 2 ∷ 9 ∷ 9 ∷ [])
+    ∷ (9 ∷ 9 ∷ 9 ∷ [])
+    ∷ (1 ∷ 1 ∷ 1 ∷ 2 ∷ 9 ∷ 9 ∷ [])
+    ∷ (9 ∷ 9 ∷ 9 ∷ [])
+    ∷ (9 ∷ 9 ∷ 9 ∷ [])
+    ∷ (0 ∷ 0 ∷ 0 ∷ [])
+    ∷ (4 ∷ [])
+    ∷ (2 ∷ 2 ∷ 2 ∷ [])
+    ∷ (9 ∷ 1 ∷ [])
+    ∷ []
+
 -- what the engine answers to the samples, and what it should
 unfoldable pub given : List Sample → List Outcome
 given ls = map (λ (l : Sample). engine (l .case) (l .book) ample) ls
@@ -220,11 +280,18 @@ given ls = map (λ (l : Sample). engine (l .case) (l .book) ample) ls
 unfoldable pub expected : List Sample → List Outcome
 expected ls = map (λ (l : Sample). l .answer) ls
 
--- the tables hold: answers, exact and short buffers (cause 6, before a bad book length), the printed text, and a run with agreeing stages
-pub record TablesHold : Type 0 where
+-- the tables hold, by computation: answers, counts, exact and short buffers (cause 6, before a bad book length), buffers after an answer, the
+-- printed text
+pub record Computed : Type 0 where
   pub answers : given table ≡ expected table
   pub own : given ownTable ≡ expected ownTable
+  pub counts : countsRefused ≡ true ∷ true ∷ false ∷ true ∷ true ∷ []
   pub exactly : engine K bookK exact ≡ answerK
   pub shortly : map (λ (room : Room). engine K (0 ∷ []) room) shortRooms ≡ map (λ (room : Room). refused 6 0) shortRooms
+  pub buffers : buffersAfter ≡ buffersExpected
   pub text : printed answerK ≡ printedK
+
+-- and K is a run with agreeing stages
+pub record TablesHold : Type 0 where
+  pub computed : Computed
   pub agreeing : Example K bookK exact

@@ -474,7 +474,7 @@ fn open_tier(
     ensures { λ r. ⌜ r ≡ openTier (marketIn (now (case .entry))) (resultsIn (now (book .entry))) (now (visits .entry)) (now (seats .entry)) state run .turned ⌝ }
     ensures { λ r. ⌜ now (visits .exit) ≡ openTier (marketIn (now (case .entry))) (resultsIn (now (book .entry))) (now (visits .entry)) (now (seats .entry)) state run .visits ⌝ }
 {
-    let tier = state.reached + 1;
+    let tier = state.reached as u16 + 1;
     let set = state.openings;
     let round = hold_round(
         case,
@@ -490,8 +490,9 @@ fn open_tier(
         run.count,
     );
     let next = after_round(run, round);
+    let reached = tier as u32;
     let after = StudentState {
-        reached: tier,
+        reached,
         held: state.held,
         openings: round.openings,
     };
@@ -546,9 +547,10 @@ fn apply_to(
     let hand = run.hand as u16;
     let x = seating::seat_at(seats, case, book, index, students, workshops, c, hand) as usize;
     let next = after_seating(case, students, run, c, x);
+    let held = c as u32;
     let after = StudentState {
         reached: state.reached,
-        held: c as u16,
+        held,
         openings: state.openings,
     };
     Turned {
@@ -578,7 +580,7 @@ pub fn turn(
     let hand = run.hand;
     let told = told_state(run.lost, state);
     let set = told.openings;
-    let outside = lookup::student_outside(case, hand) == told.reached;
+    let outside = lookup::student_outside(case, hand) as u32 == told.reached;
     if (bits::count(set) == 0) & !outside {
         return open_tier(
             case,

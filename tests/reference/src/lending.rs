@@ -8,8 +8,8 @@ use crate::model::*;
 #[repr(C)]
 #[derive(Clone, Copy, Debug, Default, PartialEq, Eq)]
 pub struct StudentState {
-    pub reached: u16,
-    pub held: u16,
+    pub reached: u32,
+    pub held: u32,
     pub open: u64,
 }
 
@@ -81,8 +81,8 @@ pub fn check(
     let mut seats = Guarded::new(lent.seats, || rng.word() as u16);
     let mut index = Guarded::new(lent.index, || rng.word() as u16);
     let mut cards = Guarded::new(lent.cards, || StudentState {
-        reached: rng.word() as u16,
-        held: rng.word() as u16,
+        reached: rng.word() as u32,
+        held: rng.word() as u32,
         open: rng.word(),
     });
     let loan = Loan {
