@@ -423,7 +423,7 @@ class Answer:
 
 
 def read_answer(text, students):
-    """The program's lines as numbers. Anything but a whole answer stops here."""
+    """The program's lines as numbers. Anything but a whole answer stops here; a line without its end does not count."""
     answer, count = Answer(), None
     for line in text.split("\n")[:-1]:
         if not re.fullmatch(r"(place|next|visit|refused) [0-9]+ [0-9]+|visits [0-9]+", line):
@@ -438,7 +438,7 @@ def read_answer(text, students):
             {"place": answer.places, "visit": answer.visits}[word].append(numbers)
     placed = not answer.next and len(answer.places) == students
     whole = answer.refused or (count == len(answer.visits) and (answer.next or placed))
-    if not whole or not text.endswith("\n"):
+    if not whole:
         raise Stop("The answer of `place` was cut off. Run desk.py again.")
     return answer
 
