@@ -241,11 +241,16 @@ def check_name(file, row, column, names, problems):
     name = row.cells[column.heading]
     if name in names[column.of]:
         return True
-    near = difflib.get_close_matches(name.lower(), [n.lower() for n in names[column.of]], 1)
-    hint = [n for n in names[column.of] if [n.lower()] == near]
     text = f'there is no "{name}" in {column.of}.' if name else "the name is missing."
-    problems.add(file, row.at, column.heading, text + (f' Did you mean "{hint[0]}"?' if hint else ""))
+    problems.add(file, row.at, column.heading, text + hint(name, names[column.of], problems))
     return False
+
+
+def hint(name, names, problems):
+    """A name that looks like this one; not where so much is wrong that nobody reads it."""
+    by_small = {other.lower(): other for other in names}
+    near = difflib.get_close_matches(name.lower(), by_small, 1) if len(problems.found) < 20 else []
+    return f' Did you mean "{by_small[near[0]]}"?' if near else ""
 
 
 def check_couples(file, rows, names, problems):
@@ -366,7 +371,7 @@ def book_bytes(year):
 
 
 def write_files(contents):
-    """Writes each file beside its place first: none is ever half written, and where one cannot be written all stay as they were."""
+    """Writes all files beside their places first, so that none is ever half written."""
     parts = {name: f".{name}.{os.getpid()}" for name in contents}
     try:
         for name, part in parts.items():

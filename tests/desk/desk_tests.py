@@ -51,12 +51,13 @@ def answers(name, given, wanted):
 def new_files():
     """The four files of `desk.py new`."""
     with tempfile.TemporaryDirectory() as folder:
-        answers("new", desk(folder, "new"), (0, "Wrote students.csv, workshops.csv, pairs.csv, visits.csv.\n"
-                "Put your own year in them with a spreadsheet, or try the example: python3 desk.py\n", ""))
+        answers("new", desk(folder, "new"), (0, NEW_SAYS, ""))
         return {name: read(folder, name) for name in os.listdir(folder)}
 
 
 NEW_FILES = {}
+NEW_SAYS = ("Wrote students.csv, workshops.csv, pairs.csv, visits.csv.\n"
+            "Put your own year in them with a spreadsheet, or try the example: python3 desk.py\n")
 
 
 def in_new_folder(test):
@@ -119,6 +120,26 @@ def example_k(folder):
     check("K's book", read(folder, "book.dat") == bytes.fromhex(K_BOOK), read(folder, "book.dat").hex(" "))
     status, out, err = desk(folder, "next", "--visits")
     check("K's visits", out == K_PLACED + "\nThe visits:\n" + "".join(f"  {s} at {w}\n" for s, w, _, _ in K_VISITS), out)
+
+
+def guide(folder):
+    """What the guide shows is what is printed."""
+    with open(os.path.join(os.path.dirname(DESK), "..", "docs", "GUIDE.md"), encoding="utf-8") as f:
+        text = f.read()
+    first = desk(folder)[1]
+    for file, content in (("pairs.csv", pairs("Ana Berg,Dye house,1,1\n\n\nBen Olsen,Weaving mill,two,2\nCarla Roth,Dye house,1,2\n\nCarla Roth,Dye house,1,2\n")),
+                          ("visits.csv", VISIT_HEAD + "Anna Berg,Dye house,5,3\nAnna Berg,Weaving mill,5,4\n")):
+        before = read(folder, file)
+        write(folder, file, content)
+        shows(text, desk(folder)[2])
+        write(folder, file, before)
+    for shown in (NEW_SAYS, first, K_PLACED):
+        shows(text, shown)
+
+
+def shows(text, printed):
+    block = "\n".join("    " + line if line else "" for line in printed.rstrip("\n").split("\n"))
+    check("the guide shows what is printed", f"\n\n{block}\n\n" in text, block)
 
 
 def other_spellings(folder):
@@ -515,7 +536,7 @@ def other_folders(folder):
 
 def main():
     NEW_FILES.update(new_files())
-    for test in (example_k, other_spellings, accents, planned_row, unused_visit, stages_note, withdrawal, too_many_pairs, refusals, other_programs, finding_place, other_folders):
+    for test in (example_k, guide, other_spellings, accents, planned_row, unused_visit, stages_note, withdrawal, too_many_pairs, refusals, other_programs, finding_place, other_folders):
         in_new_folder(test)
     wrong_inputs()
     whole_year(1)
