@@ -106,7 +106,7 @@ fn expected_text(input: &Input) -> String {
 
 /// Runs all program tests; `seed` chooses the random ones.
 pub fn run(tally: &mut Tally, program: &Path, seed: u64, random_cases: usize) {
-    let bench = Bench::new(program).expect("a temporary folder can be made");
+    let bench = Bench::new(program).expect("the program can be copied to a temporary folder");
     for proved in proved::table() {
         bench.expect_answer(tally, proved.name, &proved.input);
     }
@@ -146,7 +146,8 @@ fn stored_runs(tally: &mut Tally, bench: &Bench) {
     folders.sort();
     tally.check(folders.len() >= 5, || "stored runs are gone".to_string());
     for folder in folders {
-        let name = format!("stored run {:?}", folder.file_name());
+        let last = folder.file_name().unwrap_or_default();
+        let name = format!("stored run {}", last.display());
         stored(tally, bench, &name, &folder, &folder.join("stdout"));
     }
 }
