@@ -427,25 +427,42 @@ class Answer:
     visits: list = field(default_factory=list)
 
 
-def read_answer(text, students):
+def read_answer(text, year):
     """The program's lines as numbers. Anything but a whole answer stops here; a line without its end does not count."""
     answer, count = Answer(), None
     for line in text.split("\n")[:-1]:
-        if not re.fullmatch(r"(place|next|visit|refused) [0-9]+ [0-9]+|visits [0-9]+", line):
+        word, *numbers = line.split(" ")
+        if not is_known(word, numbers, year):
             raise Stop(f"`place` printed what desk.py does not know: {line}")
-        word, *numbers = line.split()
         numbers = tuple(int(number) for number in numbers)
         if word == "visits":
             count = numbers[0]
-        elif word in ("next", "refused"):
-            setattr(answer, word, numbers)
+        elif word == "visit":
+            answer.visits.append(numbers)
+        elif word == "place":
+            answer.places.append(numbers)
+        elif word == "next":
+            answer.next = numbers
         else:
-            {"place": answer.places, "visit": answer.visits}[word].append(numbers)
-    placed = not answer.next and len(answer.places) == students
+            answer.refused = numbers
+    placed = not answer.next and len(answer.places) == len(year.students)
     whole = answer.refused or (count == len(answer.visits) and (answer.next or placed))
     if not whole:
         raise Stop("The answer of `place` was cut off. Run desk.py again.")
     return answer
+
+
+def is_known(word, numbers, year):
+    """A line of the program: a known word, with numbers of people that there are."""
+    if not all(re.fullmatch("[0-9]{1,9}", number) for number in numbers):
+        return False
+    if word == "visits":
+        return len(numbers) == 1
+    if word == "refused":
+        return len(numbers) == 2
+    lowest = 0 if word == "place" else 1    # workshop 0 is no place
+    return (word in ("place", "next", "visit") and len(numbers) == 2
+            and 1 <= int(numbers[0]) <= len(year.students) and lowest <= int(numbers[1]) <= len(year.workshops))
 
 
 # ---------------------------------------------------------------- telling the answer
@@ -504,17 +521,22 @@ def tell_stages(year):
 
 def explain_refusal(year, number, place):
     """What the engine refused, with the row that it points to."""
-    file, words = REFUSALS.get(number, ("", "desk.py does not know this number"))
-    rows = year.visits
-    if file == CASE_RECORDS:
-        for file, rows in ((STUDENTS, year.students), (WORKSHOPS, year.workshops), (PAIRS, year.pairs)):
-            if place < len(rows):
-                break
-            place -= len(rows)
-    if not file or place >= len(rows):
+    where, words = REFUSALS.get(number, ("", "desk.py does not know this number"))
+    file, row = row_at(year, where, place)
+    if row is None:
         return f"`place` refused the files, number {number}: {words}."
-    other = "\n".join(equal_marks(year, rows[place])) if number == 11 else ""
-    return f"{file}, row {rows[place].at}: {words}." + (f"\n{other}" if other else "")
+    lines = equal_marks(year, row) if number == 11 else []
+    return "\n".join([f"{file}, row {row.at}: {words}."] + lines)
+
+
+def row_at(year, where, place):
+    """The row from which a record of case.dat or book.dat was made."""
+    lists = {CASE_RECORDS: [(STUDENTS, year.students), (WORKSHOPS, year.workshops), (PAIRS, year.pairs)], VISITS: [(VISITS, year.visits)]}
+    for file, rows in lists.get(where, []):
+        if place < len(rows):
+            return file, rows[place]
+        place -= len(rows)
+    return "", None
 
 
 def equal_marks(year, row):
@@ -557,7 +579,7 @@ def answer(place, list_visits):
     text = run_place(path)
     if text == "unread\n":
         raise Stop("`place` could not read case.dat or book.dat in this folder.")
-    found = read_answer(text, len(year.students))
+    found = read_answer(text, year)
     if found.refused:
         raise Stop(explain_refusal(year, *found.refused))
     lines = tell_next(year, found) if found.next else tell_placement(year, found)

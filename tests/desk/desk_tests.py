@@ -444,6 +444,9 @@ PRINTED = [
     ("refused 99 0", "`place` refused the files, number 99: desk.py does not know this number.\n"),
     ("unread", "`place` could not read case.dat or book.dat in this folder.\n"),
     ("hello", "`place` printed what desk.py does not know: hello\n"),
+    ("next 4 1", "`place` printed what desk.py does not know: next 4 1\n"),
+    ("visit 1 0", "`place` printed what desk.py does not know: visit 1 0\n"),
+    ("refused 5 11", "`place` refused the files, number 5: a stage, quota, group or line group is out of range.\n"),
     ("place 1 1", "The answer of `place` was cut off. Run desk.py again.\n"),
     ("next 1 1", "The answer of `place` was cut off. Run desk.py again.\n"),
 ]
