@@ -2,7 +2,8 @@
  *
  * lgs_place takes a case and a book of visit results (docs/FORMAT.md has both byte by byte) and answers with the next visit, with the
  * finished placement, or with a refusal. Whatever the bytes, the lengths and the contents at entry, it reads and writes only what is lent, and it
- * returns. include/example.c is a complete caller.
+ * returns. include/example.c is a complete caller. Python and others that load a library at run time get one from the archive, which is position
+ * independent: gcc -shared -o liblgs.so -Wl,--whole-archive target/staticlib/libengine.a -Wl,--no-whole-archive
  *
  * The buffers, counted in entries. Shorter ones are refused (LGS_SHORT_BUFFER). The last column always suffices, whatever the case.
  *

@@ -241,11 +241,16 @@ def check_name(file, row, column, names, problems):
     name = row.cells[column.heading]
     if name in names[column.of]:
         return True
-    near = difflib.get_close_matches(name.lower(), [n.lower() for n in names[column.of]], 1)
-    hint = [n for n in names[column.of] if [n.lower()] == near]
     text = f'there is no "{name}" in {column.of}.' if name else "the name is missing."
-    problems.add(file, row.at, column.heading, text + (f' Did you mean "{hint[0]}"?' if hint else ""))
+    problems.add(file, row.at, column.heading, text + hint(name, names[column.of], problems))
     return False
+
+
+def hint(name, names, problems):
+    """A name that looks like this one; not where so much is wrong that nobody reads it."""
+    by_small = {other.lower(): other for other in names}
+    near = difflib.get_close_matches(name.lower(), by_small, 1) if len(problems.found) < 20 else []
+    return f' Did you mean "{by_small[near[0]]}"?' if near else ""
 
 
 def check_couples(file, rows, names, problems):
@@ -366,7 +371,7 @@ def book_bytes(year):
 
 
 def write_files(contents):
-    """Writes each file beside its place first: none is ever half written, and where one cannot be written all stay as they were."""
+    """Writes all files beside their places first, so that none is ever half written."""
     parts = {name: f".{name}.{os.getpid()}" for name in contents}
     try:
         for name, part in parts.items():
@@ -422,25 +427,42 @@ class Answer:
     visits: list = field(default_factory=list)
 
 
-def read_answer(text, students):
-    """The program's lines as numbers. Anything but a whole answer stops here."""
+def read_answer(text, year):
+    """The program's lines as numbers. Anything but a whole answer stops here; a line without its end does not count."""
     answer, count = Answer(), None
     for line in text.split("\n")[:-1]:
-        if not re.fullmatch(r"(place|next|visit|refused) [0-9]+ [0-9]+|visits [0-9]+", line):
+        word, *numbers = line.split(" ")
+        if not is_known(word, numbers, year):
             raise Stop(f"`place` printed what desk.py does not know: {line}")
-        word, *numbers = line.split()
         numbers = tuple(int(number) for number in numbers)
         if word == "visits":
             count = numbers[0]
-        elif word in ("next", "refused"):
-            setattr(answer, word, numbers)
+        elif word == "visit":
+            answer.visits.append(numbers)
+        elif word == "place":
+            answer.places.append(numbers)
+        elif word == "next":
+            answer.next = numbers
         else:
-            {"place": answer.places, "visit": answer.visits}[word].append(numbers)
-    placed = not answer.next and len(answer.places) == students
+            answer.refused = numbers
+    placed = not answer.next and len(answer.places) == len(year.students)
     whole = answer.refused or (count == len(answer.visits) and (answer.next or placed))
-    if not whole or not text.endswith("\n"):
+    if not whole:
         raise Stop("The answer of `place` was cut off. Run desk.py again.")
     return answer
+
+
+def is_known(word, numbers, year):
+    """A line of the program: a known word, with numbers of people that there are."""
+    if not all(re.fullmatch("[0-9]{1,9}", number) for number in numbers):
+        return False
+    if word == "visits":
+        return len(numbers) == 1
+    if word == "refused":
+        return len(numbers) == 2
+    lowest = 0 if word == "place" else 1    # workshop 0 is no place
+    return (word in ("place", "next", "visit") and len(numbers) == 2
+            and 1 <= int(numbers[0]) <= len(year.students) and lowest <= int(numbers[1]) <= len(year.workshops))
 
 
 # ---------------------------------------------------------------- telling the answer
@@ -499,17 +521,22 @@ def tell_stages(year):
 
 def explain_refusal(year, number, place):
     """What the engine refused, with the row that it points to."""
-    file, words = REFUSALS.get(number, ("", "desk.py does not know this number"))
-    rows = year.visits
-    if file == CASE_RECORDS:
-        for file, rows in ((STUDENTS, year.students), (WORKSHOPS, year.workshops), (PAIRS, year.pairs)):
-            if place < len(rows):
-                break
-            place -= len(rows)
-    if not file or place >= len(rows):
+    where, words = REFUSALS.get(number, ("", "desk.py does not know this number"))
+    file, row = row_at(year, where, place)
+    if row is None:
         return f"`place` refused the files, number {number}: {words}."
-    other = "\n".join(equal_marks(year, rows[place])) if number == 11 else ""
-    return f"{file}, row {rows[place].at}: {words}." + (f"\n{other}" if other else "")
+    lines = equal_marks(year, row) if number == 11 else []
+    return "\n".join([f"{file}, row {row.at}: {words}."] + lines)
+
+
+def row_at(year, where, place):
+    """The row from which a record of case.dat or book.dat was made."""
+    lists = {CASE_RECORDS: [(STUDENTS, year.students), (WORKSHOPS, year.workshops), (PAIRS, year.pairs)], VISITS: [(VISITS, year.visits)]}
+    for file, rows in lists.get(where, []):
+        if place < len(rows):
+            return file, rows[place]
+        place -= len(rows)
+    return "", None
 
 
 def equal_marks(year, row):
@@ -552,7 +579,7 @@ def answer(place, list_visits):
     text = run_place(path)
     if text == "unread\n":
         raise Stop("`place` could not read case.dat or book.dat in this folder.")
-    found = read_answer(text, len(year.students))
+    found = read_answer(text, year)
     if found.refused:
         raise Stop(explain_refusal(year, *found.refused))
     lines = tell_next(year, found) if found.next else tell_placement(year, found)

@@ -6,6 +6,8 @@ import csv
 import io
 import os
 import random
+import resource
+import shutil
 import stat
 import subprocess
 import sys
@@ -21,12 +23,10 @@ def check(name, good, detail=""):
         print(f"FAILED {name}\n{detail}")
 
 
-def desk(folder, *words, place=PLACE):
+def desk(folder, *words, place=PLACE, first=None):
     """Runs desk.py in the folder as a clerk does: status, what it printed, what it complained of."""
-    env = {name: value for name, value in os.environ.items() if name != "PLACE"}
-    if place:
-        env["PLACE"] = place
-    done = subprocess.run([sys.executable, DESK, *words], cwd=folder, env=env, capture_output=True, stdin=subprocess.DEVNULL)
+    env = {**os.environ, "PLACE": place}
+    done = subprocess.run([sys.executable, DESK, *words], cwd=folder, env=env, capture_output=True, stdin=subprocess.DEVNULL, preexec_fn=first)
     return done.returncode, done.stdout.decode(), done.stderr.decode()
 
 
@@ -51,12 +51,13 @@ def answers(name, given, wanted):
 def new_files():
     """The four files of `desk.py new`."""
     with tempfile.TemporaryDirectory() as folder:
-        answers("new", desk(folder, "new"), (0, "Wrote students.csv, workshops.csv, pairs.csv, visits.csv.\n"
-                "Put your own year in them with a spreadsheet, or try the example: python3 desk.py\n", ""))
+        answers("new", desk(folder, "new"), (0, NEW_SAYS, ""))
         return {name: read(folder, name) for name in os.listdir(folder)}
 
 
 NEW_FILES = {}
+NEW_SAYS = ("Wrote students.csv, workshops.csv, pairs.csv, visits.csv.\n"
+            "Put your own year in them with a spreadsheet, or try the example: python3 desk.py\n")
 
 
 def in_new_folder(test):
@@ -121,6 +122,26 @@ def example_k(folder):
     check("K's visits", out == K_PLACED + "\nThe visits:\n" + "".join(f"  {s} at {w}\n" for s, w, _, _ in K_VISITS), out)
 
 
+def guide(folder):
+    """What the guide shows is what is printed."""
+    with open(os.path.join(os.path.dirname(DESK), "..", "docs", "GUIDE.md"), encoding="utf-8") as f:
+        text = f.read()
+    first = desk(folder)[1]
+    for file, content in (("pairs.csv", pairs("Ana Berg,Dye house,1,1\n\n\nBen Olsen,Weaving mill,two,2\nCarla Roth,Dye house,1,2\n\nCarla Roth,Dye house,1,2\n")),
+                          ("visits.csv", VISIT_HEAD + "Anna Berg,Dye house,5,3\nAnna Berg,Weaving mill,5,4\n")):
+        before = read(folder, file)
+        write(folder, file, content)
+        shows(text, desk(folder)[2])
+        write(folder, file, before)
+    for shown in (NEW_SAYS, first, K_PLACED):
+        shows(text, shown)
+
+
+def shows(text, printed):
+    block = "\n".join("    " + line if line else "" for line in printed.rstrip("\n").split("\n"))
+    check("the guide shows what is printed", f"\n\n{block}\n\n" in text, block)
+
+
 def other_spellings(folder):
     """Semicolons, quotes, no byte order mark, other column order, other columns, empty rows, blanks, rows in any order."""
     write(folder, "students.csv", '"Stage";"STUDENT";phone;"Line group"\n1;"Anna  Berg";;2\n2; Ben Olsen ;7;2\n\n"2";"Carla Roth";"8";"2"\n;;;\n')
@@ -132,6 +153,14 @@ def other_spellings(folder):
     answers("other spellings", (status, out, err), (0, K_PLACED, ""))
     check("other spellings: case", read(folder, "case.dat") == bytes.fromhex(K_CASE))
     check("other spellings: book", read(folder, "book.dat") == bytes.fromhex(K_BOOK))
+
+
+def accents(folder):
+    """A letter with its accent as one sign in one file and as two in another."""
+    for name in ("students.csv", "pairs.csv"):
+        write(folder, name, read(folder, name).decode().replace("Anna Berg", "\u00c5se" if name == "pairs.csv" else "A\u030ase"))
+    status, out, err = desk(folder)
+    check("accents", out.startswith("Next visit: \u00c5se goes to Dye house.\n"), out + err)
 
 
 def planned_row(folder):
@@ -394,6 +423,9 @@ WRONG = [
 
 # Refusals of the engine: name, visits.csv, the message.
 REFUSED = [
+    ("equal marks in two groups", VISIT_HEAD + "Anna Berg,Dye house,5,3\nCarla Roth,Dye house,5,3\nBen Olsen,Dye house,1,3\n",
+     "visits.csv, row 4: one person gave the same mark twice in one group. Ask which of the two is better, and change one mark.\n"
+     '  Dye house gave 3 in row 3 too, column "mark from workshop".\n'),
     ("a student's mark twice", VISIT_HEAD + "Anna Berg,Dye house,5,3\nAnna Berg,Weaving mill,5,4\n",
      "visits.csv, row 3: one person gave the same mark twice in one group. Ask which of the two is better, and change one mark.\n"
      '  Anna Berg gave 5 in row 2 too, column "mark from student".\n'),
@@ -412,6 +444,9 @@ PRINTED = [
     ("refused 99 0", "`place` refused the files, number 99: desk.py does not know this number.\n"),
     ("unread", "`place` could not read case.dat or book.dat in this folder.\n"),
     ("hello", "`place` printed what desk.py does not know: hello\n"),
+    ("next 4 1", "`place` printed what desk.py does not know: next 4 1\n"),
+    ("visit 1 0", "`place` printed what desk.py does not know: visit 1 0\n"),
+    ("refused 5 11", "`place` refused the files, number 5: a stage, quota, group or line group is out of range.\n"),
     ("place 1 1", "The answer of `place` was cut off. Run desk.py again.\n"),
     ("next 1 1", "The answer of `place` was cut off. Run desk.py again.\n"),
 ]
@@ -462,11 +497,34 @@ def other_programs(folder):
     answers("no such program", desk(folder, "--place", "nobody")[2], f"There is no program {os.path.realpath(folder)}/nobody.\n")
 
 
+def finding_place(folder):
+    """Beside desk.py, on the PATH, nowhere."""
+    own = os.path.join(folder, "desk.py")
+    shutil.copy(DESK, own)
+    env = {name: value for name, value in os.environ.items() if name != "PLACE"}
+
+    def run(path):
+        done = subprocess.run([sys.executable, own], cwd=folder, env={**env, "PATH": path}, capture_output=True)
+        return done.stdout.decode() + done.stderr.decode()
+
+    with tempfile.TemporaryDirectory() as other:
+        shutil.copy(PLACE, os.path.join(other, "place"))
+        check("place on the PATH", run(other).startswith("Next visit: Anna Berg"), run(other))
+        answers("no place", run("/nowhere"), f"The program `place` was not found. Copy it to {os.path.realpath(folder)}/place, or name it: --place PATH.\n")
+    shutil.copy(PLACE, os.path.join(folder, "place"))
+    check("place beside desk.py", run("/nowhere").startswith("Next visit: Anna Berg"), run("/nowhere"))
+
+
 def other_folders(folder):
     before = {name: read(folder, name) for name in os.listdir(folder)}
     answers("new in a used folder", desk(folder, "new"),
             (1, "", "students.csv and workshops.csv and pairs.csv and visits.csv are in this folder already. Nothing was written.\n"))
     check("new leaves what is there", before == {name: read(folder, name) for name in os.listdir(folder)})
+    write(folder, "case.dat", b"as it was")
+    small_files = lambda: resource.setrlimit(resource.RLIMIT_FSIZE, (100, 100))
+    answers("no room for the whole case", desk(folder, first=small_files), (1, "", "case.dat and book.dat cannot be written in this folder: File too large.\n"))
+    check("the case is as it was", read(folder, "case.dat") == b"as it was" and len(os.listdir(folder)) == 5, str(os.listdir(folder)))
+    os.remove(os.path.join(folder, "case.dat"))
     os.mkdir(os.path.join(folder, "case.dat"))
     status, out, err = desk(folder)
     answers("no way to write", err, "case.dat and book.dat cannot be written in this folder: Is a directory.\n")
@@ -481,7 +539,7 @@ def other_folders(folder):
 
 def main():
     NEW_FILES.update(new_files())
-    for test in (example_k, other_spellings, planned_row, unused_visit, stages_note, withdrawal, too_many_pairs, refusals, other_programs, other_folders):
+    for test in (example_k, guide, other_spellings, accents, planned_row, unused_visit, stages_note, withdrawal, too_many_pairs, refusals, other_programs, finding_place, other_folders):
         in_new_folder(test)
     wrong_inputs()
     whole_year(1)
