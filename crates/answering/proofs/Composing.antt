@@ -93,7 +93,7 @@ module _ (case book places visits seats index : List ℕ) (states : List Student
     idle : (j : ℕ) → after j ≡ (visits, (seats₁, (zeros, p .run)))
     unfolding runOf
     idle zero = refl
-    idle (suc j) = rw (eq-eqb (p .run .hand) 0 (halted .hand))
+    idle (suc j) = rw (eq-eqb (p .run .hand) 0 (ap (λ r. r .hand) (halted .run)))
 
     is-refused : engine case book room ≡ refused k i
     unfolding engine outcomeUnless
@@ -138,7 +138,7 @@ module _ (case book places visits seats index : List ℕ) (states : List Student
     where
       by-refusal : (o : Option (ℕ × ℕ)) → refusal case book room ≡ o → 0 < hand (after j)
           → StepReady case book index₁ (after j .0) (after j .1 .0) (getD (after j .1 .1 .0) (hand (after j) - 1) zeroState) (after j .1 .1 .1) (p .students) (p .workshops)
-      by-refusal (some (k, i)) e pos = absurd (omega (arith, ap hand (idle k i e j), halted k i e .hand))
+      by-refusal (some (k, i)) e pos = absurd (omega (arith, ap hand (idle k i e j), ap (λ r. r .hand) (halted k i e .run)))
       by-refusal none e pos = record {
         clean = started e .clean;
         ready = subst (λ (σ : Kept). Ready M B (σ .0) (σ .1 .0) (getD (σ .1 .1 .0) (hand σ - 1) zeroState) (σ .1 .1 .1)) (sym (begins e j))
@@ -149,14 +149,14 @@ module _ (case book places visits seats index : List ℕ) (states : List Student
   hand-within j = by-refusal (refusal case book room) refl
     where
       by-refusal : (o : Option (ℕ × ℕ)) → refusal case book room ≡ o → 0 < hand (after j) → hand (after j) ≤ length (after j .1 .1 .0)
-      by-refusal (some (k, i)) e pos = absurd (omega (arith, ap hand (idle k i e j), halted k i e .hand))
+      by-refusal (some (k, i)) e pos = absurd (omega (arith, ap hand (idle k i e j), ap (λ r. r .hand) (halted k i e .run)))
       by-refusal none e pos = subst (λ (σ : Kept). hand σ ≤ length (σ .1 .1 .0)) (sym (begins e j)) (ready-here e j (subst (λ (σ : Kept). 0 < hand σ) (begins e j) pos) .1)
 
   pub run-ends : hand (after (fuel M B)) ≡ 0
   run-ends = by-refusal (refusal case book room) refl
     where
       by-refusal : (o : Option (ℕ × ℕ)) → refusal case book room ≡ o → hand (after (fuel M B)) ≡ 0
-      by-refusal (some (k, i)) e = ap hand (idle k i e (fuel M B)) ∙ halted k i e .hand
+      by-refusal (some (k, i)) e = ap hand (idle k i e (fuel M B)) ∙ ap (λ r. r .hand) (halted k i e .run)
       by-refusal none e = ap hand (begins e (fuel M B)) ∙ ends-hand M B visits (stand e (fuel M B)) (ends-here e)
 
   -- ---- and finished
