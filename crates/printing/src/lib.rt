@@ -39,12 +39,9 @@ fn put_decimal(out: &mut [u8], at: usize, n: usize) -> usize
     requires { ⌜ at ≤ length (now out) ⌝ }
     ensures { λ r. ⌜ Put (decimal n) at (now (out .entry)) (now (out .exit)) r ⌝ }
 {
-    if n < 10 {
-        put_byte(out, at, b'0' + (n % 10) as u8)
-    } else {
-        let end = put_decimal(&mut *out, at, n / 10);
-        put_byte(out, end, b'0' + (n % 10) as u8)
-    }
+    let mut digits = [0u8; 20];
+    let k = io::decimal(n as u64, &mut digits);
+    put_word(out, at, &digits[..k])
 }
 
 // A space and a number.

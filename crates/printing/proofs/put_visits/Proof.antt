@@ -23,8 +23,9 @@ same-length c = search needs
 
 returns : tie.Need-returns
 returns c =
-    let start = c .before .before .before .before .before .before .before .before .before .before .before in
-    let both = put-then (start .pre .0) (c .before .before .before .before .before .before .put-line1 .ensures) (c .before .before .put-visit-lines .ensures) in
+    let after-count = c .before .before .before .before .before .before in
+    let start = after-count .before .before .before .before .before in
+    let both = put-then (start .pre .0) (after-count .put-line1 .ensures) (c .before .before .put-visit-lines .ensures) in
     rw (visits-text (start .args .visits .now) (start .args .count)) at both
 
 pub put-visits-spec : {M : Type 1} → statement M
