@@ -4,13 +4,13 @@ ghost use Prim.Native.Nat.{_<_};
 ghost use lib.ListN.{length, set, replicate};
 ghost use Rattle.format.specs.Engine.{marketIn, resultsIn};
 ghost use Rattle.answering.specs.Finish.{toPlace, answerEnd};
-ghost use Rattle.answering.specs.Steps.{StepReady, Prepares};
+ghost use Rattle.answering.specs.Steps.{StepReady, Prepares, noRun};
 ghost use Rattle.api.specs.Answers.{reportOf};
 ghost use Rattle.model.specs.Turn.{turnOf};
 use api::Answer;
 use api::Report;
 use api::StudentState;
-use intake::Checked;
+use case_tests::Checked;
 use intake::Room;
 use model::Run;
 use model::Turned;
@@ -32,7 +32,7 @@ pub fn count_students(case: &[u8]) -> usize
     let mut n = 0;
     let mut i = 0;
     while i < rows {
-        if case[16 * i] == 1 {
+        if records::kind_at(case, i) == 1 {
             n += 1;
             i += 1;
         } else {
@@ -44,7 +44,7 @@ pub fn count_students(case: &[u8]) -> usize
 
 // A run that is over before it began.
 fn no_run() -> Run
-    ensures { λ r. ⌜ r .hand ≡ 0 ⌝ }
+    ensures { λ r. ⌜ r ≡ noRun ⌝ }
 {
     Run {
         hand: 0,
@@ -56,7 +56,7 @@ fn no_run() -> Run
     }
 }
 
-// Tests the input, cause by cause, and makes the scratch ready for the run: the seats are zero, and the index is that of the book's records.
+// Tests the input, cause by cause, and makes the scratch ready for the run: the seats are zero, and the index is that of the book's records, or zero on a refusal.
 pub fn prepare(
     case: &[u8],
     book: &[u8],
@@ -74,7 +74,7 @@ pub fn prepare(
         seats: seats.len(),
         states,
     };
-    intake::clear(&mut *seats);
+    records::clear(&mut *seats);
     let checked = intake::check(case, book, room, &mut *index);
     match checked {
         Checked::Refused { cause, record } => {
@@ -87,7 +87,7 @@ pub fn prepare(
                 workshops: 0,
             }
         }
-        Checked::Clean {
+        Checked::Counts {
             students,
             workshops,
             pairs: _,
@@ -181,8 +181,8 @@ pub fn finish(seats: &mut [u16], index: &mut [u16], p: Prepared, r: Run) -> Answ
     ensures { λ a. ⌜ now (seats .exit) ≡ replicate (length (now (seats .entry))) 0 ⌝ }
     ensures { λ a. ⌜ now (index .exit) ≡ replicate (length (now (index .entry))) 0 ⌝ }
 {
-    intake::clear(&mut *seats);
-    intake::clear(&mut *index);
+    records::clear(&mut *seats);
+    records::clear(&mut *index);
     answer_of(p, r)
 }
 
