@@ -3,38 +3,35 @@
 -- Where nothing is refused the run on the buffers is the staged rule (model: Running); a refusal takes no turn.
 use Prim.Native.Nat.{ℕ, zero, suc, _+_, _*_, _-_, _≤_, _<_}
 use mathlib.Core.Path.{_≡_, refl, sym, ap, _∙_, subst}
-use mathlib.Core.Logic.{⊎-elim}
-use mathlib.Core.Bool.{Bool, true, false, cond}
-use mathlib.Core.List.{List, [], _∷_, map}
+use mathlib.Core.Bool.{true, false}
+use mathlib.Core.List.{List, [], _∷_, _++_, map}
 use mathlib.Core.Option.{Option, some, none}
 use native.Mathlib.Omega.{arith}
-use lib.Dec.{eqb, ltb}
-use lib.ListN.{length, getD, replicate, length-replicate, length-take}
-use borrow.Author.Tests.{eq-eqb, ne-eqb, ltb-false}
-use native.Mathlib.Nat.{min-le-left}
-use Rattle.base.specs.Lists.{total, upto, tally}
-use Rattle.base.proofs.Tests.{or-false, is-false, less?}
+use lib.Dec.{eqb}
+use lib.ListN.{length, getD, replicate}
+use borrow.Author.Tests.{eq-eqb, ne-eqb}
+use Rattle.base.specs.Lists.{upto}
+use Rattle.base.proofs.Members.{map-append}
 use Rattle.lgs.specs.Market.{Market, Results}
-use Rattle.lgs.specs.Rule.{Interview, stopped, finished, fuel, lazyGaleShapley}
+use Rattle.lgs.specs.Rule.{Interview, finished, fuel}
 use Rattle.lgs.specs.Promises.{pairsIn}
-use Rattle.format.specs.Layout.{rows, ofKind, marketOf}
-use Rattle.format.specs.Refusals.{Room, refusal, needed, badRoom}
+use Rattle.format.specs.Layout.{rows, marketOf}
+use Rattle.format.specs.Refusals.{Room, refusal}
 use Rattle.format.specs.Engine.{placed, next, refused, engine, marketIn, resultsIn, Outcome, outcomeOf, outcomeUnless}
-use Rattle.format.specs.Buffers.{flat, withHead, placesAfter, visitsAfter, scratchAfter}
-use Rattle.format.specs.Promises.{Valid, Refused, Cause, caseLength, form, order, counts, range, short, bookLength, pair, score, repeated, tie}
-use Rattle.format.proofs.Causes.{refusal-none, refusal-some}
+use Rattle.format.specs.Buffers.{withHead, placesAfter, visitsAfter}
+use Rattle.format.specs.Causes.{Cause}
+use Rattle.format.specs.Promises.{Valid, Refused}
+use Rattle.format.proofs.Causes.{refusal-none, refusal-some, eleven}
 use Rattle.format.proofs.Runs.{wf, distinct, engine-valid}
 use Rattle.format.proofs.PairCount.{pairs-within}
 use Rattle.format.proofs.Promises.{promised}
 use Rattle.api.specs.declared.StudentState.{StudentState}
 use Rattle.model.specs.declared.Run.{Run}
-use Rattle.model.specs.Store.{part, seatsFrom}
 use Rattle.model.specs.Turn.{beginRun, runOf}
-use Rattle.api.specs.Answered.{zeroState, roomOf, lent, Answered}
+use Rattle.api.specs.Answered.{zeroState, lent, Answered}
 use Rattle.model.specs.Ready.{Ready}
 use Rattle.model.proofs.Shows.{Lacking, Stand}
 use Rattle.model.proofs.Running.{stands, Ends, stops, finishes, Finished, ends-hand, run-ready, run-is-rule}
-use Rattle.lookup.specs.Clean.{Clean}
 use Rattle.api.specs.declared.Answer.{Answer as Brief}
 use Rattle.api.specs.Answers.{answerFor, valuesOf}
 use Rattle.api.proofs.Text.{values-same}
@@ -47,19 +44,27 @@ use Rattle.answering.proofs.Cleaning.{Enough, enough}
 abbrev pub Kept : Type 0
 Kept = List ℕ × (List ℕ × (List StudentState × Run))
 
+-- all numbers of a list are above 0
+abbrev Above : List ℕ → Type 0
+Above [] = Unit {0}
+Above (n ∷ ns) = (0 < n) × Above ns
+
+above-in : (xs : List ℕ) (k : ℕ) (ys : List ℕ) → Above (xs ++ (k ∷ ys)) → 0 < k
+above-in [] k ys a = a .0
+above-in (x ∷ xs) k ys a = above-in xs k ys (a .1)
+
+-- the numbers of the causes are 1 to 11
+eleven-above : Above (1 ∷ 2 ∷ 3 ∷ 4 ∷ 5 ∷ 6 ∷ 7 ∷ 8 ∷ 9 ∷ 10 ∷ 11 ∷ [])
+eleven-above = (omega arith, (omega arith, (omega arith, (omega arith, (omega arith, (omega arith, (omega arith, (omega arith, (omega arith, (omega arith, (omega arith, tt)))))))))))
+
 -- a cause's number is above 0
-cause-above : (case book : List ℕ) (room : Room) (k i : ℕ) → Cause case book room k i → 0 < k
-cause-above case book room k i (caseLength e) = omega arith
-cause-above case book room k i (form j f) = omega arith
-cause-above case book room k i (order j f) = omega arith
-cause-above case book room k i (counts e) = omega arith
-cause-above case book room k i (range j f) = omega arith
-cause-above case book room k i (short e) = omega arith
-cause-above case book room k i (bookLength e) = omega arith
-cause-above case book room k i (pair j f) = omega arith
-cause-above case book room k i (score j f) = omega arith
-cause-above case book room k i (repeated j f) = omega arith
-cause-above case book room k i (tie j f) = omega arith
+cause-above : (case book : List ℕ) (room : Room) (k i : ℕ) → Refused case book room k i → 0 < k
+cause-above case book room k i f =
+    above-in (map number (f .before)) k (map number (f .after))
+    (subst Above (sym (eleven case book room) ∙ (ap (map number) (f .table) ∙ map-append number (f .before) ((k, f .test) ∷ f .after))) eleven-above)
+  where
+    number : Cause → ℕ
+    number c = c .0
 
 module _ (case book places visits seats index : List ℕ) (states : List StudentState) (p : Prepared) (seats₁ index₁ : List ℕ)
     (prepared : Prepares case book (length places) (length visits) (length states) seats index p seats₁ index₁) where
@@ -88,7 +93,7 @@ module _ (case book places visits seats index : List ℕ) (states : List Student
     halted = subst (λ (o : Option (ℕ × ℕ)). Found case book index₁ p o) e (prepared .found)
 
     refused-above : 0 < k
-    refused-above = cause-above case book room k i (refusal-some case book room k i e .cause)
+    refused-above = cause-above case book room k i (refusal-some case book room k i e)
 
     idle : (j : ℕ) → after j ≡ (visits, (seats₁, (zeros, p .run)))
     unfolding runOf
@@ -111,7 +116,7 @@ module _ (case book places visits seats index : List ℕ) (states : List Student
     long = enough case book room valid
 
     few : M .workshops ≤ 64
-    few = omega (arith, started .clean .manyWorkshops, started .clean .workshops)
+    few = omega (arith, started .clean .found .manyWorkshops, started .clean .workshops)
 
     fits : 2 * pairsIn M (M .paired) ≤ length visits
     unfolding marketOf
