@@ -37,7 +37,7 @@ module _ {case book places visits seats index : List ℕ} {states : List Student
   full = engine case book (lent case book places visits seats index states)
 
   whole : (b : Outcome) → Promised case book (lent case book places visits seats index states) b → PlacesOf (marketIn case .students) b
-  whole (placed ps vs) p = p .0 .whole
+  whole (placed ps vs) p = p .1 .whole
   whole (next s w vs) p = tt
   whole (refused k i) p = tt
 
