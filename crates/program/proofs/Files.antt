@@ -1,6 +1,6 @@
 -- What is printed for the two files, by what was read of each.
 use Prim.Native.Nat.{ℕ, _≤_, _<_}
-use mathlib.Core.Path.{_≡_, refl, ap}
+use mathlib.Core.Path.{_≡_, refl, ap, _∙_}
 use mathlib.Core.List.{List}
 use mathlib.Core.Option.{Option, some, none}
 use mathlib.Core.Logic.{⊎-elim}
@@ -13,7 +13,7 @@ use Rattle.format.specs.Engine.{engine}
 use Rattle.format.specs.Printed.{printed, unread, programText, programPrints, programRoom, readable}
 use Rattle.program.specs.declared.FileRead.{FileRead}
 use Rattle.program.specs.declared.FileRead.the-variants.{Bytes, Failed}
-use Rattle.program.specs.Files.{fileOf, sizeOf, Within}
+use Rattle.program.specs.Files.{fileOf, sizeOf, Within, ReadOf, FilesPrinted}
 
 -- the size says whether a file may be answered
 too-long : (r : FileRead) (buffer : List ℕ) → Within r buffer → 65536 < sizeOf r → readable (fileOf r buffer) ≡ none
@@ -44,10 +44,22 @@ module _ (r s : FileRead) (case book : List ℕ) (u : Within r case) (v : Within
   both-read l m = rw (not-long r case u l, not-long s book v m)
 
 -- a file that is cut after more than 65,536 bytes counts as the whole one
-pub cut-same : (n : ℕ) (file : List ℕ) → 65536 < n → readable (some (take n file)) ≡ readable (some file)
+cut-same : (n : ℕ) (file : List ℕ) → 65536 < n → readable (some (take n file)) ≡ readable (some file)
 cut-same n file l =
     ⊎-elim (λ (m : length file < n). ap (λ (f : List ℕ). readable (some f)) (take-all n file (omega arith)))
     (λ (m : n ≤ length file).
     let e : length (take n file) ≡ n = length-take-le n file m in
     rw (lt-ltb 65536 (length (take n file)) (omega arith), lt-ltb 65536 (length file) (omega arith)))
     (less? (length file) n)
+
+same-readable : (file : Option (List ℕ)) (r : FileRead) (buffer : List ℕ) → ReadOf file r buffer → 65536 < length buffer
+    → readable (fileOf r buffer) ≡ readable file
+same-readable (some file) (Bytes n) buffer e l = ap (λ (f : List ℕ). readable (some f)) e ∙ cut-same (length buffer) file l
+same-readable (some file) Failed buffer e l = absurd e
+same-readable none (Bytes n) buffer e l = absurd e
+same-readable none Failed buffer e l = refl
+
+-- what is printed for the bytes read is what is printed for the files
+pub files-printed : FilesPrinted
+unfolding programPrints
+files-printed case book r s buffer buffer′ u v l m = rw (same-readable case r buffer u l, same-readable book s buffer′ v m)
