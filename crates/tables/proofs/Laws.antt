@@ -6,7 +6,7 @@ use mathlib.Core.Bool.{Bool, true, false, cond, _&&_, _||_}
 use mathlib.Core.List.{List}
 use native.Mathlib.Omega.{arith}
 use lib.Dec.{eqb}
-use lib.ListN.{length, getD, set, length-set}
+use lib.ListN.{length, getD, set, replicate, length-set, length-replicate}
 use lib.Seq.{getD-set-same, getD-set-other}
 use borrow.Author.Tests.{eq-eqb, ne-eqb, eqb-true}
 use Rattle.base.specs.Lists.{one, count, total}
@@ -68,6 +68,16 @@ module _ (old : List ℕ) (i s w f b : ℕ) (sized : length old ≡ 1088) (from 
       }
 
 -- ---- a blank table describes no pairs
+
+-- the table as a caller makes it, `[0; 1088]`, is blank
+pub blank : Blank (replicate 1088 0)
+blank = record { sized = length-replicate {A = ℕ} 1088 0; zero = zeros 1088 }
+  where
+    zeros : (n k : ℕ) → _≡_ {A = ℕ} (getD (replicate n 0) k 0) 0
+    zeros zero k = refl
+    zeros (suc n) zero = refl
+    zeros (suc n) (suc k) = zeros n k
+
 pub noted-none : (a b : ℕ → ℕ) (from : ℕ) (table : List ℕ) → Blank table → Noted a b from from table
 noted-none a b from table z =
     record {
@@ -174,7 +184,8 @@ module _ (a b : ℕ → ℕ) (from n i : ℕ) (o : Rise a b from n) (l : from �
       (λ (e : a k ≡ a i).
       let m : had (b k) ≡ true = rw e at (I .full k f h) in
       let p : firstOf old (a i) + count had (b k - 1) ≡ k = rw e at (I .place k f h) in
-      let q : count has (b k - 1) ≡ count had (b k - 1) = count-same has had (b k - 1) (λ t g. before t (λ r. omega (arith, earlier k f h e, o .workshop k f (omega arith)))) in
+      let q : count has (b k - 1) ≡ count had (b k - 1) =
+      count-same has had (b k - 1) (λ t g. before t (λ r. omega (arith, earlier k f h e, o .workshop k f (omega arith)))) in
       rw e (omega (arith, A .kept (b k) m)))
       (λ (ne : a k ≡ a i → ⊥).
       let r : (setOf new (a k) ≡ setOf old (a k)) × (firstOf new (a k) ≡ firstOf old (a k)) =

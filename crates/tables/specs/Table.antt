@@ -64,7 +64,7 @@ pub record Rise (a b : ℕ → ℕ) (from n : ℕ) : Type 0 where
   pub workshop : (k : ℕ) → from ≤ k → k < n → (1 ≤ b k) × (b k ≤ 64)
   pub rise : (i j : ℕ) → from ≤ i → i < j → j < n → a i * 65536 + b i < a j * 65536 + b j
 
--- of n students and m workshops: the workshops' records stand after the students' and the pairs' after both, in order. So it is where causes 2 to 5 find nothing.
+-- the records of m workshops stand after those of n students, and the pairs' after both, in order: so it is where causes 2 to 5 find nothing
 pub record Standing (case : List ℕ) (n m : ℕ) : Type 0 where
   pub workshops : marketIn case .workshops ≡ m
   pub manyStudents : n ≤ 512

@@ -11,28 +11,24 @@ returns : tie.Need-returns
 returns c = nobody _ _ (c .before .pre) (c .before .args .s) (c .before .args .w) (c .if1 .taken)
 
 sub-result : tie.Need-sub-result
-sub-result c = let a = c .before .args in let r = somebody _ _ (c .before .pre) (a .s) (a .w) (c .if1 .left) in omega (arith, r)
+sub-result c =
+    let a = c .before .args in omega (arith, somebody _ _ (c .before .pre) (a .s) (a .w) (c .if1 .left))
 
 mul-result : tie.Need-mul-result
-mul-result c = let a = c .before .args in let r = somebody _ _ (c .before .pre) (a .s) (a .w) (c .if1 .left) in omega (arith, r)
+mul-result c =
+    let a = c .before .args in omega (arith, somebody _ _ (c .before .pre) (a .s) (a .w) (c .if1 .left))
 
 shared-slice-read-result : tie.Need-shared-slice-read-result
 shared-slice-read-result c =
-    let a = c .before .before .args in
-    let r = somebody _ _ (c .before .before .pre) (a .s) (a .w) (c .before .if1 .left) in
-    omega (arith, r, c .before .before .pre .sized)
+    let a = c .before .before .args in omega (arith, somebody _ _ (c .before .before .pre) (a .s) (a .w) (c .before .if1 .left), c .before .before .pre .sized)
 
 sub-result-2 : tie.Need-sub-result-2
 sub-result-2 c =
-    let a = c .before .before .args in
-    let r = somebody _ _ (c .before .before .pre) (a .s) (a .w) (c .before .if1 .left) in
-    omega (arith, r)
+    let a = c .before .before .args in omega (arith, somebody _ _ (c .before .before .pre) (a .s) (a .w) (c .before .if1 .left))
 
 shr-result : tie.Need-shr-result
 shr-result c =
-    let a = c .before .before .args in
-    let r = somebody _ _ (c .before .before .pre) (a .s) (a .w) (c .before .if1 .left) in
-    omega (arith, r)
+    let a = c .before .before .args in omega (arith, somebody _ _ (c .before .before .pre) (a .s) (a .w) (c .before .if1 .left))
 
 returns-2 : tie.Need-returns-2
 returns-2 c =

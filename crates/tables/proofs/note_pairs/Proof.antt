@@ -19,7 +19,9 @@ row-count-requires : tie.Need-row-count-requires Inv-loop μ-loop
 row-count-requires c κs = search needs
 
 loop-holds : tie.Need-loop-holds Inv-loop μ-loop
-loop-holds c = let start = c .before .before .before in (omega arith, start .pre .0, noted-none _ _ (start .args .from) (start .args .table .now) (start .pre .1 .1))
+loop-holds c =
+    let start = c .before .before .before in
+    (omega arith, start .pre .0, noted-none _ _ (start .args .from) (start .args .table .now) (start .pre .1 .1))
 
 first-at-requires : tie.Need-first-at-requires Inv-loop μ-loop
 first-at-requires c κs = omega (arith, c .before .before .row-count .ensures)
@@ -51,9 +53,11 @@ loop-less c = omega arith
 loop-again : tie.Need-loop-again Inv-loop μ-loop
 loop-again c =
     let start = c .before .before .before .before .before .before .before .before .before .before .before in
-    let here = c .before .before .before .before .before .before .before .loop in
-    let l : here .i < rowCount (start .args .case .now) = omega (arith, c .before .before .before .before .before .before .before .before .row-count .ensures) in
-    let added = rw (c .before .before .before .before .before .first-at .ensures, c .before .before .before .before .second-at .ensures) at (c .before .before .note .ensures) in
+    let at-loop = c .before .before .before .before .before .before .before in
+    let here = at-loop .loop in
+    let read = c .before .before .before .before in
+    let l : here .i < rowCount (start .args .case .now) = omega (arith, at-loop .before .row-count .ensures) in
+    let added = rw (read .before .first-at .ensures, read .second-at .ensures) at (c .before .before .note .ensures) in
     (omega arith, omega arith, noted-more _ _ (start .args .from) _ (here .i) (start .pre .1 .0) (here .inv .0) l _ _ (here .inv .2) added)
 
 same-length : tie.Need-same-length Inv-loop μ-loop

@@ -10,7 +10,8 @@ use Rattle.tables.proofs.note_starts.Statement.{statement}
 use Rattle.tables.proofs.note_starts.Tie as tie
 
 abbrev Inv-loop : tie.InvT-loop
-Inv-loop case students workshops table₀ sum₀ w₀ table sum w = (1 ≤ w) × (w ≤ workshops + 1) × (sum ≤ 65535 * w) × (sum ≡ seatsBefore (marketIn case) w) × Started case table₀ table w
+Inv-loop case students workshops table₀ sum₀ w₀ table sum w =
+    (1 ≤ w) × (w ≤ workshops + 1) × (sum ≤ 65535 * w) × (sum ≡ seatsBefore (marketIn case) w) × Started case table₀ table w
 
 abbrev μ-loop : tie.MeasureT-loop
 μ-loop case students workshops table₀ sum₀ w₀ table sum w = workshops + 1 - w
@@ -54,11 +55,12 @@ loop-again : tie.Need-loop-again Inv-loop μ-loop
 loop-again c =
     let start = c .before .before .before .before .before in
     let here = c .before .before .loop in
-    let case = start .args .case .now in (
+    let case = start .args .case .now in
+    let q = start .pre .0 .quota (here .w) (here .inv .0) (omega arith) in (
       omega arith,
       omega arith,
       omega arith,
-      omega (arith, here .inv .3, c .second-at .ensures, seats-next (marketIn case) (here .w) (here .inv .0), start .pre .0 .quota (here .w) (here .inv .0) (omega arith)),
+      omega (arith, here .inv .3, c .second-at .ensures, seats-next (marketIn case) (here .w) (here .inv .0), q),
       started-more case _ (here .table) (here .w) (here .sum) (here .inv .4) (here .inv .0) (omega (arith, start .pre .0 .manyWorkshops)) (here .inv .3),
     )
 

@@ -5,46 +5,29 @@ use Rattle.tables.proofs.pair_at.Statement.{statement}
 use Rattle.tables.proofs.pair_at.Tie as tie
 
 add-result : tie.Need-add-result
-add-result c =
-    let start = c .before .before in
-    let r = start .pre .0 .named (start .args .s) (start .args .w) (start .pre .1) in
-    omega (arith, r)
+add-result c = let start = c .before .before in omega (arith, start .pre .0 .named (start .args .s) (start .args .w) (start .pre .1))
 
 mul-result : tie.Need-mul-result
-mul-result c =
-    let start = c .before .before in
-    let r = start .pre .0 .named (start .args .s) (start .args .w) (start .pre .1) in
-    omega (arith, r)
+mul-result c = let start = c .before .before in omega (arith, start .pre .0 .named (start .args .s) (start .args .w) (start .pre .1))
 
 shared-slice-read-result : tie.Need-shared-slice-read-result
 shared-slice-read-result c =
     let start = c .before .before .before in
-    let r = start .pre .0 .named (start .args .s) (start .args .w) (start .pre .1) in
-    omega (arith, r, start .pre .0 .sized)
+    omega (arith, start .pre .0 .named (start .args .s) (start .args .w) (start .pre .1), start .pre .0 .sized)
 
 sub-members-below : tie.Need-sub-members-below
-sub-members-below c =
-    let start = c .before .before .before in
-    let r = start .pre .0 .named (start .args .s) (start .args .w) (start .pre .1) in
-    omega (arith, r)
+sub-members-below c = let start = c .before .before .before in omega (arith, start .pre .0 .named (start .args .s) (start .args .w) (start .pre .1))
 
 mul-members-below : tie.Need-mul-members-below
-mul-members-below c =
-    let start = c .before .before .before in
-    let r = start .pre .0 .named (start .args .s) (start .args .w) (start .pre .1) in
-    omega (arith, r)
+mul-members-below c = let start = c .before .before .before in omega (arith, start .pre .0 .named (start .args .s) (start .args .w) (start .pre .1))
 
 shared-slice-read-members-below : tie.Need-shared-slice-read-members-below
 shared-slice-read-members-below c =
     let start = c .before .before .before .before in
-    let r = start .pre .0 .named (start .args .s) (start .args .w) (start .pre .1) in
-    omega (arith, r, start .pre .0 .sized)
+    omega (arith, start .pre .0 .named (start .args .s) (start .args .w) (start .pre .1), start .pre .0 .sized)
 
 members-below-requires : tie.Need-members-below-requires
-members-below-requires c κs =
-    let start = c .before .before .before .before in
-    let r = start .pre .0 .named (start .args .s) (start .args .w) (start .pre .1) in
-    r .1
+members-below-requires c κs = let start = c .before .before .before .before in start .pre .0 .named (start .args .s) (start .args .w) (start .pre .1) .1
 
 add-result-2 : tie.Need-add-result-2
 add-result-2 c =
