@@ -4,30 +4,32 @@ use Prim.Native.Nat.{ℕ, zero, suc, _+_, _*_, _-_, _≤_, _<_}
 use mathlib.Core.Path.{_≡_, refl, sym, ap, _∙_, subst}
 use mathlib.Core.Bool.{Bool, true, false, not}
 use mathlib.Core.List.{List}
+use mathlib.Core.List.{List·Memᴰ·head as here, List·Memᴰ·tail as later}
 use mathlib.Core.Option.{Option, some, none}
 use native.Mathlib.Omega.{arith}
 use lib.Dec.{eqb, ltb}
 use lib.ListN.{length, getD}
 use borrow.Author.Tests.{eqb-true, not-false, ltb-false}
-use Rattle.base.specs.Lists.{any, total, tally}
+use Rattle.base.specs.Lists.{any, tally}
 use Rattle.base.specs.Search.{firstBad}
 use Rattle.base.proofs.Tests.{never, or-false, is-false}
 use Rattle.base.proofs.Below.{any-below}
 use Rattle.base.proofs.Search.{first-below, first-passes, scan-none}
+use Rattle.lgs.specs.Market.{allSeats}
 use Rattle.format.specs.Layout.{rows, rowCount, rowAt, ofKind, entries, entryCount, entryAt, isInterview, isPair, marketOf, resultsOf}
-use Rattle.format.specs.Refusals.{Room, needed, badForm, badOrder, badCounts, badRange, badRoom, badPair}
-use Rattle.format.specs.Promises.{Valid, counts, short}
+use Rattle.format.specs.Refusals.{Room, needed, badForm, badOrder, badCounts, badRange, badRoom, badPair, caseCauses, causes}
+use Rattle.format.specs.Causes.{whole}
+use Rattle.format.specs.Promises.{Valid}
 use Rattle.format.specs.Engine.{marketIn, resultsIn}
 use Rattle.format.proofs.Positions.{places, pair-says, pair-names, stage-at, student-outside-at, quota-at, workshop-outside-at, student-tier-at, workshop-tier-at}
-use Rattle.format.proofs.Causes.{passed}
+use Rattle.format.proofs.Causes.{passed, room-passes}
 use Rattle.format.proofs.Reading.{Passed, entry-found, entry-at, interview-says}
-use Rattle.records.specs.Records.{PairsSorted, pairPlace}
-use Rattle.records.proofs.Laws.{pairs-sorted}
+use Rattle.records.specs.Records.{pairPlace}
 use Rattle.lookup.specs.Clean.{Clean, StudentAt, WorkshopAt, PairAt, EntryAt, indexAt}
-use Rattle.intake.specs.Checked.{CleanCase, pairCount}
-use Rattle.intake.specs.Index.{fromOne, pairsFrom, lentIndex, indexOf, indexedAs}
-use Rattle.intake.proofs.Cases.{clean, few, placed}
-use Rattle.intake.proofs.Indexing.{Placed, placed-by, index-at, lent-length, any-number}
+use Rattle.case_tests.specs.Checked.{CleanCase, pairCount}
+use Rattle.case_tests.proofs.Cases.{clean, pairs-found}
+use Rattle.book_tests.specs.Index.{fromOne, lentIndex}
+use Rattle.book_tests.proofs.Indexing.{Placed, placed-by, index-at, lent-length, any-number}
 
 module _ (case book : List ℕ) (c : CleanCase case (marketIn case .students) (marketIn case .workshops)) (passed : Passed case book)
     (bytes : (k : ℕ) → getD case k 0 < 256) (lent : ℕ) (room : pairCount case ≤ lent) where
@@ -123,8 +125,7 @@ module _ (case book : List ℕ) (c : CleanCase case (marketIn case .students) (m
       record {
         students = refl;
         workshops = refl;
-        manyStudents = few case n m c .0 .1;
-        manyWorkshops = few case n m c .1 .1;
+        found = pairs-found case n m c bytes;
         student = λ s a b. record {
           from = a;
           to = omega (arith, places case (clean case n m c) .whole);
@@ -137,8 +138,6 @@ module _ (case book : List ℕ) (c : CleanCase case (marketIn case .students) (m
           quota = quota-at case (clean case n m c) w a b;
           outside = workshop-outside-at case (clean case n m c) w a b;
         };
-        sorted = pairs-sorted case bytes (clean case n m c);
-        placed = placed case n m c;
         pair = pair-at;
         named = named-at;
         indexed = indexed-at;
@@ -151,7 +150,7 @@ module _ (case book : List ℕ) (c : CleanCase case (marketIn case .students) (m
 pub record Enough (case : List ℕ) (room : Room) : Type 0 where
   pub places : marketIn case .students ≤ room .places
   pub visits : 2 * tally (ofKind 3) (rows case) ≤ room .visits
-  pub seats : total (marketIn case .quota) (marketIn case .workshops) ≤ room .seats
+  pub seats : allSeats (marketIn case) ≤ room .seats
   pub index : pairCount case ≤ room .index
   pub states : marketIn case .students ≤ room .states
 
@@ -159,7 +158,7 @@ pub enough : (case book : List ℕ) (room : Room) → Valid case book room → E
 unfolding badRoom needed
 enough case book room valid =
     let N : Room = needed (rows case) in
-    let a = or-false (ltb (room .places) (N .places)) _ (is-false (badRoom (rows case) room) (λ b. valid 6 0 (short b))) in
+    let a = or-false (ltb (room .places) (N .places)) _ (is-false (badRoom (rows case) room) (room-passes case book room valid)) in
     let b = or-false (ltb (room .visits) (N .visits)) _ (a .1) in
     let c = or-false (ltb (room .seats) (N .seats)) _ (b .1) in
     let d = or-false (ltb (room .index) (N .index)) _ (c .1) in
@@ -172,19 +171,19 @@ enough case book room valid =
     }
 
 clean-case : (case book : List ℕ) (room : Room) → Valid case book room → CleanCase case (marketIn case .students) (marketIn case .workshops)
+unfolding causes caseCauses
 clean-case case book room valid =
     let all : Passed case book = passed case book room valid in
     record {
       form = scan-none (badForm (rows case)) (rowCount case) (all .form);
       order = scan-none (badOrder (rows case)) (rowCount case) (all .order);
-      counts = is-false (badCounts (rows case)) (λ b. valid 4 0 (counts b));
+      counts = is-false (badCounts (rows case)) (λ b. valid (4, whole (badCounts (rows case))) (later (later (later (here refl)))) 0 (b, refl));
       range = scan-none (badRange (rows case)) (rowCount case) (all .range);
       students = refl;
       workshops = refl;
     }
 
 pub valid-clean : (case book : List ℕ) (room : Room) → Valid case book room → ((k : ℕ) → getD case k 0 < 256)
-    → Clean case book (indexedAs case book (room .index)) (marketIn case .students) (marketIn case .workshops)
-unfolding indexOf
+    → Clean case book (lentIndex case book (entryCount book) (room .index)) (marketIn case .students) (marketIn case .workshops)
 valid-clean case book room valid bytes =
     all-clean case book (clean-case case book room valid) (passed case book room valid) bytes (room .index) (enough case book room valid .index)

@@ -1,5 +1,5 @@
 -- From what testing the input leaves, through the run, to the answer: the run can be taken (`turn-ready`, `hand-within`, `run-ends`), what it
--- leaves can be finished (`can-finish`), and the answer and the buffers are those of the definitions (`answered`).
+-- leaves can be read (`can-read`), and the answer and the buffers are those of the definitions (`answered`).
 -- Where nothing is refused the run on the buffers is the staged rule (model: Running); a refusal takes no turn.
 use Prim.Native.Nat.{ℕ, zero, suc, _+_, _*_, _-_, _≤_, _<_}
 use mathlib.Core.Path.{_≡_, refl, sym, ap, _∙_, subst}
@@ -36,13 +36,12 @@ use Rattle.model.proofs.Shows.{Lacking, Stand}
 use Rattle.model.proofs.Running.{stands, Ends, stops, finishes, Finished, ends-hand, run-ready, run-is-rule}
 use Rattle.lookup.specs.Clean.{Clean}
 use Rattle.api.specs.declared.Answer.{Answer as Brief}
-use Rattle.api.specs.Answers.{answerFor}
+use Rattle.api.specs.Answers.{answerFor, valuesOf}
+use Rattle.api.proofs.Text.{values-same}
 use Rattle.answering.specs.declared.Prepared.{Prepared}
-use Rattle.answering.specs.Places.{fromSeats, noPlaces}
-use Rattle.answering.specs.Finish.{Seated, Over, placesEnd, answerEnd}
+use Rattle.answering.specs.Finish.{toPlace, heldAt, placesHeld, CanRead, answerEnd}
 use Rattle.answering.specs.Steps.{StepReady, Halted, Started, Found, Prepares}
-use Rattle.answering.proofs.Laws.{part-short}
-use Rattle.answering.proofs.Matching.{places-matching}
+use Rattle.answering.proofs.Places.{head-none, head-same}
 use Rattle.answering.proofs.Cleaning.{Enough, enough}
 
 abbrev pub Kept : Type 0
@@ -94,7 +93,7 @@ module _ (case book places visits seats index : List ℕ) (states : List Student
     idle : (j : ℕ) → after j ≡ (visits, (seats₁, (zeros, p .run)))
     unfolding runOf
     idle zero = refl
-    idle (suc j) = rw (eq-eqb (p .run .hand) 0 (halted .hand))
+    idle (suc j) = rw (eq-eqb (p .run .hand) 0 (ap (λ r. r .hand) (halted .run)))
 
     is-refused : engine case book room ≡ refused k i
     unfolding engine outcomeUnless
@@ -139,7 +138,7 @@ module _ (case book places visits seats index : List ℕ) (states : List Student
     where
       by-refusal : (o : Option (ℕ × ℕ)) → refusal case book room ≡ o → 0 < hand (after j)
           → StepReady case book index₁ (after j .0) (after j .1 .0) (getD (after j .1 .1 .0) (hand (after j) - 1) zeroState) (after j .1 .1 .1) (p .students) (p .workshops)
-      by-refusal (some (k, i)) e pos = absurd (omega (arith, ap hand (idle k i e j), halted k i e .hand))
+      by-refusal (some (k, i)) e pos = absurd (omega (arith, ap hand (idle k i e j), ap (λ r. r .hand) (halted k i e .run)))
       by-refusal none e pos = record {
         clean = started e .clean;
         ready = subst (λ (σ : Kept). Ready M B (σ .0) (σ .1 .0) (getD (σ .1 .1 .0) (hand σ - 1) zeroState) (σ .1 .1 .1)) (sym (begins e j))
@@ -150,14 +149,14 @@ module _ (case book places visits seats index : List ℕ) (states : List Student
   hand-within j = by-refusal (refusal case book room) refl
     where
       by-refusal : (o : Option (ℕ × ℕ)) → refusal case book room ≡ o → 0 < hand (after j) → hand (after j) ≤ length (after j .1 .1 .0)
-      by-refusal (some (k, i)) e pos = absurd (omega (arith, ap hand (idle k i e j), halted k i e .hand))
+      by-refusal (some (k, i)) e pos = absurd (omega (arith, ap hand (idle k i e j), ap (λ r. r .hand) (halted k i e .run)))
       by-refusal none e pos = subst (λ (σ : Kept). hand σ ≤ length (σ .1 .1 .0)) (sym (begins e j)) (ready-here e j (subst (λ (σ : Kept). 0 < hand σ) (begins e j) pos) .1)
 
   pub run-ends : hand (after (fuel M B)) ≡ 0
   run-ends = by-refusal (refusal case book room) refl
     where
       by-refusal : (o : Option (ℕ × ℕ)) → refusal case book room ≡ o → hand (after (fuel M B)) ≡ 0
-      by-refusal (some (k, i)) e = ap hand (idle k i e (fuel M B)) ∙ halted k i e .hand
+      by-refusal (some (k, i)) e = ap hand (idle k i e (fuel M B)) ∙ ap (λ r. r .hand) (halted k i e .run)
       by-refusal none e = ap hand (begins e (fuel M B)) ∙ ends-hand M B visits (stand e (fuel M B)) (ends-here e)
 
   -- ---- and finished
@@ -167,69 +166,68 @@ module _ (case book places visits seats index : List ℕ) (states : List Student
     left e =
         subst (λ (σ : Kept). Ends M B visits (record { visits = σ .0; seats = σ .1 .0; states = σ .1 .1 .0; run = σ .1 .1 .1 })) (sym (ran ∙ begins e (fuel M B))) (ends-here e)
 
-    seated-by : (e : refusal case book room ≡ none) (q : ℕ → ℕ) (vs : List Interview)
-        → Finished M B visits q vs (record { visits = visits₂; seats = seats₂; states = states₂; run = r })
-        → Seated case seats₂ places (p .students) (p .workshops)
-    seated-by e q vs f =
-        let c : Clean case book index₁ (p .students) (p .workshops) = started e .clean in
-        record {
-          workshop = c .workshop;
-          few = c .manyWorkshops;
-          long = subst (λ (m : ℕ). total (M .quota) m ≤ length seats₂) (c .workshops) (f .long);
-          holders = λ w a b i l.
-              ⊎-elim (λ (pos : 0 < getD (part M seats₂ w) i 0). omega (arith, f .seated w i a (omega (arith, c .workshops)) l pos .0, c .students)) (λ (z : getD (part M seats₂ w) i 0 ≤ 0). omega arith)
-              (less? 0 (getD (part M seats₂ w) i 0));
-          room = omega (arith, long e .places, c .students);
-        }
-
-    pub can-finish : Over p r → Seated case seats₂ places (p .students) (p .workshops)
-    can-finish over = by-refusal (refusal case book room) refl
-      where
-        by-end : (e : refusal case book room ≡ none) → Ends M B visits (record { visits = visits₂; seats = seats₂; states = states₂; run = r })
-            → Seated case seats₂ places (p .students) (p .workshops)
-        by-end e (stops s w vs rule l) = absurd (omega (arith, over .1, l .workshop, l .real))
-        by-end e (finishes q vs rule f) = seated-by e q vs f
-
-        by-refusal : (o : Option (ℕ × ℕ)) → refusal case book room ≡ o → Seated case seats₂ places (p .students) (p .workshops)
-        by-refusal (some (k, i)) e = absurd (omega (arith, over .0, halted k i e .cause, refused-above k i e))
-        by-refusal none e = by-end e (left e)
-
     -- the answer, the places and the visits are those of a
     record Left (a : Outcome) : Type 0 where
       answer : answerEnd p r ≡ answerFor a
-      inPlaces : placesEnd case seats₂ places p r ≡ placesAfter a places
+      canRead : CanRead states₂ places (toPlace p r)
+      inPlaces : placesHeld (toPlace p r) states₂ places ≡ placesAfter a places
       inVisits : visits₂ ≡ visitsAfter a visits
 
+    -- no place is read
+    read-none : CanRead states₂ places 0
+    read-none = record { manyStates = omega arith; manyPlaces = omega arith; small = λ i l. absurd (omega arith) }
+
+    places-stay : placesHeld 0 states₂ places ≡ places
+    places-stay = sym (head-none (heldAt states₂) places)
+
     when-refused : (k i : ℕ) → refusal case book room ≡ some (k, i) → Left (refused k i)
-    unfolding answerEnd placesEnd answerFor placesAfter visitsAfter
+    unfolding answerEnd toPlace answerFor placesAfter visitsAfter
     when-refused k i e =
         let h : Halted k i p = halted k i e in
         let z : eqb (p .cause) 0 ≡ false = ne-eqb (p .cause) 0 (λ q. omega (arith, h .cause, refused-above k i e)) in
-        record { answer = rw (z, h .cause, h .record′); inPlaces = rw z; inVisits = ap (λ (σ : Kept). σ .0) (ran ∙ idle k i e (fuel M B)) }
+        record {
+          answer = rw (z, h .cause, h .record′);
+          canRead = rw z read-none;
+          inPlaces = rw z places-stay;
+          inVisits = ap (λ (σ : Kept). σ .0) (ran ∙ idle k i e (fuel M B));
+        }
 
     module _ (e : refusal case book room ≡ none) where
       going : eqb (p .cause) 0 ≡ true
       going = eq-eqb (p .cause) 0 (started e .cause)
 
       when-stopped : (s w : ℕ) (vs : List Interview) → Lacking M visits s w vs (record { visits = visits₂; seats = seats₂; states = states₂; run = r }) → Left (next s w vs)
-      unfolding answerEnd placesEnd answerFor placesAfter visitsAfter
+      unfolding answerEnd toPlace answerFor placesAfter visitsAfter
       when-stopped s w vs l =
           let y : eqb (r .workshop) 0 ≡ false = ne-eqb (r .workshop) 0 (λ q. omega (arith, l .workshop, l .real)) in
-          record { answer = rw (going, y, l .student, l .workshop, l .count); inPlaces = rw (going, y); inVisits = l .visits }
+          record {
+            answer = rw (going, y, l .student, l .workshop, l .count);
+            canRead = rw (going, y) read-none;
+            inPlaces = rw (going, y) places-stay;
+            inVisits = l .visits;
+          }
 
       when-finished : (q : ℕ → ℕ) (vs : List Interview) → Finished M B visits q vs (record { visits = visits₂; seats = seats₂; states = states₂; run = r })
           → Left (placed (map q (upto (M .students))) vs)
-      unfolding answerEnd placesEnd answerFor placesAfter visitsAfter
+      unfolding answerEnd toPlace answerFor placesAfter visitsAfter
       when-finished q vs f =
           let y : eqb (r .workshop) 0 ≡ true = eq-eqb (r .workshop) 0 (f .workshop) in
-          let c : Clean case book index₁ (p .students) (p .workshops) = started e .clean in
           record {
             answer = rw (going, y, f .count);
-            inPlaces = rw (going, y, sym (c .students), sym (c .workshops))
-                (places-matching M seats₂ places q (long e .places) (λ s w pos is. f .placed s w pos is)
-                (λ w i a b l pos. f .seated w i a b (omega (arith, part-short M seats₂ w)) pos));
+            canRead = rw (going, y) (record {
+              manyStates = omega (arith, f .states, many);
+              manyPlaces = omega (arith, long e .places, many);
+              small = λ i l. omega (arith, place i (omega (arith, l, many)), f .within (suc i), few e);
+            });
+            inPlaces = rw (going, y, sym many) (ap (λ (l : List ℕ). withHead l places) (head-same (heldAt states₂) q (M .students) place));
             inVisits = f .visits;
           }
+        where
+          many : M .students ≡ p .students
+          many = started e .clean .students
+
+          place : (i : ℕ) → i < M .students → heldAt states₂ i ≡ q (suc i)
+          place i l = ap (λ (j : ℕ). heldAt states₂ j) (omega arith) ∙ f .held (suc i) (omega arith) (omega arith)
 
       by-end : Ends M B visits (record { visits = visits₂; seats = seats₂; states = states₂; run = r }) → Left (engine case book room)
       unfolding outcomeOf
@@ -245,15 +243,19 @@ module _ (case book places visits seats index : List ℕ) (states : List Student
         by-refusal (some (k, i)) e = subst Left (sym (is-refused k i e)) (when-refused k i e)
         by-refusal none e = by-end e (left e)
 
+    pub can-read : CanRead states₂ places (toPlace p r)
+    can-read = outcome .canRead
+
     pub answered : (a : Brief) (seats₃ index₃ places₃ : List ℕ)
         → a ≡ answerEnd p r
-        → places₃ ≡ placesEnd case seats₂ places p r
+        → places₃ ≡ placesHeld (toPlace p r) states₂ places
         → seats₃ ≡ replicate (length seats) 0
         → index₃ ≡ replicate (length index) 0
         → Answered case book places visits seats index states a places₃ visits₂ seats₃ index₃ (replicate (length states) zeroState)
     answered a seats₃ index₃ places₃ ea ep es ei =
         record {
           answer = ea ∙ outcome .answer;
+          values = ap valuesOf (ea ∙ outcome .answer) ∙ values-same (engine case book room);
           inPlaces = ep ∙ outcome .inPlaces;
           inVisits = outcome .inVisits;
           inSeats = es;

@@ -1,5 +1,4 @@
-pub mod Laws
-pub mod Matching
+pub mod Places
 pub mod Cleaning
 pub mod Preparing
 pub mod Composing

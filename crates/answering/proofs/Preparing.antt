@@ -3,7 +3,6 @@ use Prim.Native.Nat.{ℕ, _<_, _≤_}
 use mathlib.Core.Path.{_≡_, refl, sym, ap, _∙_, subst}
 use mathlib.Core.List.{List}
 use mathlib.Core.Option.{Option, some, none}
-use native.Mathlib.Omega.{arith}
 use lib.ListN.{length, getD}
 use Rattle.lgs.specs.Market.{Results}
 use Rattle.format.specs.Refusals.{Room, refusal}
@@ -12,43 +11,34 @@ use Rattle.format.proofs.Causes.{refusal-none}
 use Rattle.model.specs.declared.Run.{Run}
 use Rattle.model.specs.Turn.{beginRun}
 use Rattle.lookup.specs.Clean.{Clean, StudentAt}
-use Rattle.intake.specs.declared.Checked.{Checked}
-use Rattle.intake.specs.declared.Checked.the-variants.{Refused as Halts, Clean as Passes}
-use Rattle.intake.specs.Checked.{checkedOf}
-use Rattle.intake.specs.Index.{indexedAs}
+use Rattle.case_tests.specs.declared.Checked.{Checked}
+use Rattle.case_tests.specs.declared.Checked.the-variants.{Refused as Halts, Counts as Passes}
+use Rattle.case_tests.specs.Checked.{pairCount}
+use Rattle.case_tests.proofs.Cases.{as-refused, as-clean}
+use Rattle.intake.specs.Tested.{Tested}
 use Rattle.answering.specs.declared.Prepared.{Prepared}
-use Rattle.answering.specs.Steps.{Halted, Started, Found}
+use Rattle.answering.specs.Steps.{Halted, Started, Found, noRun}
 use Rattle.answering.proofs.Cleaning.{valid-clean}
 
-when-halts : (case : List ℕ) (o : Option (ℕ × ℕ)) (k i : ℕ) → Halts k i ≡ checkedOf o case → o ≡ some (k, i)
-unfolding checkedOf
-when-halts case (some (a, b)) k i e =
-    let ea : a ≡ k = cc in
-    let eb : b ≡ i = cc in
-    rw (ea, eb)
-when-halts case none k i e = let z : _≡_ {A = ℕ} 0 1 = cc in absurd (omega arith)
-
-when-passes : (case : List ℕ) (o : Option (ℕ × ℕ)) (n m p : ℕ) → Passes n m p ≡ checkedOf o case
-    → (o ≡ none) × ((n ≡ marketIn case .students) × (m ≡ marketIn case .workshops))
-unfolding checkedOf
-when-passes case (some r) n m p e = let z : _≡_ {A = ℕ} 0 1 = cc in absurd (omega arith)
-when-passes case none n m p e = (refl, (cc, cc))
-
-module _ (case book index : List ℕ) (room : Room) (checked : Checked) (says : checked ≡ checkedOf (refusal case book room) case) where
-  pub found-halted : (k i : ℕ) → checked ≡ Halts k i → (p : Prepared) → p .run .hand ≡ 0 → p .cause ≡ k → p .record ≡ i
+module _ (case book index : List ℕ) (room : Room) (checked : Checked) (says : Tested case book room checked index) where
+  pub found-halted : (k i : ℕ) → checked ≡ Halts k i → (p : Prepared) → p ≡ record { run = noRun; cause = k; «record» = i; students = 0; workshops = 0 }
       → Found case book index p (refusal case book room)
-  found-halted k i e p h c r =
-      subst (λ (o : Option (ℕ × ℕ)). Found case book index p o) (sym (when-halts case (refusal case book room) k i (sym e ∙ says)))
-      (record { hand = h; cause = c; record′ = r })
+  found-halted k i e p h =
+      subst (λ (o : Option (ℕ × ℕ)). Found case book index p o) (sym (as-refused case (refusal case book room) k i (sym e ∙ says .answer)))
+      (record {
+        run = ap (λ q. q .run) h;
+        cause = ap (λ q. q .cause) h;
+        record′ = ap (λ (q : Prepared). q .«record») h;
+        counts = (ap (λ q. q .students) h, ap (λ q. q .workshops) h);
+      })
 
-  module _ (n m k : ℕ) (e : checked ≡ Passes n m k) (bytes : (j : ℕ) → getD case j 0 < 256)
-      (indexed : refusal case book room ≡ none → index ≡ indexedAs case book (room .index)) where
-    free : (refusal case book room ≡ none) × ((n ≡ marketIn case .students) × (m ≡ marketIn case .workshops))
-    free = when-passes case (refusal case book room) n m k (sym e ∙ says)
+  module _ (n m k : ℕ) (e : checked ≡ Passes n m k) (bytes : (j : ℕ) → getD case j 0 < 256) where
+    free : (refusal case book room ≡ none) × (n ≡ marketIn case .students) × (m ≡ marketIn case .workshops) × (k ≡ pairCount case)
+    free = as-clean case (refusal case book room) n m k (sym e ∙ says .answer)
 
     pub clean : Clean case book index n m
     clean =
-        rw (indexed (free .0), free .1 .0, free .1 .1)
+        rw (says .left, free .0, free .1, free .2)
         (valid-clean case book room (refusal-none case book room (free .0)) bytes)
 
     pub found-started : (p : Prepared) → p .run ≡ beginRun (marketIn case) (resultsIn book) → p .cause ≡ 0 → p .students ≡ n → p .workshops ≡ m

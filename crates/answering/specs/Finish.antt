@@ -1,38 +1,35 @@
 -- What is left to do after the run: places, scratch and the answer.
 use Prim.Native.Nat.{ℕ, _≤_, _<_}
-use mathlib.Core.Path.{_≡_}
-use mathlib.Core.Bool.{Bool, cond}
+use mathlib.Core.Bool.{cond, _&&_}
 use mathlib.Core.List.{List}
 use lib.ListN.{length, getD}
 use lib.Dec.{eqb}
-use Rattle.base.specs.Lists.{total}
-use Rattle.format.specs.Engine.{marketIn}
-use Rattle.model.specs.declared.Run.{Run}
-use Rattle.model.specs.Store.{part}
-use Rattle.lookup.specs.Clean.{WorkshopAt}
+use Rattle.base.specs.Lists.{tabulate}
+use Rattle.format.specs.Buffers.{withHead}
+use Rattle.api.specs.declared.StudentState.{StudentState}
 use Rattle.api.specs.declared.Answer.{Answer}
 use Rattle.api.specs.declared.Answer.the-variants.{Placed, Next, Refused}
+use Rattle.api.specs.Answered.{zeroState}
+use Rattle.model.specs.declared.Run.{Run}
 use Rattle.answering.specs.declared.Prepared.{Prepared}
-use Rattle.answering.specs.Places.{fromSeats, noPlaces}
 
--- the seats can be read: n students and m workshops, whose parts hold students 1 to n or 0, and there is a place for each
-pub record Seated (case seats places : List ℕ) (n m : ℕ) : Type 0 where
-  pub workshop : (w : ℕ) → 1 ≤ w → w ≤ m → WorkshopAt case n w
-  pub few : m ≤ 64
-  pub long : total (marketIn case .quota) m ≤ length seats
-  pub holders : (w : ℕ) → 1 ≤ w → w ≤ m → (i : ℕ) → i < marketIn case .quota w → getD (part (marketIn case) seats w) i 0 ≤ n
-  pub room : n ≤ length places
+-- how many students have a place to be read: all where the run has placed everybody, and else none
+unfoldable pub toPlace : Prepared → Run → ℕ
+toPlace p r = cond (eqb (p .cause) 0 && eqb (r .workshop) 0) (p .students) 0
 
--- the run has placed everybody
-abbrev pub Over : Prepared → Run → Type 0
-Over p r = (p .cause ≡ 0) × (r .workshop ≡ 0)
+-- what state i holds
+abbrev pub heldAt : List StudentState → ℕ → ℕ
+heldAt states i = getD states i zeroState .held
 
--- the places at the end: filled where the run has placed everybody, and else as they were
-unfoldable pub placesEnd : List ℕ → List ℕ → List ℕ → Prepared → Run → List ℕ
-placesEnd case seats places p r =
-    cond (eqb (p .cause) 0)
-    (cond (eqb (r .workshop) 0) (fromSeats (marketIn case) seats (p .workshops) (noPlaces (p .students) places)) places)
-    places
+-- the first n places are what the first n states hold
+abbrev pub placesHeld : ℕ → List StudentState → List ℕ → List ℕ
+placesHeld n states places = withHead (tabulate (heldAt states) n) places
+
+-- n places can be read: there are so many states and places, and each state holds a number that a place has room for
+pub record CanRead (states : List StudentState) (places : List ℕ) (n : ℕ) : Type 0 where
+  pub manyStates : n ≤ length states
+  pub manyPlaces : n ≤ length places
+  pub small : (i : ℕ) → i < n → heldAt states i < 65536
 
 -- the answer: a refusal, a missing interview, or the placement
 unfoldable pub answerEnd : Prepared → Run → Answer

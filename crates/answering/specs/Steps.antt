@@ -12,6 +12,7 @@ use Rattle.model.specs.declared.Run.{Run}
 use Rattle.model.specs.Turn.{beginRun}
 use Rattle.model.specs.Ready.{Ready}
 use Rattle.lookup.specs.Clean.{Clean}
+use Rattle.book_tests.specs.Index.{indexAfter}
 use Rattle.answering.specs.declared.Prepared.{Prepared}
 
 -- a turn can be taken
@@ -19,11 +20,16 @@ pub record StepReady (case book index visits seats : List ℕ) (k : StudentState
   pub clean : Clean case book index students workshops
   pub ready : Ready (marketIn case) (resultsIn book) visits seats k r
 
--- the input is refused: number and place, and nobody is in hand
+-- a run with nobody in hand, and nothing done
+abbrev pub noRun : Run
+noRun = record { hand = 0; last = 0; lost = 0; count = 0; student = 0; workshop = 0 }
+
+-- the input is refused: number and place, and there is no run
 pub record Halted (k i : ℕ) (p : Prepared) : Type 0 where
-  pub hand : p .run .hand ≡ 0
+  pub run : p .run ≡ noRun
   pub cause : p .cause ≡ k
   pub record′ : p .record ≡ i
+  pub counts : (p .students ≡ 0) × (p .workshops ≡ 0)
 
 -- the run can begin
 pub record Started (case book index : List ℕ) (p : Prepared) : Type 0 where
@@ -35,7 +41,8 @@ abbrev pub Found : List ℕ → List ℕ → List ℕ → Prepared → Option (�
 Found case book index p (some r) = Halted (r .0) (r .1) p
 Found case book index p none = Started case book index p
 
--- the input is tested, the seats are zero, and the index is that of the book's records
+-- the input is tested, the seats are zero, and the index is that of the book's records, or zero on a refusal
 pub record Prepares (case book : List ℕ) (places visits states : ℕ) (seats index : List ℕ) (p : Prepared) (seats′ index′ : List ℕ) : Type 0 where
   pub cleared : seats′ ≡ replicate (length seats) 0
   pub found : Found case book index′ p (refusal case book (roomOf places visits (length seats) (length index) states))
+  pub left : index′ ≡ indexAfter (refusal case book (roomOf places visits (length seats) (length index) states)) case book (length index)

@@ -1,17 +1,16 @@
-// What stands around the run: testing the input and making the scratch ready, one turn, reading the places off the seats, and the answer.
+// What stands around the run: testing the input and making the scratch ready, one turn, a student's place, and the answer.
 ghost use mathlib.Core.Path.{_≡_};
-ghost use Prim.Native.Nat.{ℕ, _≤_, _<_};
-ghost use lib.ListN.{length, getD, replicate};
+ghost use Prim.Native.Nat.{_<_};
+ghost use lib.ListN.{length, set, replicate};
 ghost use Rattle.format.specs.Engine.{marketIn, resultsIn};
-ghost use Rattle.answering.specs.Places.{placeAll, fromSeats, noPlaces};
-ghost use Rattle.answering.specs.Finish.{Seated, Over, placesEnd, answerEnd};
-ghost use Rattle.answering.specs.Steps.{StepReady, Prepares};
+ghost use Rattle.answering.specs.Finish.{toPlace, answerEnd};
+ghost use Rattle.answering.specs.Steps.{StepReady, Prepares, noRun};
 ghost use Rattle.api.specs.Answers.{reportOf};
 ghost use Rattle.model.specs.Turn.{turnOf};
 use api::Answer;
 use api::Report;
 use api::StudentState;
-use intake::Checked;
+use case_tests::Checked;
 use intake::Room;
 use model::Run;
 use model::Turned;
@@ -33,7 +32,7 @@ pub fn count_students(case: &[u8]) -> usize
     let mut n = 0;
     let mut i = 0;
     while i < rows {
-        if case[16 * i] == 1 {
+        if records::kind_at(case, i) == 1 {
             n += 1;
             i += 1;
         } else {
@@ -43,24 +42,9 @@ pub fn count_students(case: &[u8]) -> usize
     n
 }
 
-// Everybody of the part is at w.
-fn place_part(places: &mut [u16], part: &[u16], w: u16)
-    requires { ⌜ ((k : ℕ) → k < length (now part) → getD (now part) k 0 ≤ length (now places)) ⌝ }
-    ensures { λ _. ⌜ now (places .exit) ≡ placeAll w (now (part .entry)) (now (places .entry)) ⌝ }
-{
-    let mut i = 0;
-    while i < part.len() {
-        let s = part[i] as usize;
-        if s > 0 {
-            places[s - 1] = w;
-        }
-        i += 1;
-    }
-}
-
 // A run that is over before it began.
 fn no_run() -> Run
-    ensures { λ r. ⌜ r .hand ≡ 0 ⌝ }
+    ensures { λ r. ⌜ r ≡ noRun ⌝ }
 {
     Run {
         hand: 0,
@@ -72,7 +56,7 @@ fn no_run() -> Run
     }
 }
 
-// Tests the input, cause by cause, and makes the scratch ready for the run: the seats are zero, and the index is that of the book's records.
+// Tests the input, cause by cause, and makes the scratch ready for the run: the seats are zero, and the index is that of the book's records, or zero on a refusal.
 pub fn prepare(
     case: &[u8],
     book: &[u8],
@@ -90,7 +74,7 @@ pub fn prepare(
         seats: seats.len(),
         states,
     };
-    intake::clear(&mut *seats);
+    records::clear(&mut *seats);
     let checked = intake::check(case, book, room, &mut *index);
     match checked {
         Checked::Refused { cause, record } => {
@@ -103,7 +87,7 @@ pub fn prepare(
                 workshops: 0,
             }
         }
-        Checked::Clean {
+        Checked::Counts {
             students,
             workshops,
             pairs: _,
@@ -151,66 +135,55 @@ pub fn step(
     )
 }
 
-// The places of all who have a seat.
-fn place_seated(case: &[u8], seats: &[u16], places: &mut [u16], students: usize, workshops: usize)
-    requires { ⌜ Seated (now case) (now seats) (now places) students workshops ⌝ }
-    ensures { λ _. ⌜ now (places .exit) ≡ fromSeats (marketIn (now (case .entry))) (now (seats .entry)) workshops (now (places .entry)) ⌝ }
+// How many students have a place to be read: all where the run has placed everybody, and else none.
+pub fn to_place(p: Prepared, r: Run) -> usize
+    ensures { λ n. ⌜ n ≡ toPlace p r ⌝ }
 {
-    let mut w = 0;
-    let mut at = 0;
-    while w < workshops {
-        let end = at + lookup::quota_of(case, students, w + 1) as usize;
-        place_part(&mut *places, &seats[at..end], w as u16 + 1);
-        at = end;
-        w += 1;
+    if (p.cause == 0) & (r.workshop == 0) {
+        return p.students;
     }
+    0
 }
 
-// The places of students 1 to n, read off the seats.
-fn fill_places(case: &[u8], seats: &[u16], places: &mut [u16], students: usize, workshops: usize)
-    requires { ⌜ Seated (now case) (now seats) (now places) students workshops ⌝ }
-    ensures { λ _. ⌜ now (places .exit) ≡ fromSeats (marketIn (now (case .entry))) (now (seats .entry)) workshops (noPlaces students (now (places .entry))) ⌝ }
+// The place of a student is the workshop that her state holds.
+pub fn put_place(places: &mut [u16], i: usize, state: StudentState)
+    requires { ⌜ (i < length (now places)) × (state .held < 65536) ⌝ }
+    ensures { λ _. ⌜ now (places .exit) ≡ set (now (places .entry)) i (state .held) ⌝ }
 {
-    intake::clear(&mut places[..students]);
-    place_seated(case, seats, places, students, workshops);
+    places[i] = state.held as u16;
 }
 
-// After the run: the places, where everybody is placed, then zeros over the scratch, and the answer.
-pub fn finish(
-    case: &[u8],
-    seats: &mut [u16],
-    index: &mut [u16],
-    places: &mut [u16],
-    p: Prepared,
-    r: Run,
-) -> Answer
-    requires { ⌜ (Over p r → Seated (now case) (now seats) (now places) (p .students) (p .workshops)) ⌝ }
+// The answer: a refusal, a missing interview, or the placement.
+fn answer_of(p: Prepared, r: Run) -> Answer
     ensures { λ a. ⌜ a ≡ answerEnd p r ⌝ }
-    ensures { λ a. ⌜ now (places .exit) ≡ placesEnd (now (case .entry)) (now (seats .entry)) (now (places .entry)) p r ⌝ }
-    ensures { λ a. ⌜ now (seats .exit) ≡ replicate (length (now (seats .entry))) 0 ⌝ }
-    ensures { λ a. ⌜ now (index .exit) ≡ replicate (length (now (index .entry))) 0 ⌝ }
 {
     let cause = p.cause;
     let workshop = r.workshop;
-    intake::clear(&mut *index);
     if cause > 0 {
-        intake::clear(&mut *seats);
         return Answer::Refused {
             cause,
             record: p.record,
         };
     }
     if workshop > 0 {
-        intake::clear(&mut *seats);
         return Answer::Next {
             student: r.student,
             workshop,
             visits: r.count,
         };
     }
-    fill_places(case, &*seats, places, p.students, p.workshops);
-    intake::clear(&mut *seats);
     Answer::Placed { visits: r.count }
+}
+
+// After the run: zeros over the scratch, and the answer.
+pub fn finish(seats: &mut [u16], index: &mut [u16], p: Prepared, r: Run) -> Answer
+    ensures { λ a. ⌜ a ≡ answerEnd p r ⌝ }
+    ensures { λ a. ⌜ now (seats .exit) ≡ replicate (length (now (seats .entry))) 0 ⌝ }
+    ensures { λ a. ⌜ now (index .exit) ≡ replicate (length (now (index .entry))) 0 ⌝ }
+{
+    records::clear(&mut *seats);
+    records::clear(&mut *index);
+    answer_of(p, r)
 }
 
 // The answer in four numbers.

@@ -16,11 +16,12 @@ pub enum Answer {
     },
 }
 
-// A student's state (document 01: a card): the tier reached, the workshop held or 0, and the open workshops, workshop w as bit w - 1.
+// A student's state (document 01: a card): the tier reached, the workshop held or 0, and the open workshops, workshop w as bit w - 1. It has no
+// padding: a state that is zero is sixteen bytes of zero.
 #[repr(C)]
 pub struct StudentState {
-    pub reached: u16,
-    pub held: u16,
+    pub reached: u32,
+    pub held: u32,
     pub openings: u64,
 }
 

@@ -159,10 +159,10 @@ map-upto-at f (suc n) k l = ap (λ xs. getD xs k 0) (map-append f (upto n) (suc 
 
 -- ---- a function changed at one place
 
-pub update-at : (f : ℕ → ℕ) (k v x : ℕ) → x ≡ k → update f k v x ≡ v
+pub update-at : {A : Type 0} (f : ℕ → A) (k : ℕ) (v : A) (x : ℕ) → x ≡ k → update f k v x ≡ v
 unfolding update
 update-at f k v x e = rw (eq-eqb x k e)
 
-pub update-off : (f : ℕ → ℕ) (k v x : ℕ) → (x ≡ k → ⊥) → update f k v x ≡ f x
+pub update-off : {A : Type 0} (f : ℕ → A) (k : ℕ) (v : A) (x : ℕ) → (x ≡ k → ⊥) → update f k v x ≡ f x
 unfolding update
 update-off f k v x ne = rw (ne-eqb x k ne)

@@ -2,9 +2,11 @@
 // cover: the functions here that have one are proved by a walk of their MIR, and what they call is covered.
 ghost use mathlib.Core.Path.{_≡_};
 ghost use lib.ListN.{length, replicate};
+ghost use Rattle.format.specs.Engine.{marketIn, resultsIn};
 ghost use Rattle.api.specs.Answered.{zeroState, Answered, answerIn};
 ghost use Rattle.api.specs.Answers.{reportOf};
-ghost use Rattle.engine.specs.Runs.{wholeRun, CanRun};
+ghost use Rattle.engine.specs.Runs.{turnOn, wholeRun, CanTurn, CanRun};
+ghost use Rattle.answering.specs.Finish.{placesHeld, CanRead};
 use api::Answer;
 use api::Report;
 use api::StudentState;
@@ -23,6 +25,39 @@ fn clear_states(states: &mut [StudentState])
         };
         i += 1;
     }
+}
+
+// One turn: the state of the student in hand is read, and stored as the turn leaves it. The run after the turn.
+fn take_turn(
+    case: &[u8],
+    book: &[u8],
+    index: &mut [u16],
+    visits: &mut [u16],
+    seats: &mut [u16],
+    states: &mut [StudentState],
+    run: Run,
+    students: usize,
+    workshops: usize,
+) -> Run
+    requires { ⌜ CanTurn (now case) (now book) (now index) (now visits) (now seats) (now states) run students workshops ⌝ }
+    ensures { λ r. ⌜ ((now (visits .exit), (now (seats .exit), (now (states .exit), r)))
+        ≡ turnOn (marketIn (now (case .entry))) (resultsIn (now (book .entry))) (now (visits .entry), (now (seats .entry), (now (states .entry), run))))
+        × (now (index .exit) ≡ now (index .entry)) ⌝ }
+{
+    let at = run.hand - 1;
+    let t = answering::step(
+        case,
+        book,
+        &mut *index,
+        &mut *visits,
+        &mut *seats,
+        states[at],
+        run,
+        students,
+        workshops,
+    );
+    states[at] = t.state;
+    t.run
 }
 
 // Turns are taken until no student is in hand.
@@ -44,22 +79,32 @@ fn run_all(
 {
     let mut r = start;
     while r.hand > 0 {
-        let at = r.hand - 1;
-        let t = answering::step(
+        let next = take_turn(
             case,
             book,
             &mut *index,
             &mut *visits,
             &mut *seats,
-            states[at],
+            &mut *states,
             r,
             students,
             workshops,
         );
-        states[at] = t.state;
-        r = t.run;
+        r = next;
     }
     r
+}
+
+// The places of students 1 to n: the workshops that their states hold. The states are only read.
+fn read_places(states: &mut [StudentState], places: &mut [u16], n: usize)
+    requires { ⌜ CanRead (now states) (now places) n ⌝ }
+    ensures { λ _. ⌜ (now (places .exit) ≡ placesHeld n (now (states .entry)) (now (places .entry))) × (now (states .exit) ≡ now (states .entry)) ⌝ }
+{
+    let mut i: usize = 0;
+    while i < n {
+        answering::put_place(&mut *places, i, states[i]);
+        i += 1;
+    }
 }
 
 // A case and a book are answered: placements go to `places`, interviews to `visits`. All else that is lent is scratch, and left zero.
@@ -103,8 +148,10 @@ pub fn place(
         students,
         workshops,
     );
+    let n = answering::to_place(p, r);
+    read_places(&mut *states, &mut *places, n);
     clear_states(&mut *states);
-    answering::finish(case, &mut *seats, &mut *index, &mut *places, p, r)
+    answering::finish(&mut *seats, &mut *index, p, r)
 }
 
 // The same with the states of 512 students made here: no slice of structs is lent, so its callers need no walk.

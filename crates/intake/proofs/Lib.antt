@@ -1,11 +1,1 @@
-pub mod Laws
-pub mod Counting
-pub mod Sounding
-pub mod Cases
-pub mod Joined
-pub mod Indexing
-pub mod Lowering
-pub mod Interviews
-pub mod Standing
-pub mod Sides
-pub mod Seeing
+pub mod Joining

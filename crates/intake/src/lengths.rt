@@ -4,20 +4,19 @@ ghost use mathlib.Core.Path.{_≡_};
 ghost use mathlib.Core.Bool.{_||_};
 ghost use Prim.Native.Nat.{_*_};
 ghost use lib.Dec.{ltb};
-ghost use Rattle.base.specs.Lists.{total};
+ghost use Rattle.lgs.specs.Market.{allSeats};
 ghost use Rattle.format.specs.Engine.{marketIn};
-ghost use Rattle.intake.specs.Checked.{CleanCase};
+ghost use Rattle.case_tests.specs.Checked.{CleanCase};
 
-// The seats of all quotas, which the workshop records have after the students'.
+// The seats of all workshops, by their quotas, which the workshop records have after the students'.
 pub fn seats_needed(case: &[u8], students: usize, workshops: usize) -> usize
     requires { ⌜ CleanCase (now case) students workshops ⌝ }
-    ensures { λ r. ⌜ r ≡ total (marketIn (now (case .entry)) .quota) workshops ⌝ }
+    ensures { λ r. ⌜ r ≡ allSeats (marketIn (now (case .entry))) ⌝ }
 {
     let mut sum = 0;
     let mut w = 0;
     while w < workshops {
-        let r = records::row_at(case, students + w);
-        sum += r.second as usize;
+        sum += records::second_at(case, students + w) as usize;
         w += 1;
     }
     sum

@@ -13,7 +13,7 @@ use Rattle.format.specs.Engine.{marketIn, resultsIn}
 use Rattle.records.specs.Records.{pairPlace}
 use Rattle.records.proofs.Laws.{pair-any}
 use Rattle.model.specs.Ready.{Booked}
-use Rattle.lookup.specs.Clean.{PairAt, PairsFound, EntryAt, Clean, indexAt}
+use Rattle.lookup.specs.Clean.{PairAt, EntryAt, Clean, indexAt}
 
 module _ {case book index : List ℕ} {n m : ℕ} (k : Clean case book index n m) {s w : ℕ} (b : Booked (marketIn case) (resultsIn book) s w) where
   -- the pair's record
@@ -29,9 +29,6 @@ module _ {case book index : List ℕ} {n m : ℕ} (k : Clean case book index n m
   -- its book record, by what the index has
   pub entry-known : (p e : ℕ) → p ≡ pairPlace case s w → e ≡ getD index (p - (n + m)) 0 → EntryAt book s w e
   entry-known p e q r = rw (r, q) (k .met s w (b .met))
-
-pub pairs-found : {case book index : List ℕ} {n m : ℕ} → Clean case book index n m → PairsFound case n m
-pairs-found k = record { manyStudents = k .manyStudents; manyWorkshops = k .manyWorkshops; sorted = k .sorted; placed = k .placed }
 
 -- a pair's interview is held where the index has an entry for it
 module _ {case book index : List ℕ} {n m : ℕ} (k : Clean case book index n m) (s w : ℕ) (b : marketIn case .paired s w ≡ true) (p e : ℕ) (q : p ≡ pairPlace case s w) (r : e ≡ getD index (p - (n + m)) 0) where

@@ -7,7 +7,7 @@ use lib.ListN.{length, getD}
 use Rattle.lgs.specs.Market.{studentOutside, workshopOutside}
 use Rattle.format.specs.Layout.{rowAt, rowCount, entryAt, entryCount}
 use Rattle.format.specs.Engine.{marketIn, resultsIn}
-use Rattle.records.specs.Records.{PairsSorted, PairsPlaced, pairPlace}
+use Rattle.records.specs.Records.{PairsFound, pairPlace}
 
 -- record s - 1 is that of student s
 pub record StudentAt (case : List ℕ) (s : ℕ) : Type 0 where
@@ -29,13 +29,6 @@ pub record PairAt (case : List ℕ) (s w : ℕ) : Type 0 where
   pub studentTier : marketIn case .studentTier s w ≡ rowAt case (pairPlace case s w) .third
   pub workshopTier : marketIn case .workshopTier w s ≡ rowAt case (pairPlace case s w) .fourth
 
--- what the lookup of a pair needs, with n students and m workshops
-pub record PairsFound (case : List ℕ) (n m : ℕ) : Type 0 where
-  pub manyStudents : n ≤ 512
-  pub manyWorkshops : m ≤ 64
-  pub sorted : PairsSorted case
-  pub placed : PairsPlaced case n m
-
 -- what the index has for the pair: the number of its book record plus 1, or 0; with n students and m workshops, entry 0 is that of record n + m
 abbrev pub indexAt : List ℕ → List ℕ → ℕ → ℕ → ℕ → ℕ → ℕ
 indexAt case index n m s w = getD index (pairPlace case s w - (n + m)) 0
@@ -50,12 +43,9 @@ pub record EntryAt (book : List ℕ) (s w e : ℕ) : Type 0 where
 pub record Clean (case book index : List ℕ) (n m : ℕ) : Type 0 where
   pub students : marketIn case .students ≡ n
   pub workshops : marketIn case .workshops ≡ m
-  pub manyStudents : n ≤ 512
-  pub manyWorkshops : m ≤ 64
+  pub found : PairsFound case n m
   pub student : (s : ℕ) → 1 ≤ s → s ≤ n → StudentAt case s
   pub workshop : (w : ℕ) → 1 ≤ w → w ≤ m → WorkshopAt case n w
-  pub sorted : PairsSorted case
-  pub placed : PairsPlaced case n m
   pub pair : (s w : ℕ) → marketIn case .paired s w ≡ true → PairAt case s w
   pub named : (s w : ℕ) → marketIn case .paired s w ≡ true → ((1 ≤ s) × (s ≤ n)) × ((1 ≤ w) × (w ≤ m))
   pub indexed : (s w : ℕ) → marketIn case .paired s w ≡ true → (n + m ≤ pairPlace case s w) × (pairPlace case s w - (n + m) < length index)

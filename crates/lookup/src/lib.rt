@@ -6,9 +6,8 @@ ghost use Rattle.base.specs.Words.{biased};
 ghost use Rattle.lgs.specs.Market.{studentOutside, workshopOutside};
 ghost use Rattle.format.specs.Layout.{rowAt, rowCount, entryAt, entryCount};
 ghost use Rattle.format.specs.Engine.{marketIn, resultsIn};
-ghost use Rattle.records.specs.Records.{pairPlace};
 ghost use Rattle.model.specs.Ready.{Booked};
-ghost use Rattle.lookup.specs.Clean.{StudentAt, WorkshopAt, PairsFound, Clean};
+ghost use Rattle.lookup.specs.Clean.{StudentAt, WorkshopAt, Clean};
 
 // ---- a student's and a workshop's own record
 
@@ -16,51 +15,38 @@ pub fn stage_of(case: &[u8], s: usize) -> u16
     requires { ⌜ StudentAt (now case) s ⌝ }
     ensures { λ r. ⌜ r ≡ marketIn (now (case .entry)) .stage s ⌝ }
 {
-    records::u16_at(case, 16 * (s - 1) + 4)
+    records::second_at(case, s - 1)
 }
 
 pub fn student_outside(case: &[u8], s: usize) -> u16
     requires { ⌜ StudentAt (now case) s ⌝ }
     ensures { λ r. ⌜ r ≡ studentOutside (marketIn (now (case .entry))) s ⌝ }
 {
-    records::u16_at(case, 16 * (s - 1) + 6)
+    records::third_at(case, s - 1)
 }
 
 pub fn quota_of(case: &[u8], students: usize, w: usize) -> u16
     requires { ⌜ WorkshopAt (now case) students w ⌝ }
     ensures { λ r. ⌜ r ≡ marketIn (now (case .entry)) .quota w ⌝ }
 {
-    records::u16_at(case, 16 * (students + w - 1) + 4)
+    records::second_at(case, students + w - 1)
 }
 
 pub fn workshop_outside(case: &[u8], students: usize, w: usize) -> u16
     requires { ⌜ WorkshopAt (now case) students w ⌝ }
     ensures { λ r. ⌜ r ≡ workshopOutside (marketIn (now (case .entry))) w ⌝ }
 {
-    records::u16_at(case, 16 * (students + w - 1) + 6)
+    records::third_at(case, students + w - 1)
 }
 
 // ---- a pair's record
-
-// The number of the pair's record, or how many records there are. Where all pairs have a record it is known; else it is searched.
-pub fn pair_of(case: &[u8], students: usize, workshops: usize, s: usize, w: usize) -> usize
-    requires { ⌜ (s < 65536) × (1 ≤ w) × (w < 65536) ⌝ }
-    requires { ⌜ PairsFound (now case) students workshops ⌝ }
-    ensures { λ r. ⌜ r ≡ pairPlace (now (case .entry)) s w ⌝ }
-{
-    let rows = records::row_count(case.len());
-    if records::is_known(rows, students, workshops, s, w) {
-        return students + s * workshops + w - 1;
-    }
-    records::find_pair(case, rows, students, workshops, s as u16, w as u16)
-}
 
 // The student's tier for the workshop, from the pair's record.
 pub fn student_tier(case: &[u8], pair: usize) -> u16
     requires { ⌜ pair < rowCount (now case) ⌝ }
     ensures { λ r. ⌜ r ≡ rowAt (now (case .entry)) pair .third ⌝ }
 {
-    records::u16_at(case, 16 * pair + 6)
+    records::third_at(case, pair)
 }
 
 // The workshop's tier for the student, from the pair's record.
@@ -68,7 +54,7 @@ pub fn workshop_tier(case: &[u8], pair: usize) -> u16
     requires { ⌜ pair < rowCount (now case) ⌝ }
     ensures { λ r. ⌜ r ≡ rowAt (now (case .entry)) pair .fourth ⌝ }
 {
-    records::u16_at(case, 16 * pair + 8)
+    records::fourth_at(case, pair)
 }
 
 // ---- the interview of a pair
@@ -87,7 +73,7 @@ fn student_score(book: &[u8], e: usize) -> i16
     requires { ⌜ (1 ≤ e) × (e ≤ entryCount (now book)) ⌝ }
     ensures { λ r. ⌜ biased r ≡ entryAt (now (book .entry)) (e - 1) .studentScore ⌝ }
 {
-    records::score_at(book, 8 * (e - 1) + 4)
+    records::student_score_at(book, e - 1)
 }
 
 // The score that the workshop gave, from book record e - 1.
@@ -95,7 +81,7 @@ pub fn workshop_score(book: &[u8], e: usize) -> i16
     requires { ⌜ (1 ≤ e) × (e ≤ entryCount (now book)) ⌝ }
     ensures { λ r. ⌜ biased r ≡ entryAt (now (book .entry)) (e - 1) .workshopScore ⌝ }
 {
-    records::score_at(book, 8 * (e - 1) + 6)
+    records::workshop_score_at(book, e - 1)
 }
 
 // The score that student s gave workshop w in their interview.
@@ -112,7 +98,7 @@ pub fn student_score_of(
     requires { ⌜ Booked (marketIn (now case)) (resultsIn (now book)) s w ⌝ }
     ensures { λ r. ⌜ biased r ≡ resultsIn (now (book .entry)) .studentScore s w ⌝ }
 {
-    let pair = pair_of(case, students, workshops, s, w);
+    let pair = records::pair_of(case, students, workshops, s, w);
     student_score(book, entry_of(index, students + workshops, pair))
 }
 
@@ -136,7 +122,7 @@ pub fn standing_of(
     ensures { λ r. ⌜ r .tier ≡ marketIn (now (case .entry)) .workshopTier w s ⌝ }
     ensures { λ r. ⌜ biased (r .score) ≡ resultsIn (now (book .entry)) .workshopScore w s ⌝ }
 {
-    let pair = pair_of(case, students, workshops, s, w);
+    let pair = records::pair_of(case, students, workshops, s, w);
     Standing {
         tier: workshop_tier(case, pair),
         score: workshop_score(book, entry_of(index, students + workshops, pair)),

@@ -1,3 +1,4 @@
+pub mod Storage
 pub mod Seats
 pub mod Evident
 pub mod Tied

@@ -11,7 +11,7 @@ use lib.Dec.{eqb}
 use lib.ListN.{length, length-append, length-map}
 use borrow.Author.Tests.{eqb-true}
 use Rattle.base.specs.Lists.{upto}
-use Rattle.lgs.specs.Market.{Market, Results, studentOutside}
+use Rattle.lgs.specs.Market.{Market, Results, studentOutside, seatsOf}
 use Rattle.lgs.specs.Profiles.{Profile}
 use Rattle.lgs.specs.Rule.{State, going, stopped, finished, Interview, interviewed, due, close, step, fuel, start, lazyGaleShapley}
 use Rattle.lgs.specs.Promises.{NoRepeats, pairsIn}
@@ -27,12 +27,13 @@ use Rattle.lgs.proofs.Once.{append-distinct, interviews-distinct, listed-fits}
 use Rattle.model.proofs.Evident.{Evident, start-evident}
 use Rattle.model.proofs.Tied.{Tied, due-same, bit-seen, holder-seen}
 use Rattle.model.proofs.Match.{nowAt, now-hand}
+use Rattle.model.proofs.Storage.{seats-of}
 use Rattle.model.proofs.Turns.{weightOf, Linked, Matches, waits, moved, turn-matches}
 use Rattle.model.proofs.Refined.{next, begin-linked, begin-weight, lacks-stay, done-stays, refined}
 
 -- what the accesses of a turn need of the machine
 pub record Safe (M : Market) (B : Results) (m : Machine) : Type 0 where
-  pub seats : (c : ℕ) → 0 < c → length (m .seats c) ≤ M .quota c
+  pub seats : (c : ℕ) → 0 < c → length (m .seats c) ≤ seatsOf M c
   pub seated : (c h : ℕ) → 0 < c → Mem h (m .seats c) → Booked M B h c
   pub hand : (s : ℕ) (rest : List ℕ) → m .waiting ≡ s ∷ rest → (1 ≤ s) × (s ≤ M .students)
   pub reached : (s : ℕ) (rest : List ℕ) → m .waiting ≡ s ∷ rest → told (m .lost) (m .cards s) .reached ≤ studentOutside M s
@@ -149,8 +150,8 @@ module _ (M : Market) (B : Results) (O : Profile) (E : Setting M B O (B .met)) w
 
     -- ---- what the accesses need
 
-    seats-fit : (c : ℕ) → 0 < c → length (m .seats c) ≤ M .quota c
-    seats-fit c pos = omega (arith, D .linked .tied .size c pos, D .inv .within c pos)
+    seats-fit : (c : ℕ) → 0 < c → length (m .seats c) ≤ seatsOf M c
+    seats-fit c pos = omega (arith, seats-of M c, D .linked .tied .size c pos, D .inv .within c pos)
 
     booked : (s d : ℕ) → Seen M (B .met) (D .state) s d → Booked M B s d
     booked s d v = record { student = E .wf .student s d (v .pair); workshop = E .wf .workshop s d (v .pair); pair = v .pair; met = v .seen }

@@ -11,33 +11,26 @@ use lib.Dec.{eqb}
 use lib.ListN.{length}
 use borrow.Author.Tests.{eqb-true, eq-eqb, ne-eqb, lt-ltb, le-ltb}
 use Rattle.base.specs.Lists.{update, upto}
-use Rattle.lgs.specs.Market.{Market, Results, studentOutside}
+use Rattle.lgs.specs.Market.{Market, Results, studentOutside, seatsOf}
 use Rattle.lgs.specs.Profiles.{Profile, seated, flip}
-use Rattle.lgs.specs.Rule.{State, going, Interview, interviewed, declined, open?, choices, due, best, advance, interviewAll, close, handOn, settle, apply, turn, step}
-use Rattle.model.specs.Model.{put, Card, held, told, holding, push, options}
+use Rattle.lgs.specs.Rule.{State, going, Interview, interviewed, unopened, open?, choices, due, best, advance, interviewAll, close, handOn, settle, apply, turn, step}
+use Rattle.model.specs.Model.{Card, held, told, holding, push, options}
 use Rattle.base.proofs.Tests.{never, bool-cases, and-right, eq?}
 use Rattle.base.proofs.Counting.{count-same}
-use Rattle.base.proofs.Members.{in-upto, in-keep, in-rest}
+use Rattle.base.proofs.Members.{in-upto, in-keep, in-rest, update-at, update-off}
 use Rattle.lgs.proofs.Sides.{Known}
 use Rattle.lgs.proofs.Invariant.{Setting, Seen, Chosen, Inv, Open, open-parts, open-make, known-by}
 use Rattle.lgs.proofs.Interviews.{interviewsWith, withInterviews, interviewed-or, interviewed-before, interviewed-after, interviewed-of, interviewed-in}
-use Rattle.lgs.proofs.Advance.{update-at, update-off, Due, due-in}
+use Rattle.lgs.proofs.Advance.{Due, due-in}
 use Rattle.lgs.proofs.Lowest.{Lowest}
 use Rattle.lgs.proofs.Close.{Seating, close-keeps, close-deletes}
 use Rattle.lgs.proofs.Apply.{seat, drop, drop-full, one-more}
 use Rattle.lgs.proofs.Moves.{joinedState, dropped}
 use Rattle.lgs.proofs.Ends.{x-below}
 use Rattle.model.proofs.Seats.{Ranked, Pushed, pushed, before-rank, not-before-rank}
+use Rattle.model.proofs.Storage.{seats-of}
 use Rattle.model.proofs.Evident.{Evident}
 use Rattle.model.proofs.Tied.{Tied, Bits, holder-seen, bit-seen}
-
-pub put-at : {A : Type 0} (f : ℕ → A) (k : ℕ) (v : A) (x : ℕ) → x ≡ k → put f k v x ≡ v
-unfolding put
-put-at f k v x e = rw (eq-eqb x k e)
-
-pub put-off : {A : Type 0} (f : ℕ → A) (k : ℕ) (v : A) (x : ℕ) → (x ≡ k → ⊥) → put f k v x ≡ f x
-unfolding put
-put-off f k v x ne = rw (ne-eqb x k ne)
 
 -- the cards, with that of the student in hand brought up to date
 abbrev pub nowAt : List ℕ → ℕ → (ℕ → Card) → ℕ → Card
@@ -60,7 +53,7 @@ module _ (M : Market) (B : Results) (σ : State) (s : ℕ) (rest : List ℕ) whe
   unfolding step turn
   step-interviews e = rw e
 
-  pub step-applies : (y : ℕ) (ys : List ℕ) (b : ℕ) → choices M B σ s ≡ y ∷ ys → best M B σ s y ys ≡ b → step M B σ (s ∷ rest) ≡ apply M B σ s rest b
+  pub step-applies : (y : ℕ) (ys : List ℕ) (b : ℕ) → choices M B σ s ≡ y ∷ ys → best M B s y ys ≡ b → step M B σ (s ∷ rest) ≡ apply M B σ s rest b
   unfolding step turn
   step-applies y ys b e f = rw e (ap (apply M B σ s rest) f)
 
@@ -91,7 +84,7 @@ module _ (M : Market) (B : Results) (O : Profile) (E : Setting M B O (B .met)) (
         let r : (1 ≤ w) × (w ≤ M .workshops) = E .wf .workshop s w (bit-seen M B O E σ I C S R s w b .pair) in
         not-nil (subst (λ l. Mem w l) noopt (in-rest (eqb (studentOutside M s) (C s .reached)) 0 w _ (in-keep (C s .bits) (upto (M .workshops)) w b (in-upto (M .workshops) w (r .0) (r .1)))))
 
-    hers : (w : ℕ) → b′ w ≡ true → (interviewed us s w ≡ true) × (declined M B s w ≡ false) × (ahead .reached s ≤ M .studentTier s w)
+    hers : (w : ℕ) → b′ w ≡ true → (interviewed us s w ≡ true) × (unopened M B s w ≡ false) × (ahead .reached s ≤ M .studentTier s w)
     hers w b =
         ⊎-elim (λ k. absurd (no-bit w k))
         (λ r.
@@ -128,10 +121,10 @@ module _ (M : Market) (B : Results) (O : Profile) (E : Setting M B O (B .met)) (
               ⊎-elim
               (λ (e : t ≡ s).
               let b₁ : b′ w ≡ true = rw (mine t e) at b in
-              subst (λ u. (interviewed us u w ≡ true) × (declined M B u w ≡ false) × (ahead .reached u ≤ M .studentTier u w)) (sym e) (hers w b₁))
+              subst (λ u. (interviewed us u w ≡ true) × (unopened M B u w ≡ false) × (ahead .reached u ≤ M .studentTier u w)) (sym e) (hers w b₁))
               (λ ne.
               let b₁ : C t .bits w ≡ true = rw (theirs t ne) at b in
-              let r : (interviewed (σ .interviews) t w ≡ true) × (declined M B t w ≡ false) × (σ .reached t ≤ M .studentTier t w) = R .from t w b₁ in
+              let r : (interviewed (σ .interviews) t w ≡ true) × (unopened M B t w ≡ false) × (σ .reached t ≤ M .studentTier t w) = R .from t w b₁ in
               (rw eu (interviewed-before (σ .interviews) _ t w (r .0)), r .1, omega (arith, r .2, update-off (σ .reached) s (suc (σ .reached s)) t ne)))
               (eq? t s);
           ranked = R .ranked;
@@ -202,10 +195,10 @@ module _ (M : Market) (B : Results) (O : Profile) (E : Setting M B O (B .met)) (
     c = suc c₀
 
     abbrev zs : List ℕ
-    zs = push M B c (M .quota c) s (S c) .0
+    zs = push M B c (seatsOf M c) s (S c) .0
 
     abbrev out : ℕ
-    out = push M B c (M .quota c) s (S c) .1
+    out = push M B c (seatsOf M c) s (S c) .1
 
     abbrev joined : ℕ → ℕ
     joined = update (σ .held) s c
@@ -225,17 +218,21 @@ module _ (M : Market) (B : Results) (O : Profile) (E : Setting M B O (B .met)) (
     knows : (h : ℕ) → Seen M (B .met) σ h c → Known (flip (M .paired)) (flip (B .met)) c h
     knows h v = known-by M B O (B .met) E σ h c v
 
-    pub P : Pushed (O .workshopRank c) (M .quota c) s (S c) zs out
-    P =
+    -- at the storage's capacity, and then at the quota
+    at-seats : Pushed (O .workshopRank c) (seatsOf M c) s (S c) zs out
+    at-seats =
         pushed M B c (O .workshopRank c) (λ h. Seen M (B .met) σ h c)
         (λ x y vx vy e. before-rank M B O (B .met) E c x y (knows x vx) (knows y vy) e)
         (λ x y vx vy e. not-before-rank M B O (B .met) E c x y (knows x vx) (knows y vy) e)
-        (M .quota c) s (S c) (omega (arith, R .size c c-pos, I .within c c-pos)) s-seen
+        (seatsOf M c) s (S c) (omega (arith, seats-of M c, R .size c c-pos, I .within c c-pos)) s-seen
         (λ y m. holder-seen M B O E σ I C S R c y c-pos (R .sits c y c-pos m))
         (λ y m e.
         not-hand y (R .sits c y c-pos m)
         (sym (E .full .workshops .strict c s y (knows s s-seen .option) (knows y (holder-seen M B O E σ I C S R c y c-pos (R .sits c y c-pos m)) .option) e)))
         (R .ranked c c-pos)
+
+    pub P : Pushed (O .workshopRank c) (M .quota c) s (S c) zs out
+    P = subst (λ (q : ℕ). Pushed (O .workshopRank c) q s (S c) zs out) (seats-of M c) at-seats
 
     joins : (h : ℕ) → (h ≡ s) ⊎ Mem h (S c) → joined h ≡ c
     joins h m = ⊎-elim (λ e. update-at (σ .held) s c h e) (λ k. let e : σ .held h ≡ c = R .sits c h c-pos k in update-off (σ .held) s c h (not-hand h e) ∙ e) m

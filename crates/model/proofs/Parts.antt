@@ -12,13 +12,13 @@ use lib.Dec.{eqb}
 use lib.ListN.{length, take, drop, getD, replicate, length-append, length-drop, length-replicate, getD-replicate, List·getD-append, List·getD-eq-default}
 use lib.Seq.{length-take-le, take-at, drop-at, getD-append-add, getD-take, getD-drop, ext-getD}
 use borrow.Author.Tests.{eq-eqb, ne-eqb}
-use Rattle.base.specs.Lists.{total}
-use Rattle.lgs.specs.Market.{Market, Results}
-use Rattle.model.specs.Model.{put, before, push, lastSeat}
-use Rattle.model.specs.Store.{pushPadded, seatsFrom, part, putPart, lastOf}
+use Rattle.base.specs.Lists.{update}
+use Rattle.lgs.specs.Market.{Market, Results, seatsOf, seatsBefore, allSeats}
+use Rattle.model.specs.Model.{before, push, lastSeat}
+use Rattle.model.specs.Store.{pushPadded, part, putPart, lastOf}
 use Rattle.base.proofs.Tests.{bool-cases, eq?, less?}
-use Rattle.base.proofs.Counting.{total-grows}
-use Rattle.model.proofs.Match.{put-at, put-off}
+use Rattle.model.proofs.Storage.{part-within, part-inside as inside}
+use Rattle.base.proofs.Members.{update-at, update-off}
 
 -- q seats, the free ones zero
 abbrev pub padded : ℕ → List ℕ → List ℕ
@@ -31,8 +31,8 @@ zeros n = replicate n 0
 
 -- the slice holds the seats S
 pub record Stored (M : Market) (flat : List ℕ) (S : ℕ → List ℕ) : Type 0 where
-  pub long : total (M .quota) (M .workshops) ≤ length flat
-  pub parts : (w : ℕ) → 1 ≤ w → w ≤ M .workshops → part M flat w ≡ padded (M .quota w) (S w)
+  pub long : allSeats M ≤ length flat
+  pub parts : (w : ℕ) → 1 ≤ w → w ≤ M .workshops → part M flat w ≡ padded (seatsOf M w) (S w)
 
 module _ (M : Market) (B : Results) (w : ℕ) where
   pub push-padded : (q x : ℕ) (ys : List ℕ) → length ys ≤ q → ((y : ℕ) → Mem y ys → 1 ≤ y)
@@ -95,108 +95,96 @@ module _ (a q : ℕ) (flat p : List ℕ) (fits : a + q ≤ length flat) (lp : le
       ∙ ap (λ k. getD flat k 0) (omega arith)
 
 module _ (M : Market) where
-  part-end : (w : ℕ) → 1 ≤ w → seatsFrom M w + M .quota w ≡ total (M .quota) w
-  unfolding seatsFrom total
-  part-end zero l = absurd (omega arith)
-  part-end (suc k) l = omega (arith, ap (total (M .quota)) less-one)
-    where
-      less-one : suc k - 1 ≡ k
-      less-one = omega arith
-
-  earlier : (d w : ℕ) → 1 ≤ d → d < w → seatsFrom M d + M .quota d ≤ seatsFrom M w
-  unfolding seatsFrom
-  earlier d w l less = omega (arith, part-end d l, total-grows (M .quota) d (w - 1) (omega arith))
-
   -- entry i of a part, in the slice
-  pub part-at : (flat : List ℕ) (w i : ℕ) → i < M .quota w → getD (part M flat w) i 0 ≡ getD flat (seatsFrom M w + i) 0
+  pub part-at : (flat : List ℕ) (w i : ℕ) → i < seatsOf M w → getD (part M flat w) i 0 ≡ getD flat (seatsBefore M w + i) 0
   unfolding part
-  part-at flat w i l = getD-take (M .quota w) (drop (seatsFrom M w) flat) i 0 l ∙ getD-drop (seatsFrom M w) flat i 0
+  part-at flat w i l = getD-take (seatsOf M w) (drop (seatsBefore M w) flat) i 0 l ∙ getD-drop (seatsBefore M w) flat i 0
 
-  module _ (flat : List ℕ) (long : total (M .quota) (M .workshops) ≤ length flat) (w : ℕ) (l : 1 ≤ w) (u : w ≤ M .workshops) where
-    pub part-inside : seatsFrom M w + M .quota w ≤ length flat
-    part-inside = omega (arith, part-end w l, total-grows (M .quota) w (M .workshops) u)
+  module _ (flat : List ℕ) (long : allSeats M ≤ length flat) (w : ℕ) (l : 1 ≤ w) (u : w ≤ M .workshops) where
+    pub part-inside : seatsBefore M w + seatsOf M w ≤ length flat
+    part-inside = omega (arith, inside M w l u)
 
-    pub part-length : length (part M flat w) ≡ M .quota w
+    pub part-length : length (part M flat w) ≡ seatsOf M w
     unfolding part
-    part-length = length-take-le (M .quota w) (drop (seatsFrom M w) flat) (omega (arith, length-drop (seatsFrom M w) flat, part-inside))
+    part-length = length-take-le (seatsOf M w) (drop (seatsBefore M w) flat) (omega (arith, length-drop (seatsBefore M w) flat, part-inside))
 
     -- the last seat
-    pub last-at : 1 ≤ M .quota w → lastOf M flat w ≡ getD (part M flat w) (M .quota w - 1) 0
+    pub last-at : 1 ≤ seatsOf M w → lastOf M flat w ≡ getD (part M flat w) (seatsOf M w - 1) 0
     unfolding lastOf
     last-at q =
-        rw (ne-eqb (M .quota w) 0 (λ e. omega arith))
-        (ap (λ k. getD flat k 0) (omega arith) ∙ sym (part-at flat w (M .quota w - 1) (omega arith)))
+        rw (ne-eqb (seatsOf M w) 0 (λ e. omega arith))
+        (ap (λ k. getD flat k 0) (omega arith) ∙ sym (part-at flat w (seatsOf M w - 1) (omega arith)))
 
   module _ (flat : List ℕ) (S : ℕ → List ℕ) (K : Stored M flat S) where
     -- the last seat is the list's
-    pub last-stored : (w : ℕ) → 1 ≤ w → w ≤ M .workshops → length (S w) ≤ M .quota w → (B : Results) → lastOf M flat w ≡ lastSeat M B S w
+    pub last-stored : (w : ℕ) → 1 ≤ w → w ≤ M .workshops → length (S w) ≤ seatsOf M w → (B : Results) → lastOf M flat w ≡ lastSeat M B S w
     unfolding lastOf
     last-stored w l u fits B =
         ⊎-elim
-        (λ (e : M .quota w ≡ 0). rw (eq-eqb (M .quota w) 0 e) (sym (List·getD-eq-default (S w) 0 {n = M .quota w - 1} (omega arith))))
+        (λ (e : seatsOf M w ≡ 0). rw (eq-eqb (seatsOf M w) 0 e) (sym (List·getD-eq-default (S w) 0 {n = seatsOf M w - 1} (omega arith))))
         (λ ne.
         last-at flat (K .long) w l u (pos-of-ne-zero ne)
-        ∙ ap (λ p. getD p (M .quota w - 1) 0) (K .parts w l u)
-        ∙ padded-at (M .quota w) (S w) fits (M .quota w - 1))
-        (eq? (M .quota w) 0)
+        ∙ ap (λ p. getD p (seatsOf M w - 1) 0) (K .parts w l u)
+        ∙ padded-at (seatsOf M w) (S w) fits (seatsOf M w - 1))
+        (eq? (seatsOf M w) 0)
 
-    module _ (c : ℕ) (l : 1 ≤ c) (u : c ≤ M .workshops) (zs : List ℕ) (fits : length zs ≤ M .quota c) where
+    module _ (c : ℕ) (l : 1 ≤ c) (u : c ≤ M .workshops) (zs : List ℕ) (fits : length zs ≤ seatsOf M c) where
       abbrev changed : List ℕ
-      changed = putPart M flat c (padded (M .quota c) zs)
+      changed = putPart M flat c (padded (seatsOf M c) zs)
 
-      p-length : length (padded (M .quota c) zs) ≡ M .quota c
-      p-length = padded-length (M .quota c) zs fits
+      p-length : length (padded (seatsOf M c) zs) ≡ seatsOf M c
+      p-length = padded-length (seatsOf M c) zs fits
 
       pub changed-length : length changed ≡ length flat
       unfolding putPart
-      changed-length = new-length (seatsFrom M c) (M .quota c) flat (padded (M .quota c) zs) (part-inside flat (K .long) c l u) p-length
+      changed-length = new-length (seatsBefore M c) (seatsOf M c) flat (padded (seatsOf M c) zs) (part-inside flat (K .long) c l u) p-length
 
-      same : part M changed c ≡ padded (M .quota c) zs
+      same : part M changed c ≡ padded (seatsOf M c) zs
       unfolding part putPart
-      same = new-part (seatsFrom M c) (M .quota c) flat (padded (M .quota c) zs) (part-inside flat (K .long) c l u) p-length
+      same = new-part (seatsBefore M c) (seatsOf M c) flat (padded (seatsOf M c) zs) (part-inside flat (K .long) c l u) p-length
 
-      off : (j : ℕ) (d : ℕ) → 1 ≤ d → (d ≡ c → ⊥) → j < M .quota d → getD changed (seatsFrom M d + j) 0 ≡ getD flat (seatsFrom M d + j) 0
+      off : (j : ℕ) (d : ℕ) → 1 ≤ d → (d ≡ c → ⊥) → j < seatsOf M d → getD changed (seatsBefore M d + j) 0 ≡ getD flat (seatsBefore M d + j) 0
       unfolding putPart
       off j d ld ne lj =
           ⊎-elim
           (λ (less : d < c).
-          new-before (seatsFrom M c) (M .quota c) flat (padded (M .quota c) zs) (part-inside flat (K .long) c l u) p-length (seatsFrom M d + j) (omega (arith, earlier d c ld less)))
+          new-before (seatsBefore M c) (seatsOf M c) flat (padded (seatsOf M c) zs) (part-inside flat (K .long) c l u) p-length (seatsBefore M d + j) (omega (arith, part-within M d c ld less)))
           (λ (le : c ≤ d).
-          new-after (seatsFrom M c) (M .quota c) flat (padded (M .quota c) zs) (part-inside flat (K .long) c l u) p-length (seatsFrom M d + j)
-          (omega (arith, earlier c d l (⊎-elim (λ (q : c ≡ d). absurd (ne (sym q))) (λ (k : c < d). k) (eq-or-lt-of-le le)))))
+          new-after (seatsBefore M c) (seatsOf M c) flat (padded (seatsOf M c) zs) (part-inside flat (K .long) c l u) p-length (seatsBefore M d + j)
+          (omega (arith, part-within M c d l (⊎-elim (λ (q : c ≡ d). absurd (ne (sym q))) (λ (k : c < d). k) (eq-or-lt-of-le le)))))
           (less? d c)
 
       others : (d : ℕ) → 1 ≤ d → d ≤ M .workshops → (d ≡ c → ⊥) → part M changed d ≡ part M flat d
       others d ld ud ne =
-          let e : length (part M changed d) ≡ M .quota d = part-length changed (omega (arith, changed-length, K .long)) d ld ud in
+          let e : length (part M changed d) ≡ seatsOf M d = part-length changed (omega (arith, changed-length, K .long)) d ld ud in
           ext-getD 0 (part M changed d) (part M flat d) (e ∙ sym (part-length flat (K .long) d ld ud))
           (λ i li. part-at changed d i (omega arith) ∙ off i d ld ne (omega arith) ∙ sym (part-at flat d i (omega arith)))
 
       -- the slice holds the new seats
-      pub stored-put : Stored M changed (put S c zs)
+      pub stored-put : Stored M changed (update S c zs)
       stored-put =
           record {
             long = omega (arith, changed-length, K .long);
             parts = λ w lw uw.
                 ⊎-elim
                 (λ (e : w ≡ c).
-                subst (λ v. part M changed v ≡ padded (M .quota v) (put S c zs v)) (sym e) (same ∙ ap (padded (M .quota c)) (sym (put-at S c zs c refl))))
-                (λ ne. others w lw uw ne ∙ K .parts w lw uw ∙ ap (padded (M .quota w)) (sym (put-off S c zs w ne)))
+                subst (λ v. part M changed v ≡ padded (seatsOf M v) (update S c zs v)) (sym e) (same ∙ ap (padded (seatsOf M c)) (sym (update-at S c zs c refl))))
+                (λ ne. others w lw uw ne ∙ K .parts w lw uw ∙ ap (padded (seatsOf M w)) (sym (update-off S c zs w ne)))
                 (eq? w c);
           }
 
   -- a slice of zeros holds empty seats
-  pub stored-none : (n : ℕ) → total (M .quota) (M .workshops) ≤ n → Stored M (zeros n) (λ w. [])
+  pub stored-none : (n : ℕ) → allSeats M ≤ n → Stored M (zeros n) (λ w. [])
   stored-none n fits = record { long = long; parts = λ w l u. empty w l u }
     where
-      long : total (M .quota) (M .workshops) ≤ length (zeros n)
+      long : allSeats M ≤ length (zeros n)
       long = omega (arith, length-replicate {A = ℕ} n 0)
 
-      empty : (w : ℕ) → 1 ≤ w → w ≤ M .workshops → part M (zeros n) w ≡ padded (M .quota w) []
+      empty : (w : ℕ) → 1 ≤ w → w ≤ M .workshops → part M (zeros n) w ≡ padded (seatsOf M w) []
       empty w l u =
-          let e : length (part M (zeros n) w) ≡ M .quota w = part-length (zeros n) long w l u in
-          ext-getD 0 (part M (zeros n) w) (padded (M .quota w) []) (e ∙ sym (padded-length (M .quota w) [] (omega arith)))
+          let e : length (part M (zeros n) w) ≡ seatsOf M w = part-length (zeros n) long w l u in
+          ext-getD 0 (part M (zeros n) w) (padded (seatsOf M w) []) (e ∙ sym (padded-length (seatsOf M w) [] (omega arith)))
           (λ i li.
           part-at (zeros n) w i (omega arith)
-          ∙ getD-replicate {A = ℕ} n (seatsFrom M w + i) 0 0 (omega (arith, part-inside (zeros n) long w l u, length-replicate {A = ℕ} n 0))
-          ∙ sym (padded-at (M .quota w) [] (omega arith) i))
+          ∙ getD-replicate {A = ℕ} n (seatsBefore M w + i) 0 0 (omega (arith, part-inside (zeros n) long w l u, length-replicate {A = ℕ} n 0))
+          ∙ sym (padded-at (seatsOf M w) [] (omega arith) i))

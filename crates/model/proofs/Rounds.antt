@@ -11,7 +11,7 @@ use borrow.Author.Tests.{eqb-true, ne-eqb}
 use Rattle.base.specs.Lists.{upto, keep, consIf}
 use Rattle.base.specs.Bits.{member}
 use Rattle.lgs.specs.Market.{Market, Results}
-use Rattle.lgs.specs.Rule.{Interview, declined}
+use Rattle.lgs.specs.Rule.{Interview, unopened}
 use Rattle.model.specs.Model.{Round, held, missing, round, setBit}
 use Rattle.model.specs.Turn.{RoundSoFar, dueAt, roundAt, roundTo, withMember}
 use Rattle.base.proofs.Tests.{bool-cases}
@@ -31,7 +31,7 @@ module _ (M : Market) (B : Results) (s : ℕ) where
       let eb : b ≡ b′ = cc in
       ap (λ z. round M B s ys z b) eu ∙ ap (round M B s ys us) eb
   round-append (x ∷ xs) ys vs b us b′ e =
-      ⊎-elim (λ (k : B .met s x ≡ true). rw k (round-append xs ys (vs ++ ((s, x) ∷ [])) (cond (declined M B s x) b (setBit x b)) us b′ (rw k at e)))
+      ⊎-elim (λ (k : B .met s x ≡ true). rw k (round-append xs ys (vs ++ ((s, x) ∷ [])) (cond (unopened M B s x) b (setBit x b)) us b′ (rw k at e)))
       (λ (k : B .met s x ≡ false). absurd (not-held (rw k at e)))
       (bool-cases (B .met s x))
 
@@ -40,7 +40,7 @@ module _ (M : Market) (B : Results) (s : ℕ) where
   unfolding round
   round-stays [] ys vs b w us e = absurd (not-held (sym e))
   round-stays (x ∷ xs) ys vs b w us e =
-      ⊎-elim (λ (k : B .met s x ≡ true). rw k (round-stays xs ys (vs ++ ((s, x) ∷ [])) (cond (declined M B s x) b (setBit x b)) w us (rw k at e)))
+      ⊎-elim (λ (k : B .met s x ≡ true). rw k (round-stays xs ys (vs ++ ((s, x) ∷ [])) (cond (unopened M B s x) b (setBit x b)) w us (rw k at e)))
       (λ (k : B .met s x ≡ false). rw k (rw k at e))
       (bool-cases (B .met s x))
 
@@ -60,8 +60,8 @@ module _ (M : Market) (B : Results) (s : ℕ) where
         ⊎-elim
         (λ (k : B .met s w ≡ true).
         rw k
-        (ap (λ us. held us (cond (declined M B s w) (member (r .openings)) (setBit w (member (r .openings))))) (append-assoc vs (r .interviews) ((s, w) ∷ []))
-        ∙ ap (held (vs ++ (r .interviews ++ ((s, w) ∷ [])))) (same-set (declined M B s w))))
+        (ap (λ us. held us (cond (unopened M B s w) (member (r .openings)) (setBit w (member (r .openings))))) (append-assoc vs (r .interviews) ((s, w) ∷ []))
+        ∙ ap (held (vs ++ (r .interviews ++ ((s, w) ∷ [])))) (same-set (unopened M B s w))))
         (λ (k : B .met s w ≡ false). rw (k, ne-eqb w 0 (λ q. omega arith)))
         (bool-cases (B .met s w))
       where
@@ -106,19 +106,19 @@ module _ (M : Market) (B : Results) (s : ℕ) where
     round-small zero l h = h
     round-small (suc n) l h = by-due (eqb (to n .missing) 0 && dueAt M B seats s t (suc n)) (round-small n (omega arith) h)
       where
-        by-declined : (b : Bool) → to n .openings < 2 ^ 64 → cond b (to n .openings) (withMember (to n .openings) (suc n)) < 2 ^ 64
-        by-declined true g = g
-        by-declined false g = with-small (to n .openings) (suc n) (omega arith) l g
+        by-unopened : (b : Bool) → to n .openings < 2 ^ 64 → cond b (to n .openings) (withMember (to n .openings) (suc n)) < 2 ^ 64
+        by-unopened true g = g
+        by-unopened false g = with-small (to n .openings) (suc n) (omega arith) l g
 
         by-met : (b : Bool) → to n .openings < 2 ^ 64
             → cond {A = RoundSoFar} b
             (record {
               interviews = to n .interviews ++ ((s, suc n) ∷ []);
-              openings = cond (declined M B s (suc n)) (to n .openings) (withMember (to n .openings) (suc n));
+              openings = cond (unopened M B s (suc n)) (to n .openings) (withMember (to n .openings) (suc n));
               missing = 0;
             })
             (record { interviews = to n .interviews; openings = to n .openings; missing = suc n }) .openings < 2 ^ 64
-        by-met true g = by-declined (declined M B s (suc n)) g
+        by-met true g = by-unopened (unopened M B s (suc n)) g
         by-met false g = g
 
         by-due : (b : Bool) → to n .openings < 2 ^ 64 → cond b (roundAt M B s (suc n) (to n)) (to n) .openings < 2 ^ 64

@@ -4,33 +4,28 @@ use Prim.Native.Nat.{ℕ, zero, suc, _*_, _≤_, _<_}
 use mathlib.Core.Path.{_≡_, refl, sym, subst, ap, _∙_}
 use mathlib.Core.Logic.{⊎-elim}
 use mathlib.Core.List.{List, [], _∷_}
-use mathlib.Core.List.{List·Memᴰ as Mem}
 use native.Mathlib.Omega.{arith}
 use native.Mathlib.Nat.{pos-of-ne-zero}
-use lib.ListN.{length, getD}
+use lib.ListN.{length}
 use borrow.Author.Tests.{eq-eqb, ne-eqb}
-use Rattle.base.specs.Lists.{total}
-use Rattle.lgs.specs.Market.{Market, Results}
+use Rattle.lgs.specs.Market.{Market, Results, allSeats}
 use Rattle.lgs.specs.Profiles.{Profile}
 use Rattle.lgs.specs.Rule.{Interview, stopped, finished, fuel, lazyGaleShapley}
 use Rattle.lgs.specs.Promises.{pairsIn}
 use Rattle.format.specs.Buffers.{flat, withHead}
 use Rattle.model.specs.Model.{Machine, Turn, on, lacks, done, begin, takeTurn}
-use Rattle.model.specs.Store.{part}
 use Rattle.model.specs.Turn.{runOf}
 use Rattle.model.specs.Ready.{Ready}
-use Rattle.base.proofs.Tests.{eq?}
+use Rattle.base.proofs.Tests.{eq?, less?}
 use Rattle.lgs.proofs.Valid.{WellFormed, Distinct}
 use Rattle.lgs.proofs.Invariant.{Setting}
 use Rattle.lgs.proofs.Exists.{scoreProfile}
-use Rattle.model.proofs.Seats.{seat-in, seat-at, ranked-once}
 use Rattle.model.proofs.Tied.{Tied}
 use Rattle.model.proofs.Match.{nowAt}
 use Rattle.model.proofs.Turns.{weightOf}
 use Rattle.model.proofs.Refined.{setting, begin-weight}
 use Rattle.model.proofs.Loop.{Sound, Safe, sound-begin, sound-on, sound-lacks, sound-done, sound-safe}
 use Rattle.model.proofs.Stages.{Waits, over, holds}
-use Rattle.model.proofs.Parts.{padded-at}
 use Rattle.model.proofs.Shows.{Stand, Shows, Lacking, stateAt, beginning, shows-begin, shows-ready}
 use Rattle.model.proofs.ShowsTurn.{oneTurn, Follows, shows-turn}
 
@@ -51,22 +46,16 @@ module _ (M : Market) (B : Results) where
   unfolding runOf
   run-on k x l = rw (ne-eqb (x .run .hand) 0 (λ e. omega arith))
 
--- ---- what a finished run leaves: p is the matching, and it can be read off the seats
+-- ---- what a finished run leaves: p is the matching, and each student's state holds her place
 module _ (M : Market) (B : Results) (old : List ℕ) where
   pub record Finished (p : ℕ → ℕ) (vs : List Interview) (x : Stand) : Type 0 where
     pub hand : x .run .hand ≡ 0
     pub workshop : x .run .workshop ≡ 0
     pub count : x .run .count ≡ length vs
     pub visits : x .visits ≡ withHead (flat vs) old
-    pub long : total (M .quota) (M .workshops) ≤ length (x .seats)
-    -- whoever has a place has a seat there
-    pub placed : (s c : ℕ) → 0 < c → p s ≡ c → (c ≤ M .workshops) × ((i : ℕ) × (i < M .quota c) × (getD (part M (x .seats) c) i 0 ≡ s))
-    -- whoever has a seat has a place there
-    pub seated : (c i : ℕ) → 1 ≤ c → c ≤ M .workshops → i < M .quota c → 0 < getD (part M (x .seats) c) i 0
-        → (getD (part M (x .seats) c) i 0 ≤ M .students) × (p (getD (part M (x .seats) c) i 0) ≡ c)
-    -- nobody has two seats
-    pub once : (c d i j : ℕ) → 1 ≤ c → c ≤ M .workshops → i < M .quota c → 1 ≤ d → d ≤ M .workshops → j < M .quota d
-        → 0 < getD (part M (x .seats) c) i 0 → getD (part M (x .seats) c) i 0 ≡ getD (part M (x .seats) d) j 0 → (c ≡ d) × (i ≡ j)
+    pub states : M .students ≤ length (x .states)
+    pub held : (s : ℕ) → 1 ≤ s → s ≤ M .students → stateAt (x .states) s .held ≡ p s
+    pub within : (s : ℕ) → p s ≤ M .workshops
 
   -- the run has ended with the rule's answer
   pub data Ends (x : Stand) : Type 0 where
@@ -99,11 +88,13 @@ module _ (M : Market) (wf : WellFormed M) (B : Results) (distinct : Distinct M B
     safe : Safe M B m
     safe = sound-safe M B O E m D
 
-    entry : (c i : ℕ) → 1 ≤ c → c ≤ M .workshops → getD (part M (x .seats) c) i 0 ≡ getD (m .seats c) i 0
-    entry c i l u = ap (λ z. getD z i 0) (W .stored .parts c l u) ∙ padded-at (M .quota c) (m .seats c) (safe .seats c l) i
-
-    held-at : (c i : ℕ) → 1 ≤ c → 0 < getD (m .seats c) i 0 → m .cards (getD (m .seats c) i 0) .held ≡ c
-    held-at c i l p = tied .held (getD (m .seats c) i 0) ∙ tied .sits c (getD (m .seats c) i 0) l (seat-in (m .seats c) i p)
+    -- the workshop that holds a student has her in a seat
+    within : (s : ℕ) → m .cards s .held ≤ M .workshops
+    within s =
+        ⊎-elim
+        (λ (l : 0 < m .cards s .held). safe .seated (m .cards s .held) s l (tied .seat (m .cards s .held) s l (sym (tied .held s))) .workshop .1)
+        (λ (l : m .cards s .held ≤ 0). omega arith)
+        (less? 0 (m .cards s .held))
 
     finished-shown : Finished M B old (λ s. m .cards s .held) (m .interviews) x
     finished-shown =
@@ -112,25 +103,10 @@ module _ (M : Market) (wf : WellFormed M) (B : Results) (distinct : Distinct M B
           workshop = W .workshop;
           count = W .count;
           visits = W .visits;
-          long = W .stored .long;
-          placed = λ s c l e. place s c l (tied .seat c s l (sym (tied .held s) ∙ e));
-          seated = λ c i l u li p.
-              let p′ : 0 < getD (m .seats c) i 0 = rw (entry c i l u) at p in
-              rw (entry c i l u) (safe .seated c (getD (m .seats c) i 0) l (seat-in (m .seats c) i p′) .student .1, held-at c i l p′);
-          once = λ c d i j lc uc li ld ud lj p e. same-seat c d i j lc uc ld ud (rw (entry c i lc uc) at p) (sym (entry c i lc uc) ∙ e ∙ entry d j ld ud);
+          states = W .states;
+          held = λ s l u. ap (λ c. c .held) (sym (W .card s l u));
+          within = within;
         }
-      where
-        place : (s c : ℕ) → 0 < c → Mem s (m .seats c) → (c ≤ M .workshops) × ((i : ℕ) × (i < M .quota c) × (getD (part M (x .seats) c) i 0 ≡ s))
-        place s c l k =
-            let u : c ≤ M .workshops = safe .seated c s l k .workshop .1 in
-            let r : (i : ℕ) × (i < length (m .seats c)) × (getD (m .seats c) i 0 ≡ s) = seat-at s (m .seats c) k in
-            (u, (r .0, omega (arith, r .1, safe .seats c l), entry c (r .0) l u ∙ r .2))
-
-        same-seat : (c d i j : ℕ) → 1 ≤ c → c ≤ M .workshops → 1 ≤ d → d ≤ M .workshops → 0 < getD (m .seats c) i 0
-            → getD (m .seats c) i 0 ≡ getD (m .seats d) j 0 → (c ≡ d) × (i ≡ j)
-        same-seat c d i j lc uc ld ud p e =
-            let q : c ≡ d = sym (held-at c i lc p) ∙ ap (λ h. m .cards h .held) e ∙ held-at d j ld (rw (← e) p) in
-            (q, ranked-once (O .workshopRank c) (m .seats c) (tied .ranked c lc) i j p (e ∙ ap (λ z. getD (m .seats z) j 0) (sym q)))
 
     ends-now : Ends M B old x
     unfolding takeTurn
@@ -208,7 +184,7 @@ module _ (M : Market) (wf : WellFormed M) (B : Results) (distinct : Distinct M B
         (eq? (x .run .hand) 0)
 
     -- ---- from zeroed buffers
-    module _ (room : 2 * pairsIn M (M .paired) ≤ length old) (n k : ℕ) (seats : total (M .quota) (M .workshops) ≤ n) (states : M .students ≤ k) where
+    module _ (room : 2 * pairsIn M (M .paired) ≤ length old) (n k : ℕ) (seats : allSeats M ≤ n) (states : M .students ≤ k) where
       abbrev pub stands : ℕ → Stand
       stands j = after M B j (beginning M B old n k)
 

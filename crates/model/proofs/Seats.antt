@@ -11,11 +11,12 @@ use native.Mathlib.Nat.{eq-or-lt-of-le}
 use lib.Dec.{eqb, ltb}
 use lib.ListN.{length, getD}
 use borrow.Author.Tests.{eqb-true, ltb-true, ltb-false, eq-eqb}
-use Rattle.lgs.specs.Market.{Market, Results}
+use Rattle.lgs.specs.Market.{Market, Results, outscored}
 use Rattle.lgs.specs.Profiles.{Profile, flip}
 use Rattle.model.specs.Model.{before, push}
 use Rattle.base.proofs.Tests.{bool-cases, and-left, and-right, or-true, or-false, less?}
 use Rattle.lgs.proofs.Sides.{Known}
+use Rattle.lgs.proofs.Valid.{outscored-less, outscored-not}
 use Rattle.lgs.proofs.Invariant.{Setting, workshop-by-score}
 
 -- strictly rising ranks
@@ -109,7 +110,7 @@ module _ (M : Market) (B : Results) (O : Profile) (Vs : ℕ → ℕ → Bool) (E
       (λ f.
       E .results .workshops .higher w x y (kx .option) (ky .option) (kx .seen) (ky .seen)
       (eqb-true _ _ (and-left (eqb (M .workshopTier w x) (M .workshopTier w y)) _ f))
-      (ltb-true _ _ (and-right (eqb (M .workshopTier w x) (M .workshopTier w y)) _ f)))
+      (outscored-less B w y x (and-right (eqb (M .workshopTier w x) (M .workshopTier w y)) _ f)))
       (or-true (ltb (M .workshopTier w x) (M .workshopTier w y)) _ e)
 
   pub not-before-rank : before M B w x y ≡ false → O .workshopRank w y ≤ O .workshopRank w x
@@ -118,11 +119,11 @@ module _ (M : Market) (B : Results) (O : Profile) (Vs : ℕ → ℕ → Bool) (E
       ⊎-elim (λ l. omega (arith, E .full .workshops .keeps w y x (ky .option) (kx .option) l))
       (λ (le : M .workshopTier w x ≤ M .workshopTier w y).
       let g : M .workshopTier w x ≡ M .workshopTier w y = omega (arith, ltb-false (M .workshopTier w x) (M .workshopTier w y) (parts .0)) in
-      workshop-by-score M B O Vs E w y x ky kx (sym g) (ltb-false _ _ (rw (eq-eqb _ _ g) at (parts .1))))
+      workshop-by-score M B O Vs E w y x ky kx (sym g) (outscored-not B w y x (rw (eq-eqb _ _ g) at (parts .1))))
       (less? (M .workshopTier w y) (M .workshopTier w x))
     where
       parts : (ltb (M .workshopTier w x) (M .workshopTier w y) ≡ false)
-          × ((eqb (M .workshopTier w x) (M .workshopTier w y) && ltb (B .workshopScore w y) (B .workshopScore w x)) ≡ false)
+          × ((eqb (M .workshopTier w x) (M .workshopTier w y) && outscored B w y x) ≡ false)
       parts = or-false (ltb (M .workshopTier w x) (M .workshopTier w y)) _ e
 
 -- the last of a full list is behind everybody
@@ -153,17 +154,3 @@ pub seat-in : (ys : List ℕ) (i : ℕ) → 0 < getD ys i 0 → Mem (getD ys i 0
 seat-in [] i p = absurd (omega arith)
 seat-in (y ∷ ys) zero p = here refl
 seat-in (y ∷ ys) (suc i) p = later (seat-in ys i p)
-
-pub seat-at : (y : ℕ) (ys : List ℕ) → Mem y ys → (i : ℕ) × (i < length ys) × (getD ys i 0 ≡ y)
-seat-at y [] m = absurd (not-nil m)
-seat-at y (z ∷ ys) m =
-    ⊎-elim (λ (e : y ≡ z). (0, omega arith, sym e))
-    (λ k. let r : (i : ℕ) × (i < length ys) × (getD ys i 0 ≡ y) = seat-at y ys k in (suc (r .0), omega (arith, r .1), r .2))
-    (cases-cons m)
-
-pub ranked-once : (rank : ℕ → ℕ) (ys : List ℕ) → Ranked rank ys → (i j : ℕ) → 0 < getD ys i 0 → getD ys i 0 ≡ getD ys j 0 → i ≡ j
-ranked-once rank [] r i j p e = absurd (omega arith)
-ranked-once rank (y ∷ ys) r zero zero p e = refl
-ranked-once rank (y ∷ ys) r zero (suc j) p e = absurd (omega (arith, r .0 (getD ys j 0) (seat-in ys j (omega arith)), ap rank e))
-ranked-once rank (y ∷ ys) r (suc i) zero p e = absurd (omega (arith, r .0 (getD ys i 0) (seat-in ys i p), ap rank e))
-ranked-once rank (y ∷ ys) r (suc i) (suc j) p e = ap suc (ranked-once rank ys (r .1) i j p e)

@@ -8,9 +8,9 @@ use native.Mathlib.Omega.{arith}
 use lib.Dec.{eqb}
 use lib.ListN.{length, getD, take, drop, replicate, length-append, length-drop, length-replicate, getD-replicate}
 use lib.Seq.{take-at, drop-append-add, drop-drop}
-use Rattle.base.specs.Lists.{total, count, upto, keep}
+use Rattle.base.specs.Lists.{count, upto, keep}
 use Rattle.base.specs.Bits.{member}
-use Rattle.lgs.specs.Market.{Market, Results}
+use Rattle.lgs.specs.Market.{Market, Results, seatsOf, allSeats}
 use Rattle.lgs.specs.Rule.{Interview}
 use Rattle.lgs.specs.Promises.{pairsIn}
 use Rattle.format.specs.Buffers.{flat, withHead}
@@ -99,7 +99,7 @@ module _ (M : Market) (B : Results) (old : List ℕ) where
   abbrev pub beginning : ℕ → ℕ → Stand
   beginning n k = record { visits = old; seats = zeros n; states = replicate k zeroState; run = beginRun M B }
 
-  pub shows-begin : (n k : ℕ) → total (M .quota) (M .workshops) ≤ n → M .students ≤ k → Shows M old (begin M B) (beginning n k)
+  pub shows-begin : (n k : ℕ) → allSeats M ≤ n → M .students ≤ k → Shows M old (begin M B) (beginning n k)
   unfolding begin beginRun flat
   shows-begin n k seats states =
       record {
@@ -170,7 +170,7 @@ module _ (M : Market) (B : Results) (old : List ℕ) where
 
           seat-booked : (w : ℕ) → 1 ≤ w → w ≤ M .workshops → (i : ℕ) → 0 < getD (part M (x .seats) w) i 0 → Booked M B (getD (part M (x .seats) w) i 0) w
           seat-booked w l u i p =
-              let e : getD (part M (x .seats) w) i 0 ≡ getD (m .seats w) i 0 = ap (λ z. getD z i 0) (W .stored .parts w l u) ∙ padded-at (M .quota w) (m .seats w) (S .seats w l) i in
+              let e : getD (part M (x .seats) w) i 0 ≡ getD (m .seats w) i 0 = ap (λ z. getD z i 0) (W .stored .parts w l u) ∙ padded-at (seatsOf M w) (m .seats w) (S .seats w l) i in
               rw e (S .seated w (getD (m .seats w) i 0) l (seat-in (m .seats w) i (rw e at p)))
 
           due-room : 2 * (x .run .count + count (dueAt M B (x .seats) (x .run .hand) (suc (state .reached))) (M .workshops)) ≤ length old

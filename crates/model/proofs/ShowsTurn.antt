@@ -12,20 +12,20 @@ use lib.Dec.{eqb}
 use lib.ListN.{length, getD, set, length-append, length-set}
 use lib.Seq.{getD-set-same, getD-set-other}
 use borrow.Author.Tests.{eqb-true, eqb-false, eq-eqb, ne-eqb, not-true}
-use Rattle.base.specs.Lists.{upto, keep, consIf}
+use Rattle.base.specs.Lists.{upto, keep, update, consIf}
 use Rattle.base.specs.Bits.{member, members}
-use Rattle.lgs.specs.Market.{Market, Results, studentOutside}
+use Rattle.lgs.specs.Market.{Market, Results, studentOutside, seatsOf}
+use Rattle.lgs.specs.Rule.{best}
 use Rattle.format.specs.Buffers.{flat, withHead}
 use Rattle.api.specs.declared.StudentState.{StudentState}
-use Rattle.model.specs.Model.{put, Machine, Turn, on, lacks, done, push, dueNow, options, favourite, held, missing, round, opens, answers, applies, acts, takeTurn}
+use Rattle.model.specs.Model.{Machine, Turn, on, lacks, done, push, dueNow, options, held, missing, round, opens, answers, applies, acts, takeTurn}
 use Rattle.model.specs.Store.{part, putPart, pushPadded}
 use Rattle.model.specs.Turn.{Left, putAt, toldState, RoundSoFar, roundTo, favouriteIn, afterRound, afterSeating, openTier, applyTo, turnOf}
 use Rattle.api.specs.Answered.{zeroState}
 use Rattle.base.proofs.Tests.{is-false, and-left, and-right, eq?}
-use Rattle.base.proofs.Members.{consIf-in, in-front, keep-in}
+use Rattle.base.proofs.Members.{consIf-in, in-front, keep-in, update-at, update-off}
 use Rattle.model.proofs.Seats.{push-fits}
 use Rattle.model.proofs.Tied.{top-pick}
-use Rattle.model.proofs.Match.{put-at, put-off}
 use Rattle.model.proofs.Loop.{Safe}
 use Rattle.model.proofs.Stages.{Waits, over, holds, Coming, taken}
 use Rattle.model.proofs.Parts.{padded, push-padded, stored-put}
@@ -75,10 +75,10 @@ module _ (M : Market) (B : Results) (old : List ℕ) (fits : M .workshops ≤ 64
     state-other : (t : ℕ) → 1 ≤ t → (t ≡ hand → ⊥) → stateAt written t ≡ stateAt (x .states) t
     state-other t l ne = getD-set-other (x .states) (hand - 1) (t - 1) k zeroState (λ q. ne (omega (arith, range)))
 
-    card-at : (t : ℕ) → 1 ≤ t → t ≤ M .students → put (m .cards) hand (cardOf k) t ≡ cardOf (stateAt written t)
+    card-at : (t : ℕ) → 1 ≤ t → t ≤ M .students → update (m .cards) hand (cardOf k) t ≡ cardOf (stateAt written t)
     card-at t l u =
-        ⊎-elim (λ (e : t ≡ hand). put-at (m .cards) hand (cardOf k) t e ∙ ap cardOf (sym (state-mine t e)))
-        (λ ne. put-off (m .cards) hand (cardOf k) t ne ∙ W .card t l u ∙ ap cardOf (sym (state-other t l ne)))
+        ⊎-elim (λ (e : t ≡ hand). update-at (m .cards) hand (cardOf k) t e ∙ ap cardOf (sym (state-mine t e)))
+        (λ ne. update-off (m .cards) hand (cardOf k) t ne ∙ W .card t l u ∙ ap cardOf (sym (state-other t l ne)))
         (eq? t hand)
 
     small-at : (t : ℕ) → 1 ≤ t → t ≤ M .students → stateAt written t .openings < 2 ^ 64
@@ -114,19 +114,19 @@ module _ (M : Market) (B : Results) (old : List ℕ) (fits : M .workshops ≤ 64
   -- ---- she applies to workshop c
   module _ (c : ℕ) (l : 1 ≤ suc c) (u : suc c ≤ M .workshops) where
     abbrev zs : List ℕ
-    zs = push M B (suc c) (M .quota (suc c)) hand (m .seats (suc c)) .0
+    zs = push M B (suc c) (seatsOf M (suc c)) hand (m .seats (suc c)) .0
 
     abbrev held-state : StudentState
     held-state = record { reached = state .reached; held = suc c; openings = state .openings }
 
     abbrev seated : List ℕ
-    seated = putPart M (x .seats) (suc c) (padded (M .quota (suc c)) zs)
+    seated = putPart M (x .seats) (suc c) (padded (seatsOf M (suc c)) zs)
 
-    same-push : (pushPadded M B (suc c) hand (part M (x .seats) (suc c)) .0 ≡ padded (M .quota (suc c)) zs)
-        × (pushPadded M B (suc c) hand (part M (x .seats) (suc c)) .1 ≡ push M B (suc c) (M .quota (suc c)) hand (m .seats (suc c)) .1)
+    same-push : (pushPadded M B (suc c) hand (part M (x .seats) (suc c)) .0 ≡ padded (seatsOf M (suc c)) zs)
+        × (pushPadded M B (suc c) hand (part M (x .seats) (suc c)) .1 ≡ push M B (suc c) (seatsOf M (suc c)) hand (m .seats (suc c)) .1)
     same-push =
         rw (W .stored .parts (suc c) l u)
-        (push-padded M B (suc c) (M .quota (suc c)) hand (m .seats (suc c)) (S .seats (suc c) l) (λ y k. S .seated (suc c) y l k .student .0))
+        (push-padded M B (suc c) (seatsOf M (suc c)) hand (m .seats (suc c)) (S .seats (suc c) l) (λ y k. S .seated (suc c) y l k .student .0))
 
     -- the workshop answers: z is dropped, or 0
     answered : (z : ℕ) → Follows M old
@@ -135,7 +135,7 @@ module _ (M : Market) (B : Results) (old : List ℕ) (fits : M .workshops ≤ 64
     unfolding answers afterSeating
     answered zero =
         record {
-          stored = stored-put M (x .seats) (m .seats) (W .stored) (suc c) l u zs (push-fits M B (suc c) (M .quota (suc c)) hand (m .seats (suc c)));
+          stored = stored-put M (x .seats) (m .seats) (W .stored) (suc c) l u zs (push-fits M B (suc c) (seatsOf M (suc c)) hand (m .seats (suc c)));
           states = long-still held-state state-small;
           card = card-at held-state state-small;
           small = small-at held-state state-small;
@@ -149,7 +149,7 @@ module _ (M : Market) (B : Results) (old : List ℕ) (fits : M .workshops ≤ 64
     answered (suc z) =
         rw (ne-eqb (suc z) 0 (λ q. omega arith))
         (record {
-          stored = stored-put M (x .seats) (m .seats) (W .stored) (suc c) l u zs (push-fits M B (suc c) (M .quota (suc c)) hand (m .seats (suc c)));
+          stored = stored-put M (x .seats) (m .seats) (W .stored) (suc c) l u zs (push-fits M B (suc c) (seatsOf M (suc c)) hand (m .seats (suc c)));
           states = long-still held-state state-small;
           card = card-at held-state state-small;
           small = small-at held-state state-small;
@@ -163,7 +163,7 @@ module _ (M : Market) (B : Results) (old : List ℕ) (fits : M .workshops ≤ 64
 
     applied : Follows M old (after (applyTo M B (x .visits) (x .seats) state (x .run) (suc c))) (applies M B m hand rest (cardOf state) (suc c))
     unfolding applyTo applies
-    applied = rw (same-push .0, same-push .1) (answered (push M B (suc c) (M .quota (suc c)) hand (m .seats (suc c)) .1))
+    applied = rw (same-push .0, same-push .1) (answered (push M B (suc c) (seatsOf M (suc c)) hand (m .seats (suc c)) .1))
 
   -- ---- she goes to her next tier
   abbrev o : RoundSoFar
@@ -231,9 +231,9 @@ module _ (M : Market) (B : Results) (old : List ℕ) (fits : M .workshops ≤ 64
 
   -- she chooses the best of what is open
   chosen : (y : ℕ) (ys : List ℕ) → options M B (cardOf state) hand ≡ y ∷ ys
-      → Follows M old (after (applyTo M B (x .visits) (x .seats) state (x .run) (favourite M B hand y ys))) (applies M B m hand rest (cardOf state) (favourite M B hand y ys))
-  unfolding options favourite
-  chosen y ys e = by-favourite (favourite M B hand y ys) (rw (← e) at (top-pick (B .studentScore hand) y ys .0))
+      → Follows M old (after (applyTo M B (x .visits) (x .seats) state (x .run) (best M B hand y ys))) (applies M B m hand rest (cardOf state) (best M B hand y ys))
+  unfolding options best
+  chosen y ys e = by-favourite (best M B hand y ys) (rw (← e) at (top-pick (B .studentScore hand) y ys .0))
     where
       by-favourite : (c : ℕ) → Mem c (consIf outside 0 (keep (member (state .openings)) (upto (M .workshops))))
           → Follows M old (after (applyTo M B (x .visits) (x .seats) state (x .run) c)) (applies M B m hand rest (cardOf state) c)
@@ -266,7 +266,7 @@ module _ (M : Market) (B : Results) (old : List ℕ) (fits : M .workshops ≤ 64
           (ap (λ b. consIf b 0 (keep (member (state .openings)) (upto (M .workshops)))) (sym no-outside) ∙ e)))
           (eq? (state .openings) 0)
 
-  turn-applies : (y : ℕ) (ys : List ℕ) → options M B (cardOf state) hand ≡ y ∷ ys → turned ≡ applyTo M B (x .visits) (x .seats) state (x .run) (favourite M B hand y ys)
+  turn-applies : (y : ℕ) (ys : List ℕ) → options M B (cardOf state) hand ≡ y ∷ ys → turned ≡ applyTo M B (x .visits) (x .seats) state (x .run) (best M B hand y ys)
   unfolding turnOf options favouriteIn
   turn-applies y ys e = rw (is-false (eqb (state .openings) 0 && not outside) nothing, same-options ∙ e)
     where

@@ -14,14 +14,15 @@ use borrow.Author.Tests.{eqb-true, eq-eqb, ltb-true, ltb-false, lt-ltb}
 use Rattle.base.specs.Lists.{upto, keep, pick}
 use Rattle.lgs.specs.Market.{Market, Results, studentOutside, workshopOutside}
 use Rattle.lgs.specs.Profiles.{Profile, seated, outsideOr, flip}
-use Rattle.lgs.specs.Rule.{State, going, stopped, start, Interview, interviewed, declined, open?, choices, due, best, interviewAll}
-use Rattle.model.specs.Model.{Card, held, missing, round, setBit, fullAbove, shutBy, lastSeat, dueNow, options, favourite}
+use Rattle.lgs.specs.Rule.{State, going, stopped, start, Interview, interviewed, unopened, open?, choices, due, best, interviewAll}
+use Rattle.model.specs.Model.{Card, held, missing, round, setBit, fullAbove, shutBy, lastSeat, dueNow, options}
 use Rattle.base.proofs.Tests.{never, bool-cases, and-left, and-right, and-make, or-true, or-left, or-right, less?}
 use Rattle.base.proofs.Members.{in-keep, keep-in, in-rest, in-front, consIf-in, Picked, picked}
 use Rattle.base.proofs.Digits.{keep-same}
 use Rattle.lgs.proofs.Sides.{real}
 use Rattle.lgs.proofs.Invariant.{Setting, Seen, Inv, workshop-no-worse}
 use Rattle.lgs.proofs.Interviews.{withInterviews}
+use Rattle.model.proofs.Storage.{seats-of}
 use Rattle.model.proofs.Seats.{Ranked, last-in}
 use Rattle.model.proofs.Evident.{Evident, Far, seatless, beyond, above}
 
@@ -30,7 +31,7 @@ pub record Tied (M : Market) (B : Results) (O : Profile) (σ : State) (C : ℕ �
   pub reached : (t : ℕ) → C t .reached ≡ σ .reached t
   pub held : (t : ℕ) → C t .held ≡ σ .held t
   pub has : (t w : ℕ) → open? M B σ t w ≡ true → C t .bits w ≡ true
-  pub from : (t w : ℕ) → C t .bits w ≡ true → (interviewed (σ .interviews) t w ≡ true) × (declined M B t w ≡ false) × (σ .reached t ≤ M .studentTier t w)
+  pub from : (t w : ℕ) → C t .bits w ≡ true → (interviewed (σ .interviews) t w ≡ true) × (unopened M B t w ≡ false) × (σ .reached t ≤ M .studentTier t w)
   pub ranked : (c : ℕ) → 0 < c → Ranked (O .workshopRank c) (S c)
   pub sits : (c h : ℕ) → 0 < c → Mem h (S c) → σ .held h ≡ c
   pub seat : (c h : ℕ) → 0 < c → σ .held h ≡ c → Mem h (S c)
@@ -98,7 +99,7 @@ module _ (M : Market) (B : Results) (O : Profile) (E : Setting M B O (B .met)) (
       shut-seats : shutBy M B (lastSeat M B S w) s w ≡ σ .deleted s w
       unfolding shutBy fullAbove start
       shut-seats =
-          rw less-one (bool-same _ (σ .deleted s w)
+          rw (seats-of M w, less-one) (bool-same _ (σ .deleted s w)
           (λ e.
           ⊎-elim (λ z. I .begun s w (or-left (eqb (M .quota w) 0) _ z))
           (λ r.
@@ -119,7 +120,9 @@ module _ (M : Market) (B : Results) (O : Profile) (E : Setting M B O (B .met)) (
     shut-same w pair new = by-quota (M .quota w) refl
       where
         by-quota : (q : ℕ) → M .quota w ≡ q → shutBy M B (lastSeat M B S w) s w ≡ σ .deleted s w
-        by-quota zero e = or-left (eqb (M .quota w) 0) _ (eq-eqb _ _ e) ∙ sym (I .begun s w (or-left (eqb (M .quota w) 0) _ (eq-eqb _ _ e)))
+        by-quota zero e =
+            rw (seats-of M w)
+            (or-left (eqb (M .quota w) 0) _ (eq-eqb _ _ e) ∙ sym (I .begun s w (or-left (eqb (M .quota w) 0) _ (eq-eqb _ _ e))))
         by-quota (suc q) e = shut-seats w pair new q e
 
     -- the machine interviews what the rule interviews
@@ -187,14 +190,14 @@ module _ (M : Market) (B : Results) (O : Profile) (E : Setting M B O (B .met)) (
         (option-cases y m)
 
     pub same-best : (x : ℕ) (xs : List ℕ) → options M B (C s) s ≡ x ∷ xs → (y : ℕ) (ys : List ℕ) → choices M B σ s ≡ y ∷ ys
-        → Mem (favourite M B s x xs) (choices M B σ s) → best M B σ s y ys ≡ favourite M B s x xs
-    unfolding best favourite
+        → Mem (best M B s x xs) (choices M B σ s) → best M B s y ys ≡ best M B s x xs
+    unfolding best
     same-best x xs o y ys c m =
-        let f : Mem (favourite M B s x xs) (x ∷ xs) × ((z : ℕ) → Mem z (x ∷ xs) → B .studentScore s z ≤ B .studentScore s (favourite M B s x xs)) = top-pick (B .studentScore s) x xs in
-        let b : Mem (best M B σ s y ys) (y ∷ ys) × ((z : ℕ) → Mem z (y ∷ ys) → B .studentScore s z ≤ B .studentScore s (best M B σ s y ys)) = top-pick (B .studentScore s) y ys in
-        let bo : Mem (best M B σ s y ys) (options M B (C s) s) = choice-option _ (rw c (b .0)) in
-        let ob : Offer (best M B σ s y ys) = option-offer _ bo in
-        let of : Offer (favourite M B s x xs) = option-offer _ (rw o (f .0)) in
+        let f : Mem (best M B s x xs) (x ∷ xs) × ((z : ℕ) → Mem z (x ∷ xs) → B .studentScore s z ≤ B .studentScore s (best M B s x xs)) = top-pick (B .studentScore s) x xs in
+        let b : Mem (best M B s y ys) (y ∷ ys) × ((z : ℕ) → Mem z (y ∷ ys) → B .studentScore s z ≤ B .studentScore s (best M B s y ys)) = top-pick (B .studentScore s) y ys in
+        let bo : Mem (best M B s y ys) (options M B (C s) s) = choice-option _ (rw c (b .0)) in
+        let ob : Offer (best M B s y ys) = option-offer _ bo in
+        let of : Offer (best M B s x xs) = option-offer _ (rw o (f .0)) in
         E .distinct .students .apart s _ _ (ob .pair) (of .pair) (ob .met) (of .met) (ob .tier ∙ sym (of .tier)) (le-antisymm (f .1 _ (rw o at bo)) (b .1 _ (rw c at m)))
 
 -- ---- the interviews of one tier
@@ -204,7 +207,7 @@ module _ (M : Market) (B : Results) (s : ℕ) where
   unfolding round interviewAll
   round-lacks [] vs b σ w us e = let z : _≡_ {A = ℕ} 0 1 = cc in absurd (omega arith)
   round-lacks (v ∷ ws) vs b σ w us e =
-      ⊎-elim (λ (k : B .met s v ≡ true). rw k (round-lacks ws (vs ++ ((s, v) ∷ [])) (cond (declined M B s v) b (setBit v b)) σ w us (rw k at e)))
+      ⊎-elim (λ (k : B .met s v ≡ true). rw k (round-lacks ws (vs ++ ((s, v) ∷ [])) (cond (unopened M B s v) b (setBit v b)) σ w us (rw k at e)))
       (λ (k : B .met s v ≡ false). rw k (same (rw k at e)))
       (bool-cases (B .met s v))
     where
@@ -213,21 +216,21 @@ module _ (M : Market) (B : Results) (s : ℕ) where
 
   -- the bits after the interviews
   pub record Bits (ws : List ℕ) (b b′ : ℕ → Bool) : Type 0 where
-    pub new : (w : ℕ) → b′ w ≡ true → (b w ≡ true) ⊎ (Mem w ws × (declined M B s w ≡ false))
+    pub new : (w : ℕ) → b′ w ≡ true → (b w ≡ true) ⊎ (Mem w ws × (unopened M B s w ≡ false))
     pub old : (w : ℕ) → b w ≡ true → b′ w ≡ true
-    pub set : (w : ℕ) → Mem w ws → declined M B s w ≡ false → b′ w ≡ true
+    pub set : (w : ℕ) → Mem w ws → unopened M B s w ≡ false → b′ w ≡ true
 
-  bits-on : (v : ℕ) (ws : List ℕ) (b b′ : ℕ → Bool) → Bits ws (cond (declined M B s v) b (setBit v b)) b′ → Bits (v ∷ ws) b b′
+  bits-on : (v : ℕ) (ws : List ℕ) (b b′ : ℕ → Bool) → Bits ws (cond (unopened M B s v) b (setBit v b)) b′ → Bits (v ∷ ws) b b′
   bits-on v ws b b′ T =
       ⊎-elim
-      (λ (d : declined M B s v ≡ true).
+      (λ (d : unopened M B s v ≡ true).
       let T′ : Bits ws b b′ = rw d at T in
       record {
         new = λ w e. ⊎-elim inl (λ r. inr (later (r .0), r .1)) (T′ .new w e);
         old = T′ .old;
         set = λ w m f. ⊎-elim (λ (q : w ≡ v). never (rw q d) f) (λ k. T′ .set w k f) (cases-cons m);
       })
-      (λ (d : declined M B s v ≡ false).
+      (λ (d : unopened M B s v ≡ false).
       let T′ : Bits ws (setBit v b) b′ = rw d at T in
       record {
         new = λ w e.
@@ -235,7 +238,7 @@ module _ (M : Market) (B : Results) (s : ℕ) where
         old = λ w e. T′ .old w (or-right (eqb w v) _ e);
         set = λ w m f. ⊎-elim (λ (q : w ≡ v). T′ .old w (or-left (eqb w v) _ (eq-eqb w v q))) (λ k. T′ .set w k f) (cases-cons m);
       })
-      (bool-cases (declined M B s v))
+      (bool-cases (unopened M B s v))
 
   pub round-goes : (ws : List ℕ) (vs : List Interview) (b : ℕ → Bool) (σ : State) (us : List Interview) (b′ : ℕ → Bool) → round M B s ws vs b ≡ held us b′
       → (interviewAll M B s ws (withInterviews σ vs) ≡ going (withInterviews σ us)) × Bits ws b b′
@@ -247,8 +250,8 @@ module _ (M : Market) (B : Results) (s : ℕ) where
   round-goes (v ∷ ws) vs b σ us b′ e =
       ⊎-elim
       (λ (k : B .met s v ≡ true).
-      let r : (interviewAll M B s ws (withInterviews σ (vs ++ ((s, v) ∷ []))) ≡ going (withInterviews σ us)) × Bits ws (cond (declined M B s v) b (setBit v b)) b′ =
-      round-goes ws (vs ++ ((s, v) ∷ [])) (cond (declined M B s v) b (setBit v b)) σ us b′ (rw k at e) in
+      let r : (interviewAll M B s ws (withInterviews σ (vs ++ ((s, v) ∷ []))) ≡ going (withInterviews σ us)) × Bits ws (cond (unopened M B s v) b (setBit v b)) b′ =
+      round-goes ws (vs ++ ((s, v) ∷ [])) (cond (unopened M B s v) b (setBit v b)) σ us b′ (rw k at e) in
       (rw k (r .0), bits-on v ws b b′ (r .1)))
       (λ (k : B .met s v ≡ false). absurd (not-rounded (rw k at e)))
       (bool-cases (B .met s v))

@@ -12,11 +12,12 @@ use lib.Dec.{eqb, ltb}
 use lib.ListN.{length}
 use borrow.Author.Tests.{eq-eqb, ltb-true, lt-ltb, le-ltb}
 use Rattle.base.specs.Lists.{count, total, update}
-use Rattle.lgs.specs.Market.{Market, Results, studentOutside}
+use Rattle.lgs.specs.Market.{Market, Results, studentOutside, seatsOf}
 use Rattle.lgs.specs.Profiles.{Profile, seated, flip}
 use Rattle.lgs.specs.Rule.{State, Step, going, stopped, finished, Interview, interviewed, open?, choices, due, best, advance, interviewAll, close, handOn, apply, step}
-use Rattle.model.specs.Model.{put, Card, Machine, Turn, on, lacks, done, Round, held, missing, told, holding, push, dueNow, options, favourite, round, opens, answers, applies, acts, takeTurn}
+use Rattle.model.specs.Model.{Card, Machine, Turn, on, lacks, done, Round, held, missing, told, holding, push, dueNow, options, round, opens, answers, applies, acts, takeTurn}
 use Rattle.base.proofs.Tests.{never, bool-cases, and-right, or-true, or-left, or-right, eq?, less?}
+use Rattle.base.proofs.Members.{update-at, update-off}
 use Rattle.base.proofs.Counting.{count-mono, count-less, total-le, total-less}
 use Rattle.lgs.proofs.Sides.{real}
 use Rattle.lgs.proofs.Invariant.{Setting, Seen, Chosen, Gone, seatless, beyond, taken, Inv, open-make}
@@ -29,7 +30,7 @@ use Rattle.lgs.proofs.Moves.{interviewAll-going, joinedState, dropped}
 use Rattle.lgs.proofs.Ends.{before-kept}
 use Rattle.model.proofs.Evident.{Evident}
 use Rattle.model.proofs.Tied.{Tied, Bits, empty?, top-pick, due-same, bit-seen, choice-option, option-choice, same-best, round-lacks, round-goes}
-use Rattle.model.proofs.Match.{put-at, put-off, nowAt, now-calm, now-hand, now-off, step-interviews, step-applies, apply-sits, apply-drops}
+use Rattle.model.proofs.Match.{nowAt, now-calm, now-hand, now-off, step-interviews, step-applies, apply-sits, apply-drops}
 use Rattle.model.proofs.Match.{opens-tied, leaves-tied, sits-tied, drops-tied, stale-tied, out-hand, out-lowest, out-pos, P as push-spec}
 
 -- the tiers before a student, and the workshops that are open or in them
@@ -96,8 +97,8 @@ module _ (M : Market) (B : Results) (O : Profile) (E : Setting M B O (B .met)) (
   stepped e = ap (step M B σ) wait ∙ e
 
   -- a card that changes for her alone
-  theirs : (k : Card) (t : ℕ) → (t ≡ s → ⊥) → put (m .cards) s k t ≡ C t
-  theirs k t ne = put-off (m .cards) s k t ne ∙ sym (now-off s rest (m .lost) (m .cards) t ne)
+  theirs : (k : Card) (t : ℕ) → (t ≡ s → ⊥) → update (m .cards) s k t ≡ C t
+  theirs k t ne = update-off (m .cards) s k t ne ∙ sym (now-off s rest (m .lost) (m .cards) t ne)
 
   -- ---- the next tier
   module _ (no-option : options M B (C s) s ≡ []) where
@@ -138,13 +139,13 @@ module _ (M : Market) (B : Results) (O : Profile) (E : Setting M B O (B .met)) (
         let eu : us ≡ σ .interviews ++ interviewsWith s (due M B σ s) = ap (λ τ. τ .interviews) (interviewAll-going M B s (due M B σ s) (advance M B σ s) _ (r .0) .0) in
         moved {m = after} (withInterviews (advance M B σ s) us) (stepped (step-interviews M B σ s rest no-choice ∙ r .0))
         (record {
-          tied = opens-tied M B O E σ I N C S R s rest wait no-option no-choice us b′ (r .1) eu (nowAt (s ∷ rest) 0 (put (m .cards) s card)) mine others;
+          tied = opens-tied M B O E σ I N C S R s rest wait no-option no-choice us b′ (r .1) eu (nowAt (s ∷ rest) 0 (update (m .cards) s card)) mine others;
           interviews = refl;
           waiting = sym wait;
         })
         (omega (
           arith,
-          total-less (λ t. load M (nowAt (s ∷ rest) 0 (put (m .cards) s card) t) t) (λ t. load M (C t) t) (M .students) s (s-range .0) (s-range .1)
+          total-less (λ t. load M (nowAt (s ∷ rest) 0 (update (m .cards) s card) t) t) (λ t. load M (C t) t) (M .students) s (s-range .0) (s-range .1)
               (λ t. ⊎-elim (λ (q : t ≡ s). same-or-less t q (r .1)) (λ ne. rw (others t ne) (le-refl _)) (eq? t s)) (rw (mine s refl) (opened-load b′ (r .1))),
         ))
       where
@@ -152,18 +153,18 @@ module _ (M : Market) (B : Results) (O : Profile) (E : Setting M B O (B .met)) (
         card = record { reached = suc (C s .reached); held = C s .held; bits = b′ }
 
         after : Machine
-        after = record { cards = put (m .cards) s card; seats = S; interviews = us; waiting = s ∷ rest; lost = 0 }
+        after = record { cards = update (m .cards) s card; seats = S; interviews = us; waiting = s ∷ rest; lost = 0 }
 
-        mine : (t : ℕ) → t ≡ s → nowAt (s ∷ rest) 0 (put (m .cards) s card) t ≡ card
-        mine t q = now-calm (s ∷ rest) (put (m .cards) s card) t ∙ put-at (m .cards) s card t q
+        mine : (t : ℕ) → t ≡ s → nowAt (s ∷ rest) 0 (update (m .cards) s card) t ≡ card
+        mine t q = now-calm (s ∷ rest) (update (m .cards) s card) t ∙ update-at (m .cards) s card t q
 
-        others : (t : ℕ) → (t ≡ s → ⊥) → nowAt (s ∷ rest) 0 (put (m .cards) s card) t ≡ C t
-        others t ne = now-calm (s ∷ rest) (put (m .cards) s card) t ∙ theirs card t ne
+        others : (t : ℕ) → (t ≡ s → ⊥) → nowAt (s ∷ rest) 0 (update (m .cards) s card) t ≡ C t
+        others t ne = now-calm (s ∷ rest) (update (m .cards) s card) t ∙ theirs card t ne
 
-        same-or-less : (t : ℕ) → t ≡ s → Bits M B s (due M B σ s) (C s .bits) b′ → load M (nowAt (s ∷ rest) 0 (put (m .cards) s card) t) t ≤ load M (C t) t
+        same-or-less : (t : ℕ) → t ≡ s → Bits M B s (due M B σ s) (C s .bits) b′ → load M (nowAt (s ∷ rest) 0 (update (m .cards) s card) t) t ≤ load M (C t) t
         same-or-less t q T =
             let l : load M card s < load M (C s) s = opened-load b′ T in
-            subst (λ u. load M (nowAt (s ∷ rest) 0 (put (m .cards) s card) u) u ≤ load M (C u) u) (sym q) (rw (mine s refl) (omega arith))
+            subst (λ u. load M (nowAt (s ∷ rest) 0 (update (m .cards) s card) u) u ≤ load M (C u) u) (sym q) (rw (mine s refl) (omega arith))
 
   -- ---- an application
   module _ (c₀ : ℕ) (bit : C s .bits (suc c₀) ≡ true) where
@@ -171,28 +172,28 @@ module _ (M : Market) (B : Results) (O : Profile) (E : Setting M B O (B .met)) (
     c = suc c₀
 
     abbrev zs : List ℕ
-    zs = push M B c (M .quota c) s (S c) .0
+    zs = push M B c (seatsOf M c) s (S c) .0
 
     abbrev out : ℕ
-    out = push M B c (M .quota c) s (S c) .1
+    out = push M B c (seatsOf M c) s (S c) .1
 
     abbrev C₁ : ℕ → Card
-    C₁ = put (m .cards) s (holding (C s) c)
+    C₁ = update (m .cards) s (holding (C s) c)
 
     abbrev S′ : ℕ → List ℕ
-    S′ = put (m .seats) c zs
+    S′ = update (m .seats) c zs
 
     mine₁ : (t : ℕ) → t ≡ s → C₁ t ≡ holding (C s) c
-    mine₁ t e = put-at (m .cards) s (holding (C s) c) t e
+    mine₁ t e = update-at (m .cards) s (holding (C s) c) t e
 
     theirs₁ : (t : ℕ) → (t ≡ s → ⊥) → C₁ t ≡ C t
     theirs₁ t ne = theirs (holding (C s) c) t ne
 
     at-c : S′ c ≡ zs
-    at-c = put-at (m .seats) c zs c refl
+    at-c = update-at (m .seats) c zs c refl
 
     off-c : (d : ℕ) → (d ≡ c → ⊥) → S′ d ≡ S d
-    off-c d ne = put-off (m .seats) c zs d ne
+    off-c d ne = update-off (m .seats) c zs d ne
 
     load₁ : (t : ℕ) → load M (C₁ t) t ≤ load M (C t) t
     load₁ t =
@@ -346,29 +347,29 @@ module _ (M : Market) (B : Results) (O : Profile) (E : Setting M B O (B .met)) (
   unfolding applies apply weight
   leaves-fit st =
       moved {m = after} (handOn M B σ rest (σ .held)) (stepped st)
-      (record { tied = leaves-tied M B O E σ I N C S R s rest wait (nowAt rest 0 (put (m .cards) s (C s))) same; interviews = ev; waiting = refl })
-      (omega (arith, total-le (λ t. load M (nowAt rest 0 (put (m .cards) s (C s)) t) t) (λ t. load M (C t) t) (M .students) (λ t. rw (same t) (le-refl _))))
+      (record { tied = leaves-tied M B O E σ I N C S R s rest wait (nowAt rest 0 (update (m .cards) s (C s))) same; interviews = ev; waiting = refl })
+      (omega (arith, total-le (λ t. load M (nowAt rest 0 (update (m .cards) s (C s)) t) t) (λ t. load M (C t) t) (M .students) (λ t. rw (same t) (le-refl _))))
     where
       after : Machine
-      after = record { cards = put (m .cards) s (C s); seats = S; interviews = m .interviews; waiting = rest; lost = 0 }
+      after = record { cards = update (m .cards) s (C s); seats = S; interviews = m .interviews; waiting = rest; lost = 0 }
 
-      same : (t : ℕ) → nowAt rest 0 (put (m .cards) s (C s)) t ≡ C t
-      same t = now-calm rest (put (m .cards) s (C s)) t ∙ ⊎-elim (λ (e : t ≡ s). put-at (m .cards) s (C s) t e ∙ ap C (sym e)) (λ ne. theirs (C s) t ne) (eq? t s)
+      same : (t : ℕ) → nowAt rest 0 (update (m .cards) s (C s)) t ≡ C t
+      same t = now-calm rest (update (m .cards) s (C s)) t ∙ ⊎-elim (λ (e : t ≡ s). update-at (m .cards) s (C s) t e ∙ ap C (sym e)) (λ ne. theirs (C s) t ne) (eq? t s)
 
-  by-favourite : (x : ℕ) (xs : List ℕ) → options M B (C s) s ≡ x ∷ xs → (b : ℕ) → favourite M B s x xs ≡ b → Fit (applies M B m s rest (C s) b)
-  unfolding favourite applies
+  by-favourite : (x : ℕ) (xs : List ℕ) → options M B (C s) s ≡ x ∷ xs → (b : ℕ) → best M B s x xs ≡ b → Fit (applies M B m s rest (C s) b)
+  unfolding best applies
   by-favourite x xs some b f = ⊎-elim (chosen b f) (stale b) (option-choice M B O E σ I C S R s b (rw (some, ← f) (top-pick (B .studentScore s) x xs .0)))
     where
-      best-is : (z : ℕ) → favourite M B s x xs ≡ z → Mem z (choices M B σ s) → (y : ℕ) × (ys : List ℕ) × (choices M B σ s ≡ y ∷ ys) × (best M B σ s y ys ≡ z)
+      best-is : (z : ℕ) → best M B s x xs ≡ z → Mem z (choices M B σ s) → (y : ℕ) × (ys : List ℕ) × (choices M B σ s ≡ y ∷ ys) × (best M B s y ys ≡ z)
       best-is z g k =
           ⊎-elim (λ e. absurd (not-nil (rw e at k))) (λ r. (r .0, r .1, r .2, same-best M B O E σ I C S R s x xs some (r .0) (r .1) (r .2) (rw g k) ∙ g)) (empty? (choices M B σ s))
 
-      chosen : (z : ℕ) → favourite M B s x xs ≡ z → Mem z (choices M B σ s) → Fit (applies M B m s rest (C s) z)
+      chosen : (z : ℕ) → best M B s x xs ≡ z → Mem z (choices M B σ s) → Fit (applies M B m s rest (C s) z)
       chosen zero g k =
-          let r : (y : ℕ) × (ys : List ℕ) × (choices M B σ s ≡ y ∷ ys) × (best M B σ s y ys ≡ 0) = best-is 0 g k in
+          let r : (y : ℕ) × (ys : List ℕ) × (choices M B σ s ≡ y ∷ ys) × (best M B s y ys ≡ 0) = best-is 0 g k in
           leaves-fit (step-applies M B σ s rest (r .0) (r .1) 0 (r .2) (r .3))
       chosen (suc c) g k =
-          let r : (y : ℕ) × (ys : List ℕ) × (choices M B σ s ≡ y ∷ ys) × (best M B σ s y ys ≡ suc c) = best-is (suc c) g k in
+          let r : (y : ℕ) × (ys : List ℕ) × (choices M B σ s ≡ y ∷ ys) × (best M B s y ys ≡ suc c) = best-is (suc c) g k in
           let o : open? M B σ s (suc c) ≡ true = rw (r .3) at (best-open M B O (B .met) E σ I s (r .0) (r .1) (r .2) (rw (r .3) (omega arith))) in
           open-fit c (R .has s (suc c) o) (rw (r .3) at (best-chosen M B O (B .met) E σ I s (r .0) (r .1) (r .2))) o (step-applies M B σ s rest (r .0) (r .1) (suc c) (r .2) (r .3))
 
@@ -379,7 +380,7 @@ module _ (M : Market) (B : Results) (O : Profile) (E : Setting M B O (B .met)) (
   by-options : (l : List ℕ) → options M B (C s) s ≡ l → Fit (acts M B m s rest (C s) l)
   unfolding acts
   by-options [] e = subst (λ z. Fit (opens M B m s rest (C s) z)) (sym (same-round e)) (by-round e (round M B s (due M B σ s) (σ .interviews) (C s .bits)) refl)
-  by-options (x ∷ xs) e = by-favourite x xs e (favourite M B s x xs) refl
+  by-options (x ∷ xs) e = by-favourite x xs e (best M B s x xs) refl
 
   pub turn-fits : Fit (takeTurn M B m (s ∷ rest))
   unfolding takeTurn

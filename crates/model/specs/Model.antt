@@ -4,13 +4,9 @@ use mathlib.Core.Bool.{Bool, false, not, cond, _&&_, _||_}
 use mathlib.Core.List.{List, [], _∷_, _++_}
 use lib.Dec.{ltb, eqb}
 use lib.ListN.{getD}
-use Rattle.base.specs.Lists.{upto, keep, pick, consIf}
-use Rattle.lgs.specs.Market.{Market, Results, studentOutside, workshopOutside}
-use Rattle.lgs.specs.Rule.{Interview, Step, going, stopped, finished, start, byStage, declined, fuel}
-
--- the function f, changed at k to v
-unfoldable pub put : {A : Type 0} → (ℕ → A) → ℕ → A → ℕ → A
-put f k v x = cond (eqb x k) v (f x)
+use Rattle.base.specs.Lists.{upto, keep, update, consIf}
+use Rattle.lgs.specs.Market.{Market, Results, seatsOf, outscored, studentOutside, workshopOutside}
+use Rattle.lgs.specs.Rule.{Interview, Step, going, stopped, finished, start, byStage, unopened, best, fuel}
 
 abbrev pub setBit : ℕ → (ℕ → Bool) → ℕ → Bool
 setBit w b x = eqb x w || b x
@@ -65,7 +61,7 @@ module _ (M : Market) (B : Results) where
   unfoldable pub before : ℕ → ℕ → ℕ → Bool
   before w x y =
       ltb (M .workshopTier w x) (M .workshopTier w y)
-      || (eqb (M .workshopTier w x) (M .workshopTier w y) && ltb (B .workshopScore w y) (B .workshopScore w x))
+      || (eqb (M .workshopTier w x) (M .workshopTier w y) && outscored B w y x)
 
   -- x takes her place among at most q seats; whoever has no seat left, or 0
   unfoldable pub push : ℕ → ℕ → ℕ → List ℕ → List ℕ × ℕ
@@ -80,12 +76,12 @@ module _ (M : Market) (B : Results) where
   unfoldable pub fullAbove : ℕ → ℕ → ℕ → Bool
   fullAbove w s l = ltb 0 l && ltb (M .workshopTier w l) (M .workshopTier w s)
 
-  -- the workshop is not to be interviewed; l is who has its last seat, or 0
+  -- the workshop is not to be interviewed: it has no seats, she is beyond its outside tier, or it is full above her; l is who has its last seat, or 0
   unfoldable pub shutBy : ℕ → ℕ → ℕ → Bool
-  shutBy l s w = eqb (M .quota w) 0 || (ltb (workshopOutside M w) (M .workshopTier w s) || fullAbove w s l)
+  shutBy l s w = eqb (seatsOf M w) 0 || (ltb (workshopOutside M w) (M .workshopTier w s) || fullAbove w s l)
 
   abbrev pub lastSeat : (ℕ → List ℕ) → ℕ → ℕ
-  lastSeat seats w = getD (seats w) (M .quota w - 1) 0
+  lastSeat seats w = getD (seats w) (seatsOf M w - 1) 0
 
   unfoldable pub dueNow : (ℕ → List ℕ) → Card → ℕ → List ℕ
   dueNow seats k s =
@@ -96,20 +92,17 @@ module _ (M : Market) (B : Results) where
   unfoldable pub options : Card → ℕ → List ℕ
   options k s = consIf (eqb (studentOutside M s) (k .reached)) 0 (keep (k .bits) (upto (M .workshops)))
 
-  unfoldable pub favourite : ℕ → ℕ → List ℕ → ℕ
-  favourite s x xs = pick (λ y z. ltb (B .studentScore s z) (B .studentScore s y)) x xs
-
   unfoldable pub round : ℕ → List ℕ → List Interview → (ℕ → Bool) → Round
   round s [] vs b = held vs b
   round s (w ∷ ws) vs b =
-      cond (B .met s w) (round s ws (vs ++ ((s, w) ∷ [])) (cond (declined M B s w) b (setBit w b))) (missing w vs)
+      cond (B .met s w) (round s ws (vs ++ ((s, w) ∷ [])) (cond (unopened M B s w) b (setBit w b))) (missing w vs)
 
   -- the student in hand goes to her next tier
   unfoldable pub opens : Machine → ℕ → List ℕ → Card → Round → Turn
   opens m s rest k (held vs b) =
       on
       (record {
-        cards = put (m .cards) s (record { reached = suc (k .reached); held = k .held; bits = b });
+        cards = update (m .cards) s (record { reached = suc (k .reached); held = k .held; bits = b });
         seats = m .seats;
         interviews = vs;
         waiting = s ∷ rest;
@@ -122,8 +115,8 @@ module _ (M : Market) (B : Results) where
   answers m s rest k c l zero =
       on
       (record {
-        cards = put (m .cards) s (holding k c);
-        seats = put (m .seats) c l;
+        cards = update (m .cards) s (holding k c);
+        seats = update (m .seats) c l;
         interviews = m .interviews;
         waiting = rest;
         lost = 0;
@@ -131,8 +124,8 @@ module _ (M : Market) (B : Results) where
   answers m s rest k c l (suc x) =
       on
       (record {
-        cards = put (m .cards) s (holding k c);
-        seats = put (m .seats) c l;
+        cards = update (m .cards) s (holding k c);
+        seats = update (m .seats) c l;
         interviews = m .interviews;
         waiting = suc x ∷ rest;
         lost = c;
@@ -141,14 +134,14 @@ module _ (M : Market) (B : Results) where
   unfoldable pub applies : Machine → ℕ → List ℕ → Card → ℕ → Turn
   applies m s rest k zero =
       on
-      (record { cards = put (m .cards) s k; seats = m .seats; interviews = m .interviews; waiting = rest; lost = 0 })
+      (record { cards = update (m .cards) s k; seats = m .seats; interviews = m .interviews; waiting = rest; lost = 0 })
   applies m s rest k (suc c) =
-      let r = push (suc c) (M .quota (suc c)) s (m .seats (suc c)) in
+      let r = push (suc c) (seatsOf M (suc c)) s (m .seats (suc c)) in
       answers m s rest k (suc c) (r .0) (r .1)
 
   unfoldable pub acts : Machine → ℕ → List ℕ → Card → List ℕ → Turn
   acts m s rest k [] = opens m s rest k (round s (dueNow (m .seats) k s) (m .interviews) (k .bits))
-  acts m s rest k (x ∷ xs) = applies m s rest k (favourite s x xs)
+  acts m s rest k (x ∷ xs) = applies m s rest k (best M B s x xs)
 
   unfoldable pub takeTurn : Machine → List ℕ → Turn
   takeTurn m [] = done (λ s. m .cards s .held) (m .interviews)

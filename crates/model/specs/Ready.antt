@@ -4,9 +4,9 @@ use mathlib.Core.Path.{_≡_}
 use mathlib.Core.Bool.{true}
 use mathlib.Core.List.{List}
 use lib.ListN.{length, getD}
-use Rattle.base.specs.Lists.{count, total}
+use Rattle.base.specs.Lists.{count}
 use Rattle.base.specs.Bits.{member}
-use Rattle.lgs.specs.Market.{Market, Results, studentOutside}
+use Rattle.lgs.specs.Market.{Market, Results, studentOutside, seatsOf, allSeats}
 use Rattle.api.specs.declared.StudentState.{StudentState}
 use Rattle.model.specs.declared.Run.{Run}
 use Rattle.model.specs.Store.{part}
@@ -29,7 +29,7 @@ pub record Ready (M : Market) (B : Results) (visits seats : List ℕ) (k : Stude
   -- each open workshop, after the one that has just dropped her is taken out
   pub opened : (w : ℕ) → member (toldState (r .lost) k .openings) w ≡ true → Booked M B (r .hand) w
   -- all seats are there, and whoever has one
-  pub long : total (M .quota) (M .workshops) ≤ length seats
-  pub seated : (w : ℕ) → 1 ≤ w → w ≤ M .workshops → (i : ℕ) → i < M .quota w → 0 < getD (part M seats w) i 0 → Booked M B (getD (part M seats w) i 0) w
+  pub long : allSeats M ≤ length seats
+  pub seated : (w : ℕ) → 1 ≤ w → w ≤ M .workshops → (i : ℕ) → i < seatsOf M w → 0 < getD (part M seats w) i 0 → Booked M B (getD (part M seats w) i 0) w
   -- there is room for the interviews of her next tier
   pub room : 2 * (r .count + count (dueAt M B seats (r .hand) (suc (k .reached))) (M .workshops)) ≤ length visits

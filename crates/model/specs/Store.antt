@@ -3,9 +3,8 @@ use Prim.Native.Nat.{ℕ, zero, suc, _+_, _-_}
 use mathlib.Core.Bool.{Bool, cond, _&&_, _||_}
 use mathlib.Core.List.{List, [], _∷_, _++_}
 use lib.Dec.{ltb, eqb}
-use lib.ListN.{take, drop}
-use Rattle.base.specs.Lists.{total}
-use Rattle.lgs.specs.Market.{Market, Results}
+use lib.ListN.{getD, take, drop}
+use Rattle.lgs.specs.Market.{Market, Results, seatsOf, seatsBefore}
 use Rattle.model.specs.Model.{before}
 
 -- t comes after s in rising stage, and rising number inside a stage; everybody comes after 0
@@ -28,18 +27,14 @@ module _ (M : Market) (B : Results) where
       let b = pushPadded w x ys in
       cond (eqb y 0) (x ∷ ys, 0) (cond (before M B w x y) (x ∷ a .0, a .1) (y ∷ b .0, b .1))
 
--- "a seat slice .. in which each workshop's seats are its own part": where the part of workshop w starts
-unfoldable pub seatsFrom : Market → ℕ → ℕ
-seatsFrom M w = total (M .quota) (w - 1)
-
--- the part of workshop w
+-- "a seat slice .. in which each workshop's seats are its own part": the part of workshop w
 unfoldable pub part : Market → List ℕ → ℕ → List ℕ
-part M flat w = take (M .quota w) (drop (seatsFrom M w) flat)
+part M flat w = take (seatsOf M w) (drop (seatsBefore M w) flat)
 
 -- the slice after the part of workshop w has become p
 unfoldable pub putPart : Market → List ℕ → ℕ → List ℕ → List ℕ
-putPart M flat w p = take (seatsFrom M w) flat ++ (p ++ drop (M .quota w) (drop (seatsFrom M w) flat))
+putPart M flat w p = take (seatsBefore M w) flat ++ (p ++ drop (seatsOf M w) (drop (seatsBefore M w) flat))
 
 -- who has the last seat of workshop w, or 0
 unfoldable pub lastOf : Market → List ℕ → ℕ → ℕ
-lastOf M flat w = cond (eqb (M .quota w) 0) 0 (lib.ListN.getD flat (seatsFrom M w + M .quota w - 1) 0)
+lastOf M flat w = cond (eqb (seatsOf M w) 0) 0 (getD flat (seatsBefore M w + seatsOf M w - 1) 0)

@@ -8,13 +8,13 @@ use lib.Bits.{bitOr, bitAnd}
 use Rattle.base.specs.Lists.{consIf}
 use Rattle.base.specs.Bits.{members}
 use Rattle.lgs.specs.Market.{Market, Results, studentOutside}
-use Rattle.lgs.specs.Rule.{Interview, declined}
+use Rattle.lgs.specs.Rule.{Interview, unopened, best}
 use Rattle.format.specs.Buffers.{flat}
 use Rattle.api.specs.declared.StudentState.{StudentState}
 use Rattle.api.specs.Answered.{zeroState}
 use Rattle.model.specs.declared.Run.{Run}
 use Rattle.model.specs.declared.Turned.{Turned}
-use Rattle.model.specs.Model.{shutBy, favourite}
+use Rattle.model.specs.Model.{shutBy}
 use Rattle.model.specs.Store.{nextIn, pushPadded, part, putPart, lastOf}
 
 -- the set with workshop w, and without it
@@ -50,7 +50,7 @@ module _ (M : Market) (B : Results) where
       cond (B .met s w)
       (record {
         interviews = r .interviews ++ ((s, w) ∷ []);
-        openings = cond (declined M B s w) (r .openings) (withMember (r .openings) w);
+        openings = cond (unopened M B s w) (r .openings) (withMember (r .openings) w);
         missing = 0;
       })
       (record { interviews = r .interviews; openings = r .openings; missing = w })
@@ -68,7 +68,7 @@ module _ (M : Market) (B : Results) where
     where
       bestOf : List ℕ → ℕ
       bestOf [] = 0
-      bestOf (x ∷ xs) = favourite M B s x xs
+      bestOf (x ∷ xs) = best M B s x xs
 
   -- the student in hand is done: the next in the order of stages is in hand
   abbrev pub nextRun : Run → Run

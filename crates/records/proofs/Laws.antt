@@ -3,10 +3,11 @@ use Prim.Native.Nat.{ℕ, suc, _+_, _-_, _*_, _≤_, _<_}
 use mathlib.Core.Path.{_≡_, refl, sym, _∙_}
 use mathlib.Core.Logic.{⊎-elim}
 use mathlib.Core.Bool.{Bool, true, false, not, _&&_, _||_}
-use mathlib.Core.List.{List}
+use mathlib.Core.List.{List, _++_, append-nil}
 use native.Mathlib.Omega.{arith}
 use native.Mathlib.Numerals.{add-one}
-use lib.ListN.{getD}
+use lib.ListN.{length, getD, drop, replicate}
+use lib.Seq.{drop-length}
 use lib.Dec.{ltb, eqb, eqb·suc-suc}
 use lib.IntN.{ℤ, pos, negsuc}
 use lib.Signed.{ltZ}
@@ -131,3 +132,7 @@ pairs-sorted case f c = record { step = step }
         b))
         (λ (p : rowAt case i .kind ≡ 3 → ⊥). rw (ne-eqb (rowAt case i .kind) 3 p) (omega arith))
         (eq? (rowAt case i .kind) 3)
+
+-- a fill's end
+pub filled : (d s : List ℕ) (n : ℕ) → n ≡ length d → s ≡ replicate n 0 ++ drop n d → s ≡ replicate (length d) 0
+filled d s n e p = p ∙ rw (e, drop-length d) (append-nil (replicate (length d) 0))

@@ -17,6 +17,12 @@ use Rattle.format.proofs.Positions.{Clean, people, pairCount, places, pair-name
 use Rattle.records.specs.Records.{isKnown, PairsPlaced, pairPlace}
 use Rattle.records.proofs.Laws.{found-at}
 
+-- where the place is known, the workshop is one of the case's
+pub known-workshop : (k n m s w : ℕ) → isKnown k n m s w ≡ true → 1 ≤ w
+known-workshop k n m s w e =
+    let named = and-right (eqb k (n + m + n * m)) _ e in
+    leb-true 1 w (and-left (leb 1 w) (leb w m) (and-right (leb 1 s && leb s n) (leb 1 w && leb w m) named))
+
 module _ (case : List ℕ) (c : Clean case (rowCount case)) where
   abbrev n : ℕ
   n = marketIn case .students

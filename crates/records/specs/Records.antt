@@ -1,5 +1,5 @@
 -- The code's records as the layout's, and the order in which a pair is looked up.
-use Prim.Native.Nat.{ℕ, suc, _+_, _-_, _*_, _<_}
+use Prim.Native.Nat.{ℕ, suc, _+_, _-_, _*_, _≤_, _<_}
 use mathlib.Core.Path.{_≡_}
 use mathlib.Core.Bool.{Bool, true, cond, _&&_}
 use mathlib.Core.List.{List}
@@ -21,7 +21,9 @@ rowOf r =
       second = r .second;
       third = r .third;
       fourth = r .fourth;
-      rest = r .rest;
+      fifth = r .fifth;
+      sixth = r .sixth;
+      seventh = r .seventh;
     }
 
 -- a record of the book that the code read; its scores 32768 above their values
@@ -53,3 +55,10 @@ isKnown rows n m s w = eqb rows (n + m + n * m) && ((leb 1 s && leb s n) && (leb
 -- then the place of the pair's record is known: so it is where causes 2 and 3 find nothing
 pub record PairsPlaced (case : List ℕ) (n m : ℕ) : Type 0 where
   pub placed : (s w : ℕ) → isKnown (rowCount case) n m s w ≡ true → pairPlace case s w ≡ n + s * m + w - 1
+
+-- what the lookup of a pair needs of a case of n students and m workshops
+pub record PairsFound (case : List ℕ) (n m : ℕ) : Type 0 where
+  pub manyStudents : n ≤ 512
+  pub manyWorkshops : m ≤ 64
+  pub sorted : PairsSorted case
+  pub placed : PairsPlaced case n m

@@ -1,15 +1,16 @@
 // Fields, records and scores of the case and the book, read from their bytes, and the lookup of a pair's record.
 ghost use mathlib.Core.Path.{_≡_};
-ghost use mathlib.Core.Bool.{not};
+ghost use mathlib.Core.Bool.{not, cond};
 ghost use Prim.Native.Nat.{ℕ, _+_, _*_, _/_, _%_, _^_, _≤_, _<_};
-ghost use lib.ListN.{length};
+ghost use lib.ListN.{length, replicate};
 ghost use lib.Dec.{ltb};
+ghost use Rattle.base.specs.Lists.{one};
 ghost use Rattle.base.specs.Words.{word, signed, biased};
 ghost use Rattle.format.specs.Layout.{rowAt, entryAt, rowCount, entryCount, outsideScore};
 ghost use Rattle.format.specs.Refusals.{badScore};
-ghost use Rattle.records.specs.Records.{rowOf, entryOf, pairKey, PairsSorted, pairPlace, isKnown};
+ghost use Rattle.records.specs.Records.{rowOf, entryOf, pairKey, PairsSorted, PairsFound, pairPlace, isKnown};
 
-// A record of the case, as the layout has it: `rest` is the sum of the three fields from byte 10.
+// A record of the case, as the layout has it.
 pub struct Row {
     pub kind: u8,
     pub pad: u8,
@@ -17,7 +18,9 @@ pub struct Row {
     pub second: u16,
     pub third: u16,
     pub fourth: u16,
-    pub rest: u32,
+    pub fifth: u16,
+    pub sixth: u16,
+    pub seventh: u16,
 }
 
 // A record of the book.
@@ -36,30 +39,11 @@ fn wide(x: u8) -> u16
 }
 
 // The 16-bit field at `at`, low byte first.
-pub fn u16_at(bytes: &[u8], at: usize) -> u16
+fn u16_at(bytes: &[u8], at: usize) -> u16
     requires { ⌜ at + 1 < length (now bytes) ⌝ }
     ensures { λ r. ⌜ r ≡ word (now (bytes .entry)) at ⌝ }
 {
     wide(bytes[at]) + 256 * wide(bytes[at + 1])
-}
-
-// A 16-bit number as one of 64: through a call, its bound is known.
-fn broad(x: u16) -> u64
-    ensures { λ r. ⌜ (r ≡ x) × (r < 65536) ⌝ }
-{
-    x as u64
-}
-
-// The 64-bit field at `at`, low byte first, by its 16-bit fields.
-pub fn u64_at(bytes: &[u8], at: usize) -> u64
-    requires { ⌜ at + 7 < length (now bytes) ⌝ }
-    ensures { λ r. ⌜ r ≡ word (now (bytes .entry)) at + 65536 * word (now (bytes .entry)) (at + 2)
-        + 4294967296 * word (now (bytes .entry)) (at + 4) + 281474976710656 * word (now (bytes .entry)) (at + 6) ⌝ }
-{
-    broad(u16_at(bytes, at))
-        + 65536 * broad(u16_at(bytes, at + 2))
-        + 4294967296 * broad(u16_at(bytes, at + 4))
-        + 281474976710656 * broad(u16_at(bytes, at + 6))
 }
 
 // ---- scores
@@ -75,19 +59,18 @@ fn score_of(v: u16) -> i16
     }
 }
 
-pub fn score_at(bytes: &[u8], at: usize) -> i16
+fn score_at(bytes: &[u8], at: usize) -> i16
     requires { ⌜ at + 1 < length (now bytes) ⌝ }
     ensures { λ r. ⌜ biased r ≡ signed (now (bytes .entry)) at ⌝ }
 {
     score_of(u16_at(bytes, at))
 }
 
-// The score at `at`, 32768 above its value: equal scores are equal numbers.
-pub fn biased_at(bytes: &[u8], at: usize) -> u16
-    requires { ⌜ at + 1 < length (now bytes) ⌝ }
-    ensures { λ r. ⌜ r ≡ signed (now (bytes .entry)) at ⌝ }
+// A stored score, 32768 above its value: equal scores are equal numbers.
+fn biased_of(v: u16) -> u16
+    ensures { λ r. ⌜ r ≡ (v + 32768) % 65536 ⌝ }
 {
-    ((u16_at(bytes, at) as u32 + 32768) % 65536) as u16
+    ((v as u32 + 32768) % 65536) as u16
 }
 
 // Score a is better than score b.
@@ -133,29 +116,109 @@ pub fn entry_count(len: usize) -> usize
     len / 8
 }
 
-// A 16-bit number as one of 32: through a call, its bound is known.
-fn widened(x: u16) -> u32
-    ensures { λ r. ⌜ (r ≡ x) × (r < 65536) ⌝ }
+// Bytes 2 k and 2 k + 1 of record i of the case.
+fn field_at(case: &[u8], i: usize, k: usize) -> u16
+    requires { ⌜ (i < rowCount (now case)) × (k < 8) ⌝ }
+    ensures { λ r. ⌜ r ≡ word (now (case .entry)) (16 * i + 2 * k) ⌝ }
 {
-    x as u32
+    u16_at(case, 16 * i + 2 * k)
+}
+
+pub fn kind_at(case: &[u8], i: usize) -> u8
+    requires { ⌜ i < rowCount (now case) ⌝ }
+    ensures { λ r. ⌜ r ≡ rowAt (now (case .entry)) i .kind ⌝ }
+{
+    case[16 * i]
+}
+
+fn pad_at(case: &[u8], i: usize) -> u8
+    requires { ⌜ i < rowCount (now case) ⌝ }
+    ensures { λ r. ⌜ r ≡ rowAt (now (case .entry)) i .pad ⌝ }
+{
+    case[16 * i + 1]
+}
+
+pub fn first_at(case: &[u8], i: usize) -> u16
+    requires { ⌜ i < rowCount (now case) ⌝ }
+    ensures { λ r. ⌜ r ≡ rowAt (now (case .entry)) i .first ⌝ }
+{
+    field_at(case, i, 1)
+}
+
+pub fn second_at(case: &[u8], i: usize) -> u16
+    requires { ⌜ i < rowCount (now case) ⌝ }
+    ensures { λ r. ⌜ r ≡ rowAt (now (case .entry)) i .second ⌝ }
+{
+    field_at(case, i, 2)
+}
+
+pub fn third_at(case: &[u8], i: usize) -> u16
+    requires { ⌜ i < rowCount (now case) ⌝ }
+    ensures { λ r. ⌜ r ≡ rowAt (now (case .entry)) i .third ⌝ }
+{
+    field_at(case, i, 3)
+}
+
+pub fn fourth_at(case: &[u8], i: usize) -> u16
+    requires { ⌜ i < rowCount (now case) ⌝ }
+    ensures { λ r. ⌜ r ≡ rowAt (now (case .entry)) i .fourth ⌝ }
+{
+    field_at(case, i, 4)
+}
+
+// The tier that the side, the students' or the workshops', has in the pair record i.
+pub fn tier_at(case: &[u8], i: usize, student: bool) -> u16
+    requires { ⌜ i < rowCount (now case) ⌝ }
+    ensures { λ r. ⌜ r ≡ cond student (rowAt (now (case .entry)) i .third) (rowAt (now (case .entry)) i .fourth) ⌝ }
+{
+    if student {
+        third_at(case, i)
+    } else {
+        fourth_at(case, i)
+    }
 }
 
 pub fn row_at(case: &[u8], i: usize) -> Row
     requires { ⌜ i < rowCount (now case) ⌝ }
     ensures { λ r. ⌜ rowOf r ≡ rowAt (now (case .entry)) i ⌝ }
 {
-    let at = 16 * i;
-    let rest = widened(u16_at(case, at + 10))
-        + widened(u16_at(case, at + 12))
-        + widened(u16_at(case, at + 14));
     Row {
-        kind: case[at],
-        pad: case[at + 1],
-        first: u16_at(case, at + 2),
-        second: u16_at(case, at + 4),
-        third: u16_at(case, at + 6),
-        fourth: u16_at(case, at + 8),
-        rest,
+        kind: kind_at(case, i),
+        pad: pad_at(case, i),
+        first: first_at(case, i),
+        second: second_at(case, i),
+        third: third_at(case, i),
+        fourth: fourth_at(case, i),
+        fifth: field_at(case, i, 5),
+        sixth: field_at(case, i, 6),
+        seventh: field_at(case, i, 7),
+    }
+}
+
+pub fn student_score_at(book: &[u8], i: usize) -> i16
+    requires { ⌜ i < entryCount (now book) ⌝ }
+    ensures { λ r. ⌜ biased r ≡ entryAt (now (book .entry)) i .studentScore ⌝ }
+{
+    score_at(book, 8 * i + 4)
+}
+
+pub fn workshop_score_at(book: &[u8], i: usize) -> i16
+    requires { ⌜ i < entryCount (now book) ⌝ }
+    ensures { λ r. ⌜ biased r ≡ entryAt (now (book .entry)) i .workshopScore ⌝ }
+{
+    score_at(book, 8 * i + 6)
+}
+
+// The score of the side in book record i, 32768 above its value.
+pub fn biased_at(book: &[u8], i: usize, student: bool) -> u16
+    requires { ⌜ i < entryCount (now book) ⌝ }
+    ensures { λ r. ⌜ r ≡ cond student (entryAt (now (book .entry)) i .studentScore) (entryAt (now (book .entry)) i .workshopScore) ⌝ }
+{
+    let at = 8 * i;
+    if student {
+        biased_of(u16_at(book, at + 4))
+    } else {
+        biased_of(u16_at(book, at + 6))
     }
 }
 
@@ -175,19 +238,19 @@ pub fn entry_at(book: &[u8], i: usize) -> Entry
 // ---- the lookup of a pair
 
 // A pair by student and then workshop, from 1.
-fn key_of(s: u16, w: u16) -> u64
+pub fn key_of(s: u16, w: u16) -> u64
     ensures { λ r. ⌜ r ≡ s * 65536 + w + 1 ⌝ }
 {
     s as u64 * 65536 + w as u64 + 1
 }
 
-fn key_at(case: &[u8], i: usize) -> u64
+// The key of record i, 0 where it is no pair.
+pub fn key_at(case: &[u8], i: usize) -> u64
     requires { ⌜ i < rowCount (now case) ⌝ }
     ensures { λ r. ⌜ r ≡ pairKey (rowAt (now (case .entry)) i) ⌝ }
 {
-    let at = 16 * i;
-    if case[at] == 3 {
-        key_of(u16_at(case, at + 2), u16_at(case, at + 4))
+    if kind_at(case, i) == 3 {
+        key_of(first_at(case, i), second_at(case, i))
     } else {
         0
     }
@@ -248,14 +311,7 @@ fn high_near(case: &[u8], rows: usize, guess: usize, x: u64) -> usize
 }
 
 // The number of the pair's record, or `rows` where there is none: by halving, what a search from the front finds.
-pub fn find_pair(
-    case: &[u8],
-    rows: usize,
-    students: usize,
-    workshops: usize,
-    s: u16,
-    w: u16,
-) -> usize
+fn find_pair(case: &[u8], rows: usize, students: usize, workshops: usize, s: u16, w: u16) -> usize
     requires { ⌜ rows ≡ rowCount (now case) ⌝ }
     requires { ⌜ PairsSorted (now case) ⌝ }
     requires { ⌜ (students ≤ 512) × (workshops ≤ 64) ⌝ }
@@ -282,7 +338,7 @@ pub fn find_pair(
 }
 
 // Among `rows` records all pairs of the students and workshops have one, and s and w are among these.
-pub fn is_known(rows: usize, students: usize, workshops: usize, s: usize, w: usize) -> bool
+fn is_known(rows: usize, students: usize, workshops: usize, s: usize, w: usize) -> bool
     requires { ⌜ (students ≤ 512) × (workshops ≤ 64) ⌝ }
     ensures { λ r. ⌜ r ≡ isKnown rows students workshops s w ⌝ }
 {
@@ -290,4 +346,36 @@ pub fn is_known(rows: usize, students: usize, workshops: usize, s: usize, w: usi
         return ((1 <= s) & (s <= students)) & ((1 <= w) & (w <= workshops));
     }
     false
+}
+
+// The place of the pair's record, or how many records there are. Where all pairs have a record it is known; else it is searched.
+pub fn pair_of(case: &[u8], students: usize, workshops: usize, s: usize, w: usize) -> usize
+    requires { ⌜ (s < 65536) × (w < 65536) ⌝ }
+    requires { ⌜ PairsFound (now case) students workshops ⌝ }
+    ensures { λ r. ⌜ r ≡ pairPlace (now (case .entry)) s w ⌝ }
+{
+    let rows = row_count(case.len());
+    if is_known(rows, students, workshops, s, w) {
+        return students + s * workshops + w - 1;
+    }
+    find_pair(case, rows, students, workshops, s as u16, w as u16)
+}
+
+// ---- numbers and slices
+
+pub fn one_if(b: bool) -> usize
+    ensures { λ r. ⌜ (r ≡ one b) × (r ≤ 1) ⌝ }
+{
+    if b { 1 } else { 0 }
+}
+
+// Zeros over the whole slice.
+pub fn clear(s: &mut [u16])
+    ensures { λ _. ⌜ now (s .exit) ≡ replicate (length (now (s .entry))) 0 ⌝ }
+{
+    let mut k = 0;
+    while k < s.len() {
+        s[k] = 0;
+        k += 1;
+    }
 }

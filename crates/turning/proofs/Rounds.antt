@@ -9,12 +9,11 @@ use native.Mathlib.Numerals.{add-one}
 use lib.Dec.{eqb}
 use lib.ListN.{length, length-append}
 use borrow.Author.Tests.{eq-eqb, ne-eqb}
-use Rattle.base.specs.Lists.{one, count, total}
+use Rattle.base.specs.Lists.{one, count}
 use Rattle.base.proofs.Tests.{bool-cases, less?}
 use Rattle.lgs.specs.Market.{Market, Results}
-use Rattle.lgs.specs.Rule.{Interview, declined}
+use Rattle.lgs.specs.Rule.{Interview, unopened}
 use Rattle.format.specs.Buffers.{flat}
-use Rattle.model.specs.Store.{seatsFrom}
 use Rattle.model.specs.Turn.{RoundSoFar, dueAt, roundAt, roundTo, putAt, withMember}
 use Rattle.turning.specs.Round.{roundOf}
 use Rattle.turning.specs.declared.Round.{Round}
@@ -72,7 +71,7 @@ module _ (M : Market) (B : Results) (seats : List ℕ) (s t set : ℕ) where
     -- it is, and its interview is held
     taken : B .met s (suc k) ≡ true
         → soFar (suc k)
-        ≡ record { interviews = soFar k .interviews ++ ((s, suc k) ∷ []); openings = cond (declined M B s (suc k)) (soFar k .openings) (withMember (soFar k .openings) (suc k)); missing = 0 }
+        ≡ record { interviews = soFar k .interviews ++ ((s, suc k) ∷ []); openings = cond (unopened M B s (suc k)) (soFar k .openings) (withMember (soFar k .openings) (suc k)); missing = 0 }
     unfolding roundAt
     taken m = come ∙ rw m
 
@@ -80,15 +79,6 @@ module _ (M : Market) (B : Results) (seats : List ℕ) (s t set : ℕ) where
     lacking : B .met s (suc k) ≡ false → soFar (suc k) ≡ record { interviews = soFar k .interviews; openings = soFar k .openings; missing = suc k }
     unfolding roundAt
     lacking m = come ∙ rw m
-
--- the seats of the first k workshops, and of one more
-pub seats-before : (M : Market) (k : ℕ) → total (M .quota) k ≡ seatsFrom M (k + 1)
-unfolding seatsFrom
-seats-before M k = ap (total (M .quota)) (omega arith)
-
-pub seats-more : (f : ℕ → ℕ) (k : ℕ) → total f (k + 1) ≡ total f k + f (k + 1)
-unfolding total
-seats-more f k = rw (add-one k) (omega arith)
 
 -- after the first k workshops, of `held` interviews before and the visits `old`
 pub record Rounding (M : Market) (B : Results) (seats : List ℕ) (s t set held : ℕ) (old visits : List ℕ) (total openings k : ℕ) : Type 0 where
@@ -146,11 +136,11 @@ module _ (M : Market) (B : Results) (seats : List ℕ) (s t set held : ℕ) (old
               rw (a, r .written, flat-snoc vs s w) (put-more (flat vs) (s ∷ w ∷ []) old (2 * held) (omega (arith, round-room, round-length (omega arith))))
 
           pub round-held : B .met s w ≡ true
-              → Rounding M B seats s t set held old (putAt (2 * total) (s ∷ w ∷ []) visits) (total + 1) (cond (declined M B s w) openings (withMember openings w)) w
+              → Rounding M B seats s t set held old (putAt (2 * total) (s ∷ w ∷ []) visits) (total + 1) (cond (unopened M B s w) openings (withMember openings w)) w
           round-held m =
               let vs : List Interview = roundTo M B seats s t set k .interviews in
               let q : roundTo M B seats s t set w
-              ≡ record { interviews = vs ++ ((s, w) ∷ []); openings = cond (declined M B s w) (roundTo M B seats s t set k .openings) (withMember (roundTo M B seats s t set k .openings) w); missing = 0 } = rw e (taken M B seats s t set k (r .on) due-next (rw e at m)) in
+              ≡ record { interviews = vs ++ ((s, w) ∷ []); openings = cond (unopened M B s w) (roundTo M B seats s t set k .openings) (withMember (roundTo M B seats s t set k .openings) w); missing = 0 } = rw e (taken M B seats s t set k (r .on) due-next (rw e at m)) in
               record { all = rw q (omega (arith, r .all, length-append vs ((s, w) ∷ []))); sets = rw (q, r .sets); on = rw q; written = rw q more }
 
           -- it is missing, and the round stops

@@ -5,6 +5,7 @@
 --     closes-row       the row zs ∗ Opened ys   becomes   own (the `&κ mut [T]` ((b, o), γ, zs)) ∗ [κ]_q,   for zs as long as ys. The machine value has the count that it had
 --     takes-elem       the row ys   becomes   the cell of ys[i] ∗ the others, and that ys[i] is a T is learned
 --     puts-elem        the cell with y ∗ the others   becomes   the row ys with y at i
+--     puts-back        the cell of ys[i], which was only read, ∗ the others   becomes   the row ys
 -- Definitions assume nothing. The steps assume `Given`.
 use mathlib.Core.Path.{_≡_, sym, ap, subst}
 use Prim.Native.Nat.{ℕ, _<_}
@@ -25,7 +26,7 @@ use denote.Memory.{cellAt, mem, shares}
 use denote.Ref.{RefT}
 use denote.Slice.{sliceVal, MutSlice, Room, heres, codedHoleys, at-slice}
 use denote.Lend.{Held}
-use denote.Index.{row, place, others, elem-out, elem-put, opens-slice, closes-slice}
+use denote.Index.{row, place, others, elem-out, elem-put, elem-back, opens-slice, closes-slice}
 use denote.Steps.{owned}
 use denote.Struct.Declared.{Declared}
 use denote.Struct.Declared as D
@@ -74,3 +75,10 @@ module _ {M : Type 1} {𝓤 : URA M} {H : Heap 𝓤} {A : Atoms 𝓤} {K : Type 
       ∷ ‵ (others (shares R) fullShare ys i b o) ∷ Γ) G
   puts-elem t R k ys i y b o l is = step (λ s. owned t R (Is R) (k .makes 𝓤 H A) y (k .val y ∷ []) is $ move t (1 ∷ 0 ∷ []) $
       elem-put t R fullShare ys i y (k .val y ∷ []) b o l $ s)
+
+  pub puts-back : K → (R : RattleType) (k : Kind R) (q : Share) (ys : List (R .Denot)) (i : ℕ) (d : R .Denot) (b o : ℕ) → i < length ys
+      → Is R (getD ys i d) (k .val (getD ys i d) ∷ [])
+      → Step K W (‵ (row R q ys b o) ∷ Γ) G (‵ (cellAt q (R .mir) (k .val (getD ys i d) ∷ []) b (place (mem R .size) o i))
+      ∷ ‵ (others (shares R) q ys i b o) ∷ Γ) G
+  puts-back t R k q ys i d b o l is = step (λ s. owned t R (Is R) (k .makes 𝓤 H A) (getD ys i d) (k .val (getD ys i d) ∷ []) is $ move t (1 ∷ 0 ∷ []) $
+      elem-back t R q ys i d (k .val (getD ys i d) ∷ []) b o l $ s)

@@ -1,12 +1,11 @@
 -- `answering::count_students` meets its contract. The invariant: how many of the first i records are of kind 1.
-use Prim.Native.Nat.{ℕ, _*_, _-_, _≤_}
+use Prim.Native.Nat.{ℕ, _-_, _≤_}
 use mathlib.Core.Path.{_≡_, refl, sym, ap, _∙_}
 use mathlib.Core.Bool.{Bool}
 use mathlib.Core.List.{List}
 use native.Mathlib.Omega.{arith}
 use native.Mathlib.Nat.{div-add-mod'}
-use lib.Dec.{eqb}
-use lib.ListN.{length, getD}
+use lib.ListN.{length}
 use borrow.Author.Needs.{needs}
 use borrow.Author.Tests.{eq-eqb, ne-eqb}
 use Rattle.base.specs.Below.{countBelow}
@@ -14,12 +13,9 @@ use Rattle.base.proofs.Below.{count-on, tally-below}
 use Rattle.format.specs.Layout.{rowAt, rowCount, rows, ofKind, marketOf}
 use Rattle.answering.proofs.count_students.Statement.{statement}
 use Rattle.answering.proofs.count_students.Tie as tie
-use Rattle.answering.proofs.count_students.Reads as reads
-use Rattle.answering.proofs.count_students.Lts as lts
-use Rattle.records.proofs.row_count.Reads as row-count-reads
 
 abbrev isOne : List ℕ → ℕ → Bool
-isOne case k = eqb (getD case (16 * k) 0) 1
+isOne case k = ofKind 1 (rowAt case k)
 
 abbrev Inv-loop : tie.InvT-loop
 Inv-loop case rows n₀ i₀ n i = (i ≤ rows) × (n ≤ i) × (n ≡ countBelow (isOne case) i)
@@ -34,11 +30,8 @@ loop-holds : tie.Need-loop-holds Inv-loop μ-loop
 unfolding countBelow
 loop-holds c = (omega arith, omega arith, refl)
 
-mul-if1 : tie.Need-mul-if1 Inv-loop μ-loop
-mul-if1 c = omega (arith, c .before .before .row-count .ensures, div-add-mod' (length (c .before .before .before .before .args .case .now)) 16)
-
-shared-slice-read-if1 : tie.Need-shared-slice-read-if1 Inv-loop μ-loop
-shared-slice-read-if1 c = omega (arith, c .before .before .before .row-count .ensures, div-add-mod' (length (c .before .before .before .before .before .args .case .now)) 16)
+kind-at-requires : tie.Need-kind-at-requires Inv-loop μ-loop
+kind-at-requires c κs = omega (arith, c .before .before .row-count .ensures)
 
 add-n : tie.Need-add-n Inv-loop μ-loop
 add-n c = omega (arith, c .before .before .before .before .row-count .ensures, div-add-mod' (length (c .before .before .before .before .before .before .args .case .now)) 16)
@@ -53,7 +46,7 @@ loop-again : tie.Need-loop-again Inv-loop μ-loop
 loop-again c =
     let here = c .before .before .before .loop in
     let case = c .before .before .before .before .before .before .args .case .now in
-    (omega arith, omega arith, rw (count-on (isOne case) (here .i), eq-eqb (getD case (16 * here .i) 0) 1 (c .if1 .taken)) (omega arith))
+    (omega arith, omega arith, rw (count-on (isOne case) (here .i), eq-eqb (rowAt case (here .i) .kind) 1 (sym (c .before .kind-at .ensures) ∙ c .if1 .taken)) (omega arith))
 
 add-i-2 : tie.Need-add-i-2 Inv-loop μ-loop
 add-i-2 c = omega (arith, c .before .before .before .before .row-count .ensures, div-add-mod' (length (c .before .before .before .before .before .before .args .case .now)) 16)
@@ -65,10 +58,10 @@ loop-again-2 : tie.Need-loop-again-2 Inv-loop μ-loop
 loop-again-2 c =
     let here = c .before .before .before .loop in
     let case = c .before .before .before .before .before .before .args .case .now in
-    (omega arith, omega arith, rw (count-on (isOne case) (here .i), ne-eqb (getD case (16 * here .i) 0) 1 (c .if1 .left)) (omega arith))
+    (omega arith, omega arith, rw (count-on (isOne case) (here .i), ne-eqb (rowAt case (here .i) .kind) 1 (λ q. c .if1 .left (c .before .kind-at .ensures ∙ q))) (omega arith))
 
 returns : tie.Need-returns Inv-loop μ-loop
-unfolding marketOf rows rowAt
+unfolding marketOf rows
 returns c =
     let here = c .before .loop in
     let case = c .before .before .before .before .args .case .now in
@@ -83,8 +76,7 @@ count-students-spec =
     μ-loop
     row-count-requires
     loop-holds
-    mul-if1
-    shared-slice-read-if1
+    kind-at-requires
     add-n
     add-i
     loop-less

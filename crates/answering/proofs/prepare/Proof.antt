@@ -1,6 +1,6 @@
 -- `answering::prepare` meets its contract: what the test of the input says, and the run's beginning.
 use Prim.Native.Nat.{ℕ, _<_}
-use mathlib.Core.Path.{_≡_, refl, sym}
+use mathlib.Core.Path.{_≡_, refl, sym, ap}
 use native.Mathlib.Omega.{arith}
 use lib.ListN.{length}
 use Rattle.format.specs.Engine.{resultsIn}
@@ -9,12 +9,6 @@ use Rattle.answering.proofs.Preparing.{found-halted, found-started, cle
 use borrow.Author.Needs.{needs}
 use Rattle.answering.proofs.prepare.Statement.{statement}
 use Rattle.answering.proofs.prepare.Tie as tie
-use Rattle.answering.proofs.prepare.Reads as reads
-use Rattle.answering.proofs.prepare.Lts as lts
-use Rattle.intake.proofs.clear.Reads as clear-reads
-use Rattle.answering.proofs.no_run.Reads as no-run-reads
-use Rattle.intake.proofs.check.Reads as check-reads
-use Rattle.turning.proofs.begin_run.Reads as begin-run-reads
 
 clear-requires : tie.Need-clear-requires
 clear-requires c κs = search needs
@@ -38,8 +32,8 @@ begin-run-requires : tie.Need-begin-run-requires
 begin-run-requires c κs =
     let start = c .before .before .before .before .before .before .before .before .before .before .before .before .before .before .before in
     let v = c .before .checked2 .given in
-    let k = clean (start .args .case .now) (start .args .book .now) (c .before .before .before .before .before .check .last .1 .1 .1 .0) (roomOf (start .args .places) (start .args .visits) (length (start .args .seats .now)) (length (start .args .index .now)) (start .args .states)) (c .before .before .before .before .before .check .result) (c .before .before .before .before .before .check .ensures .0) (v .0 .0) (v .0 .1 .0) (v .0 .1 .1 .0) (v .1) (λ j. omega (arith, c .before .before .before .before .before .before .before .before .before .before .before .before .before .before .shared-slice-known .given j)) (c .before .before .before .before .before .check .ensures .1) in
-    ((sym (k .students), k .manyStudents), k .student)
+    let k = clean (start .args .case .now) (start .args .book .now) (c .before .before .before .before .before .check .last .1 .1 .1 .0) (roomOf (start .args .places) (start .args .visits) (length (start .args .seats .now)) (length (start .args .index .now)) (start .args .states)) (c .before .before .before .before .before .check .result) (c .before .before .before .before .before .check .ensures) (v .0 .0) (v .0 .1 .0) (v .0 .1 .1 .0) (v .1) (λ j. omega (arith, c .before .before .before .before .before .before .before .before .before .before .before .before .before .before .shared-slice-known .given j)) in
+    ((sym (k .students), k .found .manyStudents), k .student)
 
 same-length : tie.Need-same-length
 same-length c = search needs
@@ -53,7 +47,8 @@ returns c =
     let v = c .before .before .checked .given in
     record {
       cleared = c .before .before .before .before .before .before .before .before .before .before .clear .ensures;
-      found = found-halted (start .args .case .now) (start .args .book .now) (c .before .before .before .before .before .before .check .last .1 .1 .1 .0) (roomOf (start .args .places) (start .args .visits) (length (start .args .seats .now)) (length (start .args .index .now)) (start .args .states)) (c .before .before .before .before .before .before .check .result) (c .before .before .before .before .before .before .check .ensures .0) (v .0 .0) (v .0 .1 .0) (v .1) _ (c .no-run .ensures) refl refl;
+      found = found-halted (start .args .case .now) (start .args .book .now) (c .before .before .before .before .before .before .check .last .1 .1 .1 .0) (roomOf (start .args .places) (start .args .visits) (length (start .args .seats .now)) (length (start .args .index .now)) (start .args .states)) (c .before .before .before .before .before .before .check .result) (c .before .before .before .before .before .before .check .ensures) (v .0 .0) (v .0 .1 .0) (v .1) _ (ap (λ r. record { run = r; cause = v .0 .0; «record» = v .0 .1 .0; students = 0; workshops = 0 }) (c .no-run .ensures));
+      left = c .before .before .before .before .before .before .check .ensures .left;
     }
 
 same-length-3 : tie.Need-same-length-3
@@ -68,8 +63,9 @@ returns-2 c =
     let v = c .before .before .checked2 .given in
     record {
       cleared = c .before .before .before .before .before .before .before .before .before .before .clear .ensures;
-      found = found-started (start .args .case .now) (start .args .book .now) (c .before .before .before .before .before .before .check .last .1 .1 .1 .0) (roomOf (start .args .places) (start .args .visits) (length (start .args .seats .now)) (length (start .args .index .now)) (start .args .states)) (c .before .before .before .before .before .before .check .result) (c .before .before .before .before .before .before .check .ensures .0) (v .0 .0) (v .0 .1 .0) (v .0 .1 .1 .0) (v .1) (λ j. omega (arith, c .before .before .before .before .before .before .before .before .before .before .before .before .before .before .before .shared-slice-known .given j)) (c .before .before .before .before .before .before .check .ensures .1) _
+      found = found-started (start .args .case .now) (start .args .book .now) (c .before .before .before .before .before .before .check .last .1 .1 .1 .0) (roomOf (start .args .places) (start .args .visits) (length (start .args .seats .now)) (length (start .args .index .now)) (start .args .states)) (c .before .before .before .before .before .before .check .result) (c .before .before .before .before .before .before .check .ensures) (v .0 .0) (v .0 .1 .0) (v .0 .1 .1 .0) (v .1) (λ j. omega (arith, c .before .before .before .before .before .before .before .before .before .before .before .before .before .before .before .shared-slice-known .given j)) _
           (c .begin-run .ensures (resultsIn (start .args .book .now))) refl refl refl;
+      left = c .before .before .before .before .before .before .check .ensures .left;
     }
 
 pub prepare-spec : {M : Type 1} → statement M

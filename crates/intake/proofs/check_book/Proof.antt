@@ -1,54 +1,56 @@
 -- `intake::check_book` meets its contract. Each return by what the causes before it found.
 use Prim.Native.Nat.{_+_, _%_}
 use mathlib.Core.Path.{_≡_, _∙_, sym, ap}
-use mathlib.Core.Bool.{not}
 use mathlib.Core.Option.{none}
 use native.Mathlib.Omega.{arith}
 use lib.ListN.{length, replicate}
-use lib.Dec.{eqb}
-use Rattle.base.specs.Search.{firstBad, someIf}
+use Rattle.base.specs.Search.{firstBad}
 use Rattle.base.proofs.Search.{some-by, none-by}
 use Rattle.format.specs.Layout.{rows, entries, entryCount}
 use Rattle.format.specs.Refusals.{badTie}
-use Rattle.intake.specs.Checked.{bookRefusal}
-use Rattle.intake.specs.Index.{badAny, indexOf, lentIndex}
-use Rattle.intake.specs.Ties.{Indexed}
-use Rattle.intake.proofs.Cases.{sound, whole-none, whole-some, book-7, book-11, book-clean, refused-as, refused-none, clean-as}
-use Rattle.intake.proofs.Indexing.{all-paired, all-scored, all-fresh}
+use Rattle.case_tests.proofs.Cases.{sound, whole-none, whole-some, clean-as}
+use Rattle.book_tests.specs.Index.{badAny, bookRefusal, lentIndex, indexAfter}
+use Rattle.book_tests.proofs.Books.{book-7, book-11, book-clean, refused-with}
+use Rattle.book_tests.proofs.Indexing.{all-paired, all-scored, all-fresh}
+use Rattle.ties.specs.Ties.{Indexed}
 use borrow.Author.Needs.{needs}
 use Rattle.intake.proofs.check_book.Statement.{statement}
 use Rattle.intake.proofs.check_book.Tie as tie
 
-whole : (c : tie.Else1) → someIf (not (eqb (length (c .before .before .before .before .before .args .book .now) % 8) 0)) 0 ≡ none
-whole c = whole-none (length (c .before .before .before .before .before .args .book .now) % 8) (c .if1 .left)
+abbrev entry : tie.Else2 → tie.Start
+entry d = d .before .before .before .before .before .before .before .before .before .before
 
 -- causes 8 to 10 find nothing when the fill goes through
-fine : (c : tie.Else2) → firstBad (badAny (rows (c .before .before .before .before .before .before .before .before .before .before .before .before .before .before .args .case .now)) (entries (c .before .before .before .before .before .before .before .before .before .before .before .before .before .before .args .book .now))) (entryCount (c .before .before .before .before .before .before .before .before .before .before .before .before .before .before .args .book .now)) ≡ none
-fine c =
-    let a = c .before .before .before .before .before .before .before .before .before .before .before .before .before .before .args in
-    none-by (badAny (rows (a .case .now)) (entries (a .book .now))) (entryCount (a .book .now)) (c .before .before .before .fill .result) (c .before .before .before .fill .ensures .0) (omega (arith, c .before .before .before .before .before .before .before .before .before .before .entry-count .ensures))
+fine : (d : tie.Else2) → firstBad (badAny (rows (entry d .args .case .now)) (entries (entry d .args .book .now))) (entryCount (entry d .args .book .now)) ≡ none
+fine d =
+    let a = entry d .args in
+    let fill = d .before .before .before .fill in
+    none-by (badAny (rows (a .case .now)) (entries (a .book .now))) (entryCount (a .book .now)) (fill .result) (fill .ensures .0) (omega (arith, d .if2 .left, d .before .before .before .before .before .before .entry-count .ensures))
 
 -- the index when it is filled
-filled-to : (c : tie.Else2) → c .before .before .before .fill .result ≡ entryCount (c .before .before .before .before .before .before .before .before .before .before .before .before .before .before .args .book .now)
-filled-to c = c .before .before .before .fill .ensures .0 ∙ rw (fine c)
+as-long : (d : tie.Else2) → length (d .before .before .before .fill .last .1 .1 .1 .1 .0) ≡ length (entry d .args .index .now)
+as-long d = d .before .before .before .fill .kept .1 .1 .1 .1 .0
 
-as-long : (c : tie.Else2) → length (c .before .before .before .fill .last .1 .1 .1 .1 .0) ≡ length (c .before .before .before .before .before .before .before .before .before .before .before .before .before .before .args .index .now)
-as-long c = c .before .before .before .fill .kept .1 .1 .1 .1 .0 ∙ c .before .before .before .before .before .before .before .clear .kept .0
+made : (d : tie.Else2)
+    → d .before .before .before .fill .last .1 .1 .1 .1 .0
+    ≡ lentIndex (entry d .args .case .now) (entry d .args .book .now) (entryCount (entry d .args .book .now)) (length (entry d .args .index .now))
+made d =
+    let fill = d .before .before .before .fill in
+    let all : fill .result ≡ entryCount (entry d .args .book .now) = fill .ensures .0 ∙ rw (fine d) in
+    rw all at (fill .ensures .1)
 
-made : (c : tie.Else2)
-    → c .before .before .before .fill .last .1 .1 .1 .1 .0 ≡ lentIndex (c .before .before .before .before .before .before .before .before .before .before .before .before .before .before .args .case .now) (c .before .before .before .before .before .before .before .before .before .before .before .before .before .before .args .book .now) (entryCount (c .before .before .before .before .before .before .before .before .before .before .before .before .before .before .args .book .now)) (length (c .before .before .before .before .before .before .before .before .before .before .before .before .before .before .args .index .now))
-made c = c .before .before .before .fill .ensures .1 ∙ rw (filled-to c, c .before .before .before .before .before .before .before .clear .kept .0)
-
-indexed : (c : tie.Else2) → Indexed (c .before .before .before .before .before .before .before .before .before .before .before .before .before .before .args .case .now) (c .before .before .before .before .before .before .before .before .before .before .before .before .before .before .args .book .now) (c .before .before .before .fill .last .1 .1 .1 .1 .0) (c .before .before .before .before .before .before .before .before .before .before .before .before .before .before .args .students + c .before .before .before .before .before .before .before .before .before .before .before .before .before .before .args .workshops)
-indexed c =
-    let a = c .before .before .before .before .before .before .before .before .before .before .before .before .before .before .args in
+indexed : (d : tie.Else2)
+    → Indexed (entry d .args .case .now) (entry d .args .book .now) (d .before .before .before .fill .last .1 .1 .1 .1 .0) (entry d .args .students + entry d .args .workshops)
+indexed d =
+    let start = entry d in
+    let a = start .args in
     record {
-      sound = sound (a .case .now) (a .students) (a .workshops) (c .before .before .before .before .before .before .before .before .before .before .before .before .before .before .pre .0);
-      paired = all-paired (a .case .now) (a .book .now) (fine c);
-      fresh = all-fresh (a .case .now) (a .book .now) (fine c);
-      made = made c ∙ ap (λ k. lentIndex (a .case .now) (a .book .now) (entryCount (a .book .now)) k) (sym (as-long c));
-      room = omega (arith, c .before .before .before .before .before .before .before .before .before .before .before .before .before .before .pre .1, as-long c);
-      from = rw (c .before .before .before .before .before .before .before .before .before .before .before .before .before .before .pre .0 .students, c .before .before .before .before .before .before .before .before .before .before .before .before .before .before .pre .0 .workshops);
+      sound = sound (a .case .now) (a .students) (a .workshops) (start .pre .0);
+      paired = all-paired (a .case .now) (a .book .now) (fine d);
+      fresh = all-fresh (a .case .now) (a .book .now) (fine d);
+      made = made d ∙ ap (λ k. lentIndex (a .case .now) (a .book .now) (entryCount (a .book .now)) k) (sym (as-long d));
+      room = omega (arith, start .pre .1, as-long d);
+      from = omega (arith, start .pre .0 .students, start .pre .0 .workshops);
     }
 
 entry-count-requires : tie.Need-entry-count-requires
@@ -59,29 +61,35 @@ refused-requires c κs = search needs
 
 returns : tie.Need-returns
 returns c =
-    let a = c .before .before .before .before .before .before .args in
-    let r = book-7 (a .case .now) (a .book .now) (whole-some (length (a .book .now) % 8) (c .before .if1 .taken)) in
-    (c .refused .ensures ∙ sym (refused-as (a .case .now) (bookRefusal (a .case .now) (a .book .now)) 7 0 r), refused-none (bookRefusal (a .case .now) (a .book .now)) 7 0 r)
-
-clear-requires : tie.Need-clear-requires
-clear-requires c κs = search needs
+    let start = c .before .before .before .before .before .before in
+    let a = start .args in
+    refused-with (a .case .now) (a .book .now) _ 7 0 _ _ _ (book-7 (a .case .now) (a .book .now) (whole-some (length (a .book .now) % 8) (c .before .if1 .taken))) (c .refused .ensures) (start .pre .1 .2)
 
 fill-requires : tie.Need-fill-requires
-fill-requires c κs = (c .before .before .before .before .before .before .before .before .before .before .pre .0, (omega (arith, c .before .before .before .before .before .before .before .before .before .before .pre .1, c .before .before .before .clear .kept .0), c .before .before .before .clear .ensures ∙ ap (λ k. replicate k 0) (sym (c .before .before .before .clear .kept .0))))
+fill-requires c κs = search needs
 
 book-fault-requires : tie.Need-book-fault-requires
 book-fault-requires c κs =
-    let a = c .before .before .before .before .before .before .before .before .before .before .before .before .before .before .args in
-    (c .before .before .before .before .before .before .before .before .before .before .before .before .before .before .pre .0, (c .before .before .before .before .before .before .before .before .before .if1 .left, some-by (badAny (rows (a .case .now)) (entries (a .book .now))) (entryCount (a .book .now)) (c .before .before .before .fill .result) (c .before .before .before .fill .ensures .0) (omega (arith, c .before .before .before .before .before .before .before .before .before .before .entry-count .ensures))))
+    let start = c .before .before .before .before .before .before .before .before .before .before .before in
+    let a = start .args in
+    let fill = c .before .before .before .before .fill in
+    let found = some-by (badAny (rows (a .case .now)) (entries (a .book .now))) (entryCount (a .book .now)) (fill .result) (fill .ensures .0) (omega (arith, c .before .if2 .taken, c .before .before .before .before .before .before .before .entry-count .ensures)) in
+    (start .pre .0, ((c .before .before .before .before .before .before .if1 .left, omega (arith, start .pre .1, fill .kept .1 .1 .1 .1 .0)), found))
 
 same-length : tie.Need-same-length
 same-length c = search needs
 
 returns-2 : tie.Need-returns-2
-returns-2 c = (c .book-fault .ensures .0, λ n. absurd (c .book-fault .ensures .1 n))
+returns-2 c =
+    let a = c .before .before .before .before .before .before .before .before .before .before .before .before .before .before .args in
+    let fault = c .before .before .book-fault in
+    (fault .ensures .0, fault .ensures .1 ∙ ap (λ k. indexAfter (bookRefusal (a .case .now) (a .book .now)) (a .case .now) (a .book .now) k) (c .before .before .before .before .before .before .before .fill .kept .1 .1 .1 .1 .0))
 
 first-tie-requires : tie.Need-first-tie-requires
-first-tie-requires c κs = (indexed (c .before), (c .before .before .before .before .before .before .before .before .before .before .before .before .before .before .before .pre .0 .students, c .before .before .before .before .before .before .before .before .before .before .before .before .before .before .before .pre .0 .workshops))
+first-tie-requires c κs = let p = entry (c .before) .pre .0 in (indexed (c .before), (p .students, p .workshops))
+
+clear-requires : tie.Need-clear-requires
+clear-requires c κs = search needs
 
 refused-requires-2 : tie.Need-refused-requires-2
 refused-requires-2 c κs = search needs
@@ -91,24 +99,25 @@ same-length-2 c = search needs
 
 returns-3 : tie.Need-returns-3
 returns-3 c =
-    let a = c .before .before .before .before .before .before .before .before .before .before .before .before .before .before .before .before .before .before .args in
-    let f = fine (c .before .before .before .before) in
-    let i = c .before .before .first-tie .result in
-    let found = some-by (badTie (rows (a .case .now)) (entries (a .book .now))) (entryCount (a .book .now)) i (c .before .before .first-tie .ensures) (omega (arith, c .before .before .before .before .before .before .before .before .before .before .before .before .before .before .entry-count .ensures)) in
-    let r = book-11 (a .case .now) (a .book .now) (whole (c .before .before .before .before .before .before .before .before .before .before .before .before .before)) (all-paired (a .case .now) (a .book .now) f) (all-scored (a .case .now) (a .book .now) f) (all-fresh (a .case .now) (a .book .now) f) i found in
-    (c .refused2 .ensures ∙ sym (refused-as (a .case .now) (bookRefusal (a .case .now) (a .book .now)) 11 i r), refused-none (bookRefusal (a .case .now) (a .book .now)) 11 i r)
+    let d = c .before .before .before .before .before .before .before .before in
+    let a = entry d .args in
+    let tie = c .before .before .before .before .before .before .first-tie in
+    let found = some-by (badTie (rows (a .case .now)) (entries (a .book .now))) (entryCount (a .book .now)) (tie .result) (tie .ensures) (omega (arith, c .before .before .before .before .before .if3 .taken, d .before .before .before .before .before .before .entry-count .ensures)) in
+    let o = book-11 (a .case .now) (a .book .now) (whole-none _ (d .before .before .before .before .before .if1 .left)) (all-paired (a .case .now) (a .book .now) (fine d)) (all-scored (a .case .now) (a .book .now) (fine d)) (all-fresh (a .case .now) (a .book .now) (fine d)) (tie .result) found in
+    refused-with (a .case .now) (a .book .now) _ 11 (tie .result) _ _ _ o (c .refused2 .ensures) (c .before .before .before .clear .ensures ∙ ap (λ k. replicate k 0) (as-long d))
 
 same-length-3 : tie.Need-same-length-3
 same-length-3 c = search needs
 
 returns-4 : tie.Need-returns-4
-unfolding indexOf
 returns-4 c =
-    let a = c .before .before .before .before .before .before .before .before .before .before .before .before .before .before .before .before .before .args in
-    let f = fine (c .before .before .before) in
-    let none-found = none-by (badTie (rows (a .case .now)) (entries (a .book .now))) (entryCount (a .book .now)) (c .before .first-tie .result) (c .before .first-tie .ensures) (omega (arith, c .before .before .before .before .before .before .before .before .before .before .before .before .before .entry-count .ensures)) in
-    let r = book-clean (a .case .now) (a .book .now) (whole (c .before .before .before .before .before .before .before .before .before .before .before .before)) (all-paired (a .case .now) (a .book .now) f) (all-scored (a .case .now) (a .book .now) f) (all-fresh (a .case .now) (a .book .now) f) none-found in
-    (sym (clean-as (a .case .now) (bookRefusal (a .case .now) (a .book .now)) _ _ _ r (c .before .before .before .before .before .before .before .before .before .before .before .before .before .before .before .before .before .pre .0 .students) (c .before .before .before .before .before .before .before .before .before .before .before .before .before .before .before .before .before .pre .0 .workshops) (c .before .before .before .before .before .before .before .before .before .before .before .before .before .before .before .before .before .pre .1 .0)), λ n. made (c .before .before .before))
+    let d = c .before .before .before in
+    let start = entry d in
+    let a = start .args in
+    let tie = c .before .first-tie in
+    let none-tie = none-by (badTie (rows (a .case .now)) (entries (a .book .now))) (entryCount (a .book .now)) (tie .result) (tie .ensures) (omega (arith, c .if3 .left, d .before .before .before .before .before .before .entry-count .ensures)) in
+    let o = book-clean (a .case .now) (a .book .now) (whole-none _ (d .before .before .before .before .before .if1 .left)) (all-paired (a .case .now) (a .book .now) (fine d)) (all-scored (a .case .now) (a .book .now) (fine d)) (all-fresh (a .case .now) (a .book .now) (fine d)) none-tie in
+    (sym (clean-as (a .case .now) _ (a .students) (a .workshops) (a .pairs) o (start .pre .0 .students) (start .pre .0 .workshops) (start .pre .1 .0)), rw o (made d))
 
 pub check-book-spec : {M : Type 1} → statement M
 check-book-spec =
@@ -117,12 +126,12 @@ check-book-spec =
     entry-count-requires
     refused-requires
     returns
-    clear-requires
     fill-requires
     book-fault-requires
     same-length
     returns-2
     first-tie-requires
+    clear-requires
     refused-requires-2
     same-length-2
     returns-3

@@ -1,29 +1,20 @@
 -- `lookup::quota_of` meets its contract. The field of the record, which `requires` ties to the market.
 use mathlib.Core.Path.{sym, _∙_}
-use Rattle.format.specs.Layout.{rowAt}
 use borrow.Author.Needs.{needs}
 use Rattle.lookup.proofs.quota_of.Statement.{statement}
 use Rattle.lookup.proofs.quota_of.Tie as tie
 
-add-u16-at : tie.Need-add-u16-at
-add-u16-at c = search needs
+add-second-at : tie.Need-add-second-at
+add-second-at c = search needs
 
-sub-u16-at : tie.Need-sub-u16-at
-sub-u16-at c = search needs
+sub-second-at : tie.Need-sub-second-at
+sub-second-at c = search needs
 
-mul-u16-at : tie.Need-mul-u16-at
-mul-u16-at c = search needs
-
-add-u16-at-2 : tie.Need-add-u16-at-2
-add-u16-at-2 c = search needs
-
-u16-at-requires : tie.Need-u16-at-requires
-u16-at-requires c κs = search needs
+second-at-requires : tie.Need-second-at-requires
+second-at-requires c κs = search needs
 
 returns : tie.Need-returns
-unfolding rowAt
-returns c = c .u16-at .ensures ∙ sym (c .before .before .pre .quota)
+returns c = c .second-at .ensures ∙ sym (c .before .before .pre .quota)
 
 pub quota-of-spec : {M : Type 1} → statement M
-quota-of-spec =
-    tie.close (tie.spec add-u16-at sub-u16-at mul-u16-at add-u16-at-2 u16-at-requires returns)
+quota-of-spec = tie.close (tie.spec add-second-at sub-second-at second-at-requires returns)

@@ -1,25 +1,17 @@
 -- `lookup::stage_of` meets its contract. The field of the record, which `requires` ties to the market.
 use mathlib.Core.Path.{sym, _∙_}
-use Rattle.format.specs.Layout.{rowAt}
 use borrow.Author.Needs.{needs}
 use Rattle.lookup.proofs.stage_of.Statement.{statement}
 use Rattle.lookup.proofs.stage_of.Tie as tie
 
-sub-u16-at : tie.Need-sub-u16-at
-sub-u16-at c = search needs
+sub-second-at : tie.Need-sub-second-at
+sub-second-at c = search needs
 
-mul-u16-at : tie.Need-mul-u16-at
-mul-u16-at c = search needs
-
-add-u16-at : tie.Need-add-u16-at
-add-u16-at c = search needs
-
-u16-at-requires : tie.Need-u16-at-requires
-u16-at-requires c κs = search needs
+second-at-requires : tie.Need-second-at-requires
+second-at-requires c κs = search needs
 
 returns : tie.Need-returns
-unfolding rowAt
-returns c = c .u16-at .ensures ∙ sym (c .before .before .pre .stage)
+returns c = c .second-at .ensures ∙ sym (c .before .before .pre .stage)
 
 pub stage-of-spec : {M : Type 1} → statement M
-stage-of-spec = tie.close (tie.spec sub-u16-at mul-u16-at add-u16-at u16-at-requires returns)
+stage-of-spec = tie.close (tie.spec sub-second-at second-at-requires returns)

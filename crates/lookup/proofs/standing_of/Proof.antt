@@ -3,13 +3,13 @@ use mathlib.Core.Path.{sym, _∙_}
 use native.Mathlib.Omega.{arith}
 use mir.Syntax.{w16}
 use mir.ValLaws.{toZ-ofZ}
-use Rattle.lookup.proofs.Laws.{pairs-found, pair-known, index-known, tier-known, entry-known}
+use Rattle.lookup.proofs.Laws.{pair-known, index-known, tier-known, entry-known}
 use borrow.Author.Needs.{needs}
 use Rattle.lookup.proofs.standing_of.Statement.{statement}
 use Rattle.lookup.proofs.standing_of.Tie as tie
 
 pair-of-requires : tie.Need-pair-of-requires
-pair-of-requires c κs = let start = c .before .before .before in ((omega (arith, start .pre .0, start .pre .1), omega (arith, start .pre .1), omega (arith, start .pre .0, start .pre .1)), pairs-found (start .pre .0))
+pair-of-requires c κs = let start = c .before .before .before in ((omega (arith, start .pre .0, start .pre .1), omega (arith, start .pre .0, start .pre .1)), start .pre .0 .found)
 
 workshop-tier-requires : tie.Need-workshop-tier-requires
 workshop-tier-requires c κs = let start = c .before .before .before .before in let p = pair-known (start .pre .0) (start .pre .1) in omega arith

@@ -3,13 +3,13 @@ use mathlib.Core.Path.{sym, _∙_}
 use native.Mathlib.Omega.{arith}
 use mir.Syntax.{w16}
 use mir.ValLaws.{toZ-ofZ}
-use Rattle.lookup.proofs.Laws.{pairs-found, index-known, entry-known}
+use Rattle.lookup.proofs.Laws.{index-known, entry-known}
 use borrow.Author.Needs.{needs}
 use Rattle.lookup.proofs.student_score_of.Statement.{statement}
 use Rattle.lookup.proofs.student_score_of.Tie as tie
 
 pair-of-requires : tie.Need-pair-of-requires
-pair-of-requires c κs = let start = c .before .before .before in ((omega (arith, start .pre .0, start .pre .1), omega (arith, start .pre .1), omega (arith, start .pre .0, start .pre .1)), pairs-found (start .pre .0))
+pair-of-requires c κs = let start = c .before .before .before in ((omega (arith, start .pre .0, start .pre .1), omega (arith, start .pre .0, start .pre .1)), start .pre .0 .found)
 
 add-entry-of : tie.Need-add-entry-of
 add-entry-of c = search needs

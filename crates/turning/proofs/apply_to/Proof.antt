@@ -34,8 +34,8 @@ cast-x c = search needs
 after-seating-requires : tie.Need-after-seating-requires
 after-seating-requires c κs = search needs
 
-cast-t16 : tie.Need-cast-t16
-cast-t16 c = let start = c .before .before .before .before .before .before .before .before .before .before .before in let b = start .pre .1 .1 .0 (positive (start .args .c) (c .before .before .before .before .before .before .if1 .left)) in omega (arith, b, start .pre .0)
+cast-held : tie.Need-cast-held
+cast-held c = let start = c .before .before .before .before .before .before .before .before .before .before .before in let b = start .pre .1 .1 .0 (positive (start .args .c) (c .before .before .before .before .before .before .if1 .left)) in omega (arith, b, start .pre .0)
 
 same-length : tie.Need-same-length
 same-length c = search needs
@@ -57,6 +57,6 @@ apply-to-spec =
     seat-at-requires
     cast-x
     after-seating-requires
-    cast-t16
+    cast-held
     same-length
     returns-2)

@@ -32,13 +32,13 @@ few c =
     (listing-few (a .case .now) (a .s) (a .tier) (a .workshops) (a .pairs .now) (a .starts .now) (here .pairs) (here .starts) (here .n) (here .from) (here .done) (here .inv), omega arith, entry c .pre .1 .0 .manyWorkshops)
 
 -- workshop `done + 1` has been written, and x is 1 where it is of the tier
-more : (c : tie.After-quota-of Inv-loop μ-loop) (x : ℕ) → (let d = c .before in let a = entry d .args in let here = head d .loop in x ≡ one (inTier (marketIn (a .case .now)) (a .s) (a .tier) (here .done + 1)) → Listing (a .case .now) (a .s) (a .tier) (a .workshops) (a .pairs .now) (a .starts .now) (set (here .pairs) (here .n) (d .pair-of .result)) (set (here .starts) (here .n) (here .from)) (here .n + x) (here .from + c .quota-of .result) (here .done + 1))
+more : (c : tie.After-end-of Inv-loop μ-loop) (x : ℕ) → (let d = c .before in let a = entry d .args in let here = head d .loop in x ≡ one (inTier (marketIn (a .case .now)) (a .s) (a .tier) (here .done + 1)) → Listing (a .case .now) (a .s) (a .tier) (a .workshops) (a .pairs .now) (a .starts .now) (set (here .pairs) (here .n) (d .pair-of .result)) (set (here .starts) (here .n) (here .from)) (here .n + x) (c .end-of .result) (here .done + 1))
 more c x e =
     let d = c .before in
     let start = entry d in
     let a = start .args in
     let here = head d .loop in
-    listing-more (a .case .now) (a .s) (a .tier) (a .workshops) (a .pairs .now) (a .starts .now) (here .pairs) (here .starts) (here .n) (here .from) (here .done) (here .inv) (omega (arith, few d)) (omega arith) (omega arith) (d .pair-of .result) (c .quota-of .result) x (d .pair-of .ensures) (c .quota-of .ensures) (omega arith) e
+    listing-more (a .case .now) (a .s) (a .tier) (a .workshops) (a .pairs .now) (a .starts .now) (here .pairs) (here .starts) (here .n) (here .from) (here .done) (here .inv) (omega (arith, few d)) (omega arith) (omega arith) (d .pair-of .result) (c .end-of .result) x (d .pair-of .ensures) (c .end-of .ensures .0) (c .end-of .ensures .1) e
 
 row-count-requires : tie.Need-row-count-requires Inv-loop μ-loop
 row-count-requires c κs = search needs
@@ -50,7 +50,7 @@ add-w : tie.Need-add-w Inv-loop μ-loop
 add-w c = omega arith
 
 pair-of-requires : tie.Need-pair-of-requires Inv-loop μ-loop
-pair-of-requires c κs = let start = c .before .before .before .before .before .before in ((omega arith, omega arith, omega (arith, start .pre .1 .0)), start .pre .1 .0)
+pair-of-requires c κs = let start = c .before .before .before .before .before .before in ((omega arith, omega (arith, start .pre .1 .0)), start .pre .1 .0)
 
 mul-pairs : tie.Need-mul-pairs Inv-loop μ-loop
 mul-pairs c = omega (arith, few c)
@@ -64,14 +64,8 @@ mul-starts c = omega (arith, few c)
 slice-write-starts : tie.Need-slice-write-starts Inv-loop μ-loop
 slice-write-starts c = omega (arith, few c, head c .loop .inv)
 
-quota-of-requires : tie.Need-quota-of-requires Inv-loop μ-loop
-quota-of-requires c κs = entry c .pre .1 .1 .0 (head c .loop .done + 1) (omega arith) (omega arith)
-
-cast-from : tie.Need-cast-from Inv-loop μ-loop
-cast-from c = omega arith
-
-add-from : tie.Need-add-from Inv-loop μ-loop
-add-from c = omega (arith, few (c .before))
+end-of-requires : tie.Need-end-of-requires Inv-loop μ-loop
+end-of-requires c κs = (omega (arith, few c, head c .loop .inv .small), entry c .pre .1 .1 .0 (head c .loop .done + 1) (omega arith) (omega arith))
 
 student-tier-requires : tie.Need-student-tier-requires Inv-loop μ-loop
 student-tier-requires c κs = omega (arith, c .before .before .before .before .before .row-count .ensures)
@@ -132,9 +126,7 @@ list-tier-spec =
     slice-write-pairs
     mul-starts
     slice-write-starts
-    quota-of-requires
-    cast-from
-    add-from
+    end-of-requires
     student-tier-requires
     one-if-requires
     add-n

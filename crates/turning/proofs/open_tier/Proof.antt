@@ -9,6 +9,9 @@ use borrow.Author.Needs.{needs}
 use Rattle.turning.proofs.open_tier.Statement.{statement}
 use Rattle.turning.proofs.open_tier.Tie as tie
 
+cast-tier : tie.Need-cast-tier
+cast-tier c = search needs
+
 add-tier : tie.Need-add-tier
 add-tier c = search needs
 
@@ -17,6 +20,9 @@ hold-round-requires c κs = let start = c .before .before .before .before .befor
 
 after-round-requires : tie.Need-after-round-requires
 after-round-requires c κs = search needs
+
+cast-reached : tie.Need-cast-reached
+cast-reached c = search needs
 
 same-length : tie.Need-same-length
 same-length c = search needs
@@ -32,4 +38,4 @@ returns c =
 
 pub open-tier-spec : {M : Type 1} → statement M
 open-tier-spec =
-    tie.close (tie.spec add-tier hold-round-requires after-round-requires same-length returns)
+    tie.close (tie.spec cast-tier add-tier hold-round-requires after-round-requires cast-reached same-length returns)

@@ -62,6 +62,9 @@ told-state-requires c κs = search needs
 student-outside-requires : tie.Need-student-outside-requires
 student-outside-requires c κs = let start = c .before .before .before .before .before .before in start .pre .0 .student (start .args .run .hand) (omega (arith, start .pre .1)) (omega (arith, start .pre .0, start .pre .1))
 
+cast-outside : tie.Need-cast-outside
+cast-outside c = search needs
+
 count-requires : tie.Need-count-requires
 count-requires c κs = search needs
 
@@ -136,6 +139,7 @@ turn-spec =
     (tie.spec
     told-state-requires
     student-outside-requires
+    cast-outside
     count-requires
     open-tier-requires
     same-length

@@ -1,5 +1,5 @@
 -- `intake::lengths::lacks` meets its contract. The same expression on both sides, with the visits halved.
-use Rattle.intake.proofs.Cases.{half-less}
+use Rattle.intake.proofs.Joining.{half-less}
 use Rattle.intake.proofs.lengths.lacks.Statement.{statement}
 use Rattle.intake.proofs.lengths.lacks.Tie as tie
 

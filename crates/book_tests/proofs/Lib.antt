@@ -1,0 +1,5 @@
+pub mod Laws
+pub mod Joined
+pub mod Books
+pub mod Indexing
+pub mod Scanning

@@ -1,0 +1,190 @@
+-- `book_tests::step` meets its contract. What the tests say of the record, and the index with its number.
+use Prim.Native.Nat.{ℕ, _+_, _-_, _≤_, _<_}
+use mathlib.Core.Path.{_≡_}
+use mathlib.Core.Bool.{true, false, _||_}
+use mathlib.Core.List.{List}
+use native.Mathlib.Omega.{arith}
+use lib.ListN.{length}
+use lib.Dec.{eqb}
+use Rattle.base.proofs.Tests.{never}
+use Rattle.format.specs.Layout.{rows, entries, entryAt}
+use Rattle.format.specs.Refusals.{badPair, badScores}
+use Rattle.records.specs.Records.{entryOf}
+use Rattle.case_tests.proofs.Cases.{pairs-found, few}
+use Rattle.book_tests.specs.Index.{pairsFrom}
+use Rattle.book_tests.specs.Scans.{badBy, Scanned}
+use Rattle.book_tests.proofs.Indexing.{Placed}
+use Rattle.book_tests.proofs.Scanning.{bad-record, good-record, good-parts, comes, scan-stop, scan-move, number-few, spot-inside, step-stop, step-fill}
+use Rattle.book_tests.proofs.Scanning.{located as located-by}
+use borrow.Author.Needs.{needs}
+use Rattle.book_tests.proofs.step.Statement.{statement}
+use Rattle.book_tests.proofs.step.Tie as tie
+
+abbrev entry : tie.After-fails → tie.Start
+entry d = d .before .before .before .before .before .before
+
+abbrev rows-of : tie.After-fails → ℕ
+rows-of d = d .before .before .row-count .result
+
+abbrev place-at : tie.After-fails → ℕ
+place-at d = d .before .before .before .place-of .result
+
+-- the record is that of the book which comes next
+abbrev Of : tie.After-fails → List ℕ → Type 0
+Of d book =
+    let a = entry d .args in
+    Scanned (a .cause) (a .case .now) book (length (a .index .now)) (a .s) (a .index .now) × (entryOf (a .e) ≡ entryAt book (a .s .next))
+
+-- what the test by the record alone says
+bad : (d : tie.After-fails) (book : List ℕ) → Of d book → d .fails .result ≡ true → badBy (entry d .args .cause) (entry d .args .case .now) book (entry d .args .s .next) ≡ true
+bad d book o =
+    let a = entry d .args in
+    bad-record (a .case .now) book (a .s .next) (comes (o .0) (entry d .pre .1 .0 .0)) (a .e) (o .1) (a .cause) (rows-of d) (place-at d) (d .before .before .row-count .ensures) (d .before .before .before .place-of .ensures) (d .before .is-unscored .result) (d .fails .result) (d .before .is-unscored .ensures) (d .fails .ensures)
+
+good : (d : tie.After-fails) (book : List ℕ) → Of d book → d .fails .result ≡ false → (eqb (entry d .args .cause) 8 || eqb (entry d .args .cause) 9) ≡ true
+    → badBy (entry d .args .cause) (entry d .args .case .now) book (entry d .args .s .next) ≡ false
+good d book o =
+    let a = entry d .args in
+    good-record (a .case .now) book (a .s .next) (comes (o .0) (entry d .pre .1 .0 .0)) (a .e) (o .1) (a .cause) (rows-of d) (place-at d) (d .before .before .row-count .ensures) (d .before .before .before .place-of .ensures) (d .before .is-unscored .result) (d .fails .result) (d .before .is-unscored .ensures) (d .fails .ensures)
+
+-- where the scan fills the index: the record's parts pass, and its pair has a place
+abbrev here : tie.Else2 → tie.After-fails
+here c = c .before .before
+
+parts : (c : tie.Else2) (book : List ℕ) → Of (here c) book
+    → (badPair (rows (entry (here c) .args .case .now)) (entries book) (entry (here c) .args .s .next) ≡ false)
+    × (badScores (rows (entry (here c) .args .case .now)) (entries book) (entry (here c) .args .s .next) ≡ false)
+parts c book o =
+    let d = here c in
+    let a = entry d .args in
+    good-parts (a .case .now) book (a .s .next) (comes (o .0) (entry d .pre .1 .0 .0)) (a .e) (o .1) (a .cause) (rows-of d) (place-at d) (d .before .before .row-count .ensures) (d .before .before .before .place-of .ensures) (d .before .is-unscored .result) (d .fails .result) (d .before .is-unscored .ensures) (d .fails .ensures) (c .before .if1 .left) (c .if2 .left)
+
+located : (c : tie.Else2) (book : List ℕ) → Of (here c) book
+    → Placed (entry (here c) .args .case .now) (entryAt book (entry (here c) .args .s .next) .student) (entryAt book (entry (here c) .args .s .next) .workshop) (place-at (here c))
+located c book o =
+    let d = here c in
+    let a = entry d .args in
+    located-by (a .case .now) book (a .s .next) (comes (o .0) (entry d .pre .1 .0 .0)) (a .e) (o .1) (a .cause) (rows-of d) (place-at d) (d .before .before .row-count .ensures) (d .before .before .before .place-of .ensures) (d .before .is-unscored .result) (d .fails .result) (d .before .is-unscored .ensures) (d .fails .ensures) (entry d .pre .0) (c .before .if1 .left) (c .if2 .left)
+
+first-pair : (c : tie.Else2) → entry (here c) .args .students + entry (here c) .args .workshops ≡ pairsFrom (entry (here c) .args .case .now)
+first-pair c = let p = entry (here c) .pre .0 in omega (arith, p .students, p .workshops)
+
+few-here : (c : tie.Else2) → entry (here c) .args .s .next ≤ 32768
+few-here c =
+    let start = entry (here c) in
+    let o = start .pre .1 .1 in
+    number-few (o .1) (start .pre .0) (start .pre .1 .0 .2) (start .pre .1 .0 .0) (c .if2 .left) (place-at (here c)) (located c (o .0) (o .1, o .2))
+
+spot : (c : tie.Else2)
+    → (let a = entry (here c) .args in let from = a .students + a .workshops in (from ≤ place-at (here c)) × (place-at (here c) - from < 32768) × (place-at (here c) - from < length (a .index .now)))
+spot c =
+    let start = entry (here c) in
+    let o = start .pre .1 .1 in
+    spot-inside (o .1) (start .pre .0) (start .pre .1 .0 .2) (start .pre .1 .0 .0) (c .if2 .left) (place-at (here c)) (located c (o .0) (o .1, o .2)) _ (first-pair c)
+
+place-of-requires : tie.Need-place-of-requires
+place-of-requires c κs = pairs-found _ _ _ (c .before .before .pre .0) (λ k. omega (arith, c .before .shared-slice-known .given k))
+
+row-count-requires : tie.Need-row-count-requires
+row-count-requires c κs = search needs
+
+is-unscored-requires : tie.Need-is-unscored-requires
+is-unscored-requires c κs = search needs
+
+fails-requires : tie.Need-fails-requires
+fails-requires c κs = search needs
+
+stopped-requires : tie.Need-stopped-requires
+stopped-requires c κs = search needs
+
+returns : tie.Need-returns
+returns c =
+    let start = c .before .before .before .before .before .before .before .before in (
+      rw (c .stopped .ensures) (start .pre .1 .0 .0),
+      λ book h q. rw (c .stopped .ensures) (scan-stop h (start .pre .1 .0 .0) (bad (c .before .before) book (h, q) (c .before .if1 .taken))),
+    )
+
+moved-requires : tie.Need-moved-requires
+moved-requires c κs = search needs
+
+returns-2 : tie.Need-returns-2
+returns-2 c =
+    let start = c .before .before .before .before .before .before .before .before .before in (
+      rw (c .moved .ensures) (omega (arith, start .pre .1 .0 .0)),
+      λ book h q. rw (c .moved .ensures) (scan-move h (start .pre .1 .0 .0) (good (c .before .before .before) book (h, q) (c .before .before .if1 .left) (c .before .if2 .taken)) (h .long) (λ f. never (c .before .if2 .taken) f)),
+    )
+
+add-k : tie.Need-add-k
+add-k c = let start = entry (here c) in omega (arith, few (start .args .case .now) (start .args .students) (start .args .workshops) (start .pre .0))
+
+sub-k : tie.Need-sub-k
+sub-k c = spot c .0
+
+mul-if3 : tie.Need-mul-if3
+mul-if3 c = omega (arith, spot c .1)
+
+slice-read-if3 : tie.Need-slice-read-if3
+slice-read-if3 c = spot (c .before) .2
+
+stopped-requires-2 : tie.Need-stopped-requires-2
+stopped-requires-2 c κs = search needs
+
+returns-3 : tie.Need-returns-3
+returns-3 c =
+    let d = c .before .before .before in
+    let start = entry (here d) in (
+      rw (c .stopped2 .ensures) (start .pre .1 .0 .0),
+      λ book h q. rw (c .stopped2 .ensures) (step-stop h (start .pre .0) (start .pre .1 .0 .2) (start .pre .1 .0 .0) (d .if2 .left) (place-at (here d)) (located d book (h, q)) _ (first-pair d) (c .before .if3 .taken)),
+    )
+
+add-index : tie.Need-add-index
+add-index c = search needs
+
+cast-index : tie.Need-cast-index
+cast-index c = omega (arith, few-here (c .before .before .before))
+
+mul-index : tie.Need-mul-index
+mul-index c = omega (arith, spot (c .before .before .before) .1)
+
+slice-write-index : tie.Need-slice-write-index
+slice-write-index c = spot (c .before .before .before) .2
+
+moved-requires-2 : tie.Need-moved-requires-2
+moved-requires-2 c κs = search needs
+
+same-length : tie.Need-same-length
+same-length c = search needs
+
+returns-4 : tie.Need-returns-4
+returns-4 c =
+    let d = c .before .before .before .before in
+    let start = entry (here d) in (
+      rw (c .moved2 .ensures) (omega (arith, start .pre .1 .0 .0)),
+      λ book h q. rw (c .moved2 .ensures) (step-fill h (start .pre .0) (start .pre .1 .0 .2) (start .pre .1 .0 .0) (d .if2 .left) (place-at (here d)) (located d book (h, q)) _ (first-pair d) (parts d book (h, q)) (c .before .before .if3 .left)),
+    )
+
+pub step-spec : {M : Type 1} → statement M
+step-spec =
+    tie.close
+    (tie.spec
+    place-of-requires
+    row-count-requires
+    is-unscored-requires
+    fails-requires
+    stopped-requires
+    returns
+    moved-requires
+    returns-2
+    add-k
+    sub-k
+    mul-if3
+    slice-read-if3
+    stopped-requires-2
+    returns-3
+    add-index
+    cast-index
+    mul-index
+    slice-write-index
+    moved-requires-2
+    same-length
+    returns-4)

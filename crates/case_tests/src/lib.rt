@@ -1,0 +1,104 @@
+// Causes 1 to 5, which look at the case alone.
+ghost use mathlib.Core.Path.{_≡_};
+ghost use mathlib.Core.Bool.{_||_};
+ghost use Prim.Native.Nat.{_%_};
+ghost use lib.ListN.{length};
+ghost use Rattle.format.specs.Layout.{rowCount};
+ghost use Rattle.format.specs.Refusals.{notWithin};
+ghost use Rattle.case_tests.specs.Checked.{checkedOf, caseRefusal};
+ghost use Rattle.case_tests.specs.Order.{Sound};
+
+mod order;
+mod scans;
+mod sound;
+
+pub enum Checked {
+    // The number of the cause, and the record's place.
+    Refused {
+        cause: u16,
+        record: usize,
+    },
+    Counts {
+        students: usize,
+        workshops: usize,
+        pairs: usize,
+    },
+}
+
+pub fn refused(cause: u16, at: usize) -> Checked
+    ensures { λ r. ⌜ r ≡ Checked.Refused cause at ⌝ }
+{
+    Checked::Refused { cause, record: at }
+}
+
+// 4: no student, over 512, no workshop, over 64.
+fn bad_counts(students: usize, workshops: usize) -> bool
+    ensures { λ v. ⌜ v ≡ (notWithin 1 512 students || notWithin 1 64 workshops) ⌝ }
+{
+    ((students < 1) | (512 < students)) | ((workshops < 1) | (64 < workshops))
+}
+
+// Causes 2 to 5, each over all records before the next.
+fn check_each(case: &[u8]) -> Checked
+    requires { ⌜ length (now case) % 16 ≡ 0 ⌝ }
+    ensures { λ r. ⌜ r ≡ checkedOf (caseRefusal (now (case .entry))) (now (case .entry)) ⌝ }
+{
+    let rows = records::row_count(case.len());
+    let form = scans::first_bad(2, case);
+    if form < rows {
+        return refused(2, form);
+    }
+    let order = order::first_out_of_order(case);
+    let at = order.at;
+    let students = order.students;
+    let workshops = order.workshops;
+    if at < rows {
+        return refused(3, at);
+    }
+    if bad_counts(students, workshops) {
+        return refused(4, 0);
+    }
+    let range = scans::first_bad(5, case);
+    if range < rows {
+        return refused(5, range);
+    }
+    Checked::Counts {
+        students,
+        workshops,
+        pairs: rows - students - workshops,
+    }
+}
+
+// Cause 4, where causes 2, 3 and 5 find nothing.
+fn check_counts(case: &[u8], students: usize, workshops: usize) -> Checked
+    requires { ⌜ length (now case) % 16 ≡ 0 ⌝ }
+    requires { ⌜ Sound (now case) (rowCount (now case)) students workshops ⌝ }
+    ensures { λ r. ⌜ r ≡ checkedOf (caseRefusal (now (case .entry))) (now (case .entry)) ⌝ }
+{
+    if bad_counts(students, workshops) {
+        refused(4, 0)
+    } else {
+        Checked::Counts {
+            students,
+            workshops,
+            pairs: records::row_count(case.len()) - students - workshops,
+        }
+    }
+}
+
+// Causes 1 to 5. One pass tells whether causes 2, 3 and 5 find nothing; else each looks for its first record.
+pub fn check_case(case: &[u8]) -> Checked
+    ensures { λ r. ⌜ r ≡ checkedOf (caseRefusal (now (case .entry))) (now (case .entry)) ⌝ }
+{
+    if case.len() % 16 != 0 {
+        return refused(1, 0);
+    }
+    let heads = sound::heads(case);
+    let at = heads.at;
+    let students = heads.students;
+    let workshops = heads.workshops;
+    if sound::pairs_sound(case, at, students, workshops) {
+        return check_counts(case, students, workshops);
+    }
+    check_each(case)
+}

@@ -1,0 +1,91 @@
+-- The table of causes from its parts, and the lengths that the case needs.
+use Prim.Native.Nat.{ℕ, _*_, _/_, _≤_}
+use mathlib.Core.Path.{_≡_, refl, sym, _∙_}
+use mathlib.Core.Bool.{true, false, _||_}
+use mathlib.Core.List.{List, [], _∷_, _++_}
+use mathlib.Core.Option.{Option, some, none}
+use native.Mathlib.Omega.{arith}
+use lib.ListN.{replicate}
+use lib.Dec.{ltb}
+use borrow.Author.Tests.{ltb-false}
+use Rattle.base.proofs.Tests.{or-false}
+use Rattle.base.proofs.Signed.{same-test}
+use Rattle.lgs.specs.Market.{allSeats}
+use Rattle.format.specs.Layout.{rows, ofKind, marketOf}
+use Rattle.format.specs.Causes.{Cause, finds, firstCause}
+use Rattle.format.specs.Refusals.{Room, needed, badRoom, caseCauses, roomCauses, bookCauses, causes, refusal}
+use Rattle.format.specs.Engine.{marketIn}
+use Rattle.case_tests.specs.declared.Checked.{Checked}
+use Rattle.case_tests.specs.declared.Checked.the-variants.{Refused}
+use Rattle.case_tests.specs.Checked.{checkedOf, pairCount, caseRefusal}
+use Rattle.case_tests.proofs.Cases.{refused-as}
+use Rattle.book_tests.specs.Index.{bookRefusal}
+use Rattle.intake.specs.Tested.{Tested}
+
+-- visits, of which a pair needs two
+pub half-less : (a b : ℕ) → ltb (a / 2) b ≡ ltb a (2 * b)
+half-less a b = same-test (a / 2) b a (2 * b) (λ l. omega arith) (λ l. omega arith)
+
+-- ---- two tables in one
+
+none-some : {A : Type 0} (r : ℕ × ℕ) → none ≡ some r → A
+none-some r e = let z : _≡_ {A = ℕ} 0 1 = cc in absurd (omega arith)
+
+-- what the first part finds is found, and where it finds nothing the second is left
+first-left : (cs ds : List Cause) (r : ℕ × ℕ) → firstCause cs ≡ some r → firstCause (cs ++ ds) ≡ some r
+first-left [] ds r e = none-some r e
+first-left ((k, t) ∷ cs) ds r e = go (finds t) refl (λ q. first-left cs ds r q)
+  where
+    go : (o : Option ℕ) → finds t ≡ o → (firstCause cs ≡ some r → firstCause (cs ++ ds) ≡ some r) → firstCause ((k, t) ∷ (cs ++ ds)) ≡ some r
+    go none f rest = rw (f, firstCause) (rest (rw (f, firstCause) at e))
+    go (some i) f rest = rw (f, firstCause) (rw (f, firstCause) at e)
+
+first-right : (cs ds : List Cause) → firstCause cs ≡ none → firstCause (cs ++ ds) ≡ firstCause ds
+first-right [] ds e = refl
+first-right ((k, t) ∷ cs) ds e = go (finds t) refl (λ q. first-right cs ds q)
+  where
+    go : (o : Option ℕ) → finds t ≡ o → (firstCause cs ≡ none → firstCause (cs ++ ds) ≡ firstCause ds) → firstCause ((k, t) ∷ (cs ++ ds)) ≡ firstCause ds
+    go none f rest = rw (f, firstCause) (rest (rw (f, firstCause) at e))
+    go (some i) f rest = let g : _≡_ {A = Option (ℕ × ℕ)} (some (k, i)) none = rw (f, firstCause) at e in none-some (k, i) (sym g)
+
+module _ (case book : List ℕ) (room : Room) where
+  pub refusal-case : (r : ℕ × ℕ) → caseRefusal case ≡ some r → refusal case book room ≡ some r
+  unfolding refusal causes
+  refusal-case r e = first-left (caseCauses case) (roomCauses case room ++ bookCauses case book) r e
+
+  module _ (e : caseRefusal case ≡ none) where
+    pub refusal-room : badRoom (rows case) room ≡ true → refusal case book room ≡ some (6, 0)
+    unfolding refusal causes roomCauses
+    refusal-room b =
+        first-right (caseCauses case) (roomCauses case room ++ bookCauses case book) e ∙ first-left (roomCauses case room) (bookCauses case book) (6, 0) found
+      where
+        found : firstCause (roomCauses case room) ≡ some (6, 0)
+        found = rw b
+
+    pub refusal-book : badRoom (rows case) room ≡ false → refusal case book room ≡ bookRefusal case book
+    unfolding refusal causes roomCauses
+    refusal-book b =
+        first-right (caseCauses case) (roomCauses case room ++ bookCauses case book) e ∙ first-right (roomCauses case room) (bookCauses case book) found
+      where
+        found : firstCause (roomCauses case room) ≡ none
+        found = rw b
+
+  -- a refusal, and the index zero with it
+  pub refused-tested : {k i : ℕ} {r : Checked} {index : List ℕ} → refusal case book room ≡ some (k, i) → r ≡ Refused k i → index ≡ replicate (room .index) 0
+      → Tested case book room r index
+  refused-tested {k} {i} e a b = record { answer = a ∙ sym (refused-as case (refusal case book room) k i e); left = rw e b }
+
+-- the lengths that the case needs
+pub room-is : (case : List ℕ) (r : Room) (n p q : ℕ) → n ≡ marketIn case .students → p ≡ pairCount case → q ≡ allSeats (marketIn case)
+    → badRoom (rows case) r ≡ (ltb (r .places) n || (ltb (r .visits) (2 * p) || (ltb (r .seats) q || (ltb (r .index) p || ltb (r .states) n))))
+unfolding badRoom needed
+room-is case r n p q a b d = rw (d, a, b)
+
+-- an index long enough
+pub room-index : (case : List ℕ) (r : Room) → badRoom (rows case) r ≡ false → pairCount case ≤ r .index
+unfolding badRoom needed
+room-index case r e =
+    let a = or-false (ltb (r .places) _) _ e .1 in
+    let b = or-false (ltb (r .visits) _) _ a .1 in
+    let d = or-false (ltb (r .seats) _) _ b .1 in
+    ltb-false _ _ (or-false (ltb (r .index) (pairCount case)) _ d .0)

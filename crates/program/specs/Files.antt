@@ -1,0 +1,27 @@
+-- Of which file the outcome of a reading tells.
+use Prim.Native.Nat.{ℕ, _≤_, _<_}
+use mathlib.Core.List.{List}
+use mathlib.Core.Option.{Option, some, none}
+use lib.ListN.{length, take}
+use Rattle.program.specs.declared.FileRead.{FileRead}
+use Rattle.program.specs.declared.FileRead.the-variants.{Bytes, Failed}
+
+-- The file that was read into the buffer: none where it is missing or cannot be read. Of a file that fills the buffer these are its first bytes,
+-- for which the program prints what it prints for the whole file (`cut-same`).
+abbrev pub fileOf : FileRead → List ℕ → Option (List ℕ)
+fileOf (Bytes n) buffer = some (take n buffer)
+fileOf Failed buffer = none
+
+-- the buffer has the bytes that were read
+abbrev pub Within : FileRead → List ℕ → Type 0
+Within (Bytes n) buffer = n ≤ length buffer
+Within Failed buffer = Unit {0}
+
+-- and it shows whether the file is longer than allowed
+abbrev pub Shows : FileRead → List ℕ → Type 0
+Shows r buffer = Within r buffer × (65536 < length buffer)
+
+-- how many bytes were read, and more than allowed where the file cannot be read
+abbrev pub sizeOf : FileRead → ℕ
+sizeOf (Bytes n) = n
+sizeOf Failed = 65537

@@ -1,0 +1,15 @@
+-- `records::fourth_at` meets its contract. The field by its number.
+use Rattle.format.specs.Layout.{rowAt}
+use borrow.Author.Needs.{needs}
+use Rattle.records.proofs.fourth_at.Statement.{statement}
+use Rattle.records.proofs.fourth_at.Tie as tie
+
+field-at-requires : tie.Need-field-at-requires
+field-at-requires c κs = search needs
+
+returns : tie.Need-returns
+unfolding rowAt
+returns c = c .field-at .ensures
+
+pub fourth-at-spec : {M : Type 1} → statement M
+fourth-at-spec = tie.close (tie.spec field-at-requires returns)
