@@ -16,7 +16,7 @@ use Rattle.base.specs.Bits.{bit, member}
 use Rattle.base.proofs.Tests.{bool-cases, is-false, never, and-make, or-false, less?}
 use Rattle.base.proofs.Counting.{count-same}
 use Rattle.base.proofs.Below.{any-at}
-use Rattle.base.proofs.Search.{end-some, first-passes}
+use Rattle.base.proofs.Search.{end-some, end-none, first-passes}
 use Rattle.base.proofs.Digits.{bit-zero, bit-and, bit-not, ones-count, one-shifted}
 use Rattle.format.specs.Layout.{rowAt, rowCount, rows, isPair, marketOf}
 use Rattle.format.specs.Engine.{marketIn}
@@ -33,6 +33,12 @@ pair-there case s w e =
     let l : pairPlace case s w < rowCount case = ltb-true _ _ (sym (pair-any case s w) ∙ e) in
     let p : ℕ → Bool = λ k. isPair s w (rowAt case k) in
     (l, first-passes p (rowCount case) (pairPlace case s w) (end-some p (rowCount case) l))
+
+pub no-pair : (case : List ℕ) (s w : ℕ) → marketIn case .paired s w ≡ false → rowCount case ≡ pairPlace case s w
+unfolding marketOf
+no-pair case s w e =
+    let l : rowCount case ≤ pairPlace case s w = ltb-false _ _ (sym (pair-any case s w) ∙ e) in
+    rw (end-none (λ k. isPair s w (rowAt case k)) (rowCount case) l)
 
 pair-by : (case : List ℕ) (s w k : ℕ) → k < rowCount case → isPair s w (rowAt case k) ≡ true → marketIn case .paired s w ≡ true
 unfolding rows marketOf
