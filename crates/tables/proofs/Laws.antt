@@ -1,5 +1,5 @@
 -- The table while it is made: one pair more, by `note`, and the starts of the seats, by `note_starts`.
-use Prim.Native.Nat.{ℕ, zero, suc, _+_, _-_, _*_, _^_, _≤_, _<_}
+use Prim.Native.Nat.{ℕ, zero, suc, _+_, _-_, _^_, _≤_, _<_}
 use mathlib.Core.Path.{_≡_, refl, sym, ap, _∙_}
 use mathlib.Core.Logic.{⊎-elim}
 use mathlib.Core.Bool.{Bool, true, false, cond, _&&_, _||_}
@@ -9,14 +9,14 @@ use lib.Dec.{eqb}
 use lib.ListN.{length, getD, set, replicate, length-set, length-replicate}
 use lib.Seq.{getD-set-same, getD-set-other}
 use borrow.Author.Tests.{eq-eqb, ne-eqb, eqb-true}
-use Rattle.base.specs.Lists.{one, count, total}
+use Rattle.base.specs.Lists.{count, total}
 use Rattle.base.specs.Bits.{member}
 use Rattle.base.proofs.Tests.{is-false, never, and-left, and-right, and-make, or-true, or-left, or-right, eq?, less?}
 use Rattle.base.proofs.Counting.{find?, count-same, count-more, count-none}
 use Rattle.base.proofs.Digits.{bit-zero, count-empty}
 use Rattle.lgs.specs.Market.{Market, seatsOf, seatsBefore}
 use Rattle.format.specs.Engine.{marketIn}
-use Rattle.tables.specs.Table.{setOf, firstOf, startOf, pairsUpTo, Blank, Rise, Added, Noted, Started}
+use Rattle.tables.specs.Table.{setOf, firstOf, pairsUpTo, Blank, Rise, Added, Noted, Started}
 
 -- nobody is in the set 0
 pub member-zero : (x : ℕ) → member 0 x ≡ false

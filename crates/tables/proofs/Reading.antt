@@ -5,13 +5,12 @@ use mathlib.Core.Logic.{⊎-elim}
 use mathlib.Core.Bool.{Bool, true, false, _&&_, _||_}
 use mathlib.Core.List.{List}
 use native.Mathlib.Omega.{arith}
-use lib.Dec.{eqb, ltb}
-use lib.ListN.{length, getD}
+use lib.Dec.{ltb}
 use lib.Bits.{bitAnd, mask-lt}
 use lib.Count.{ones}
 use lib.Pow.{pow-pos}
 use borrow.Author.Tests.{eq-eqb, ltb-true, ltb-false, le-ltb}
-use Rattle.base.specs.Lists.{one, count}
+use Rattle.base.specs.Lists.{count}
 use Rattle.base.specs.Bits.{bit, member}
 use Rattle.base.proofs.Tests.{bool-cases, is-false, never, and-make, or-false, less?}
 use Rattle.base.proofs.Counting.{count-same}

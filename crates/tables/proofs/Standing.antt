@@ -1,10 +1,10 @@
 -- A case that passed causes 2 to 5 has its records where the table's maker needs them.
-use Prim.Native.Nat.{ℕ, _+_, _*_, _≤_, _<_}
+use Prim.Native.Nat.{ℕ, _≤_, _<_}
 use mathlib.Core.Path.{_≡_, refl}
 use mathlib.Core.Logic.{⊎-elim}
 use mathlib.Core.List.{List}
 use native.Mathlib.Omega.{arith}
-use Rattle.format.specs.Layout.{rowAt, rowCount}
+use Rattle.format.specs.Layout.{rowCount}
 use Rattle.format.specs.Engine.{marketIn}
 use Rattle.format.proofs.Sorted.{Clean}
 use Rattle.format.proofs.Positions.{people, places, quota-at, pair-from, pair-names, pairs-rise}

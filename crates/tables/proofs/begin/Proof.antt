@@ -1,5 +1,4 @@
 -- `tables::begin` meets its contract. Each arm by the test.
-use mathlib.Core.Bool.{cond}
 use borrow.Author.Tests.{eq-eqb, ne-eqb}
 use Rattle.tables.proofs.begin.Statement.{statement}
 use Rattle.tables.proofs.begin.Tie as tie

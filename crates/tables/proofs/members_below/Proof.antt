@@ -1,9 +1,8 @@
 -- `tables::members_below` meets its contract. The ones under the mask are the members below w (`below-law`).
-use Prim.Native.Nat.{_-_, _^_}
+use Prim.Native.Nat.{_-_}
 use native.Mathlib.Omega.{arith}
 use borrow.Author.Needs.{needs}
 use lib.Pow.{pow-pos}
-use Rattle.base.specs.Lists.{count}
 use Rattle.base.specs.Bits.{member}
 use Rattle.base.proofs.Counting.{count-le}
 use Rattle.base.proofs.Digits.{one-shifted}
