@@ -13,7 +13,7 @@ use borrow.Author.Tests.{eq-eqb, ne-eqb}
 use Rattle.base.specs.Lists.{upto}
 use Rattle.base.proofs.Members.{map-append}
 use Rattle.lgs.specs.Market.{Market, Results}
-use Rattle.lgs.specs.Rule.{Interview, finished, fuel}
+use Rattle.lgs.specs.Rule.{Interview, fuel}
 use Rattle.lgs.specs.Promises.{pairsIn}
 use Rattle.format.specs.Layout.{rows, marketOf}
 use Rattle.format.specs.Refusals.{Room, refusal}

@@ -1,5 +1,5 @@
 -- The walk through a workshop's part of the seats, and the part itself.
-use Prim.Native.Nat.{ℕ, zero, suc, _+_, _-_, _≤_, _<_, min}
+use Prim.Native.Nat.{ℕ, suc, _+_, _-_, _≤_, _<_, min}
 use mathlib.Core.Path.{_≡_, refl, sym, ap, _∙_}
 use mathlib.Core.Logic.{⊎-elim}
 use mathlib.Core.Bool.{Bool, true, false, _&&_, _||_}
@@ -25,7 +25,8 @@ pub record Stands (M : Market) (B : Results) (w x t : ℕ) (a : ℤ) : Type 0 wh
   pub tier : t ≡ M .workshopTier w x
   pub score : biased a ≡ B .workshopScore w x
 
-pub before-by : (M : Market) (B : Results) (w x y t u : ℕ) (a b : ℤ) → Stands M B w x t a → Stands M B w y u b → (r : Bool) → r ≡ (ltb t u || (eqb t u && ltb (biased b) (biased a))) → before M B w x y ≡ r
+pub before-by : (M : Market) (B : Results) (w x y t u : ℕ) (a b : ℤ) → Stands M B w x t a → Stands M B w y u b → (r : Bool) → r ≡
+    (ltb t u || (eqb t u && ltb (biased b) (biased a))) → before M B w x y ≡ r
 unfolding before outscored
 before-by M B w x y t u a b p q r e = sym (e ∙ rw (p .tier, p .score, q .tier, q .score))
 
@@ -82,7 +83,8 @@ module _ (M : Market) (B : Results) (w x : ℕ) (l : List ℕ) where
             within = omega arith;
             long = length-set part i hand ∙ p .long;
             rest = drop-set-lt (suc i) part i hand (omega arith) ∙ rest-there;
-            list = p .list ∙ rw (before-seat, ne-eqb (getD part i 0) 0 z, q, take-suc-set part i hand in-part) (sym (append-snoc (take i part) hand (pushPadded M B w (getD part i 0) (drop (suc i) l) .0)));
+            list = p .list ∙ rw (before-seat, ne-eqb (getD part i 0) 0 z, q, take-suc-set part i hand in-part)
+                (sym (append-snoc (take i part) hand (pushPadded M B w (getD part i 0) (drop (suc i) l) .0)));
             out = p .out ∙ rw (before-seat, ne-eqb (getD part i 0) 0 z, q);
           })
 
@@ -94,7 +96,8 @@ module _ (M : Market) (B : Results) (w x : ℕ) (l : List ℕ) where
             within = omega arith;
             long = p .long;
             rest = rest-there;
-            list = p .list ∙ rw (before-seat, ne-eqb (getD part i 0) 0 z, q, take-suc part i 0 in-part) (sym (append-snoc (take i part) (getD part i 0) (pushPadded M B w hand (drop (suc i) l) .0)));
+            list = p .list ∙ rw (before-seat, ne-eqb (getD part i 0) 0 z, q, take-suc part i 0 in-part)
+                (sym (append-snoc (take i part) (getD part i 0) (pushPadded M B w hand (drop (suc i) l) .0)));
             out = p .out ∙ rw (before-seat, ne-eqb (getD part i 0) 0 z, q);
           })
 

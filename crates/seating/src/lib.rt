@@ -117,8 +117,10 @@ pub fn seat_at(
     requires { ⌜ Clean (now case) (now book) (now index) students workshops ⌝ }
     requires { ⌜ Booked (marketIn (now case)) (resultsIn (now book)) x w ⌝ }
     requires { ⌜ seatsBefore (marketIn (now case)) w + seatsOf (marketIn (now case)) w ≤ length (now seats) ⌝ }
-    requires { ⌜ ((i : ℕ) → i < seatsOf (marketIn (now case)) w → 0 < getD (part (marketIn (now case)) (now seats) w) i 0 → Booked (marketIn (now case)) (resultsIn (now book)) (getD (part (marketIn (now case)) (now seats) w) i 0) w) ⌝ }
-    ensures { λ r. ⌜ now (seats .exit) ≡ putPart (marketIn (now (case .entry))) (now (seats .entry)) w (pushPadded (marketIn (now (case .entry))) (resultsIn (now (book .entry))) w x (part (marketIn (now (case .entry))) (now (seats .entry)) w) .0) ⌝ }
+    requires { ⌜ ((i : ℕ) → i < seatsOf (marketIn (now case)) w → 0 < getD (part (marketIn (now case)) (now seats) w) i 0
+        → Booked (marketIn (now case)) (resultsIn (now book)) (getD (part (marketIn (now case)) (now seats) w) i 0) w) ⌝ }
+    ensures { λ r. ⌜ now (seats .exit) ≡ putPart (marketIn (now (case .entry))) (now (seats .entry)) w
+        (pushPadded (marketIn (now (case .entry))) (resultsIn (now (book .entry))) w x (part (marketIn (now (case .entry))) (now (seats .entry)) w) .0) ⌝ }
     ensures { λ r. ⌜ r ≡ pushPadded (marketIn (now (case .entry))) (resultsIn (now (book .entry))) w x (part (marketIn (now (case .entry))) (now (seats .entry)) w) .1 ⌝ }
 {
     let a = start_of(case, students, w);

@@ -52,7 +52,11 @@ module _ (stage : ℕ → ℕ) (s t : ℕ) (a : 1 ≤ s) (b : s < t) (e : stage 
   unfolding comesAfter
   after-says k c =
       ⊎-elim (λ z. absurd (omega (arith, eqb-true s 0 z)))
-      (λ r. ⊎-elim (λ l. inl (ltb-true _ _ l)) (λ d. inr (eqb-true _ _ (and-left (eqb (stage s) (stage k)) _ d), ltb-true _ _ (and-right (eqb (stage s) (stage k)) _ d))) (or-true (ltb (stage s) (stage k)) _ r))
+      (λ r. ⊎-elim (λ l. inl (ltb-true _ _ l)) (λ d. inr (
+        eqb-true _ _ (and-left (eqb (stage s) (stage k)) _ d),
+        ltb-true _ _
+            (and-right (eqb (stage s) (stage k)) _ d),
+      )) (or-true (ltb (stage s) (stage k)) _ r))
       (or-true (eqb s 0) _ c)
 
   -- whoever is found before t has a later stage
@@ -79,14 +83,17 @@ module _ (stage : ℕ → ℕ) (s t : ℕ) (a : 1 ≤ s) (b : s < t) (e : stage 
       let c : comesAfter stage s (suc n) ≡ true = rw q at same-after in
       let d : (eqb (nextIn stage s n) 0 || ltb (stage (suc n)) (stage (nextIn stage s n))) ≡ true =
       ⊎-elim (λ (z : nextIn stage s n ≡ 0). or-left (eqb (nextIn stage s n) 0) _ (eq-eqb (nextIn stage s n) 0 z))
-      (λ (u : stage s < stage (nextIn stage s n)). or-right (eqb (nextIn stage s n) 0) _ (lt-ltb (stage (suc n)) (stage (nextIn stage s n)) (omega (arith, e, ap stage q)))) (later n (omega arith)) in
+      (λ (u : stage s < stage (nextIn stage s n)). or-right (eqb (nextIn stage s n) 0) _
+      (lt-ltb (stage (suc n)) (stage (nextIn stage s n)) (omega (arith, e, ap stage q)))) (later n (omega arith)) in
       q ∙ sym (next-on n true (and-make c d)))
       (λ (q : t < suc n).
       let h : t ≡ nextIn stage s n = next-same n (omega arith) in
-      h ∙ sym (next-on n false (is-false (better n) (λ d. worse n h (after-says (suc n) (and-left (comesAfter stage s (suc n)) _ d)) (or-true (eqb (nextIn stage s n) 0) _ (and-right (comesAfter stage s (suc n)) _ d))))))
+      h ∙ sym (next-on n false (is-false (better n) (λ d. worse n h (after-says (suc n) (and-left (comesAfter stage s (suc n)) _ d))
+      (or-true (eqb (nextIn stage s n) 0) _ (and-right (comesAfter stage s (suc n)) _ d))))))
       (eq-or-lt-of-le l)
     where
-      worse : (n : ℕ) → t ≡ nextIn stage s n → (stage s < stage (suc n)) ⊎ ((stage s ≡ stage (suc n)) × (s < suc n)) → (eqb (nextIn stage s n) 0 ≡ true) ⊎ (ltb (stage (suc n)) (stage (nextIn stage s n)) ≡ true) → ⊥
+      worse : (n : ℕ) → t ≡ nextIn stage s n → (stage s < stage (suc n)) ⊎ ((stage s ≡ stage (suc n)) × (s < suc n)) →
+          (eqb (nextIn stage s n) 0 ≡ true) ⊎ (ltb (stage (suc n)) (stage (nextIn stage s n)) ≡ true) → ⊥
       worse n h c (inl z) = omega (arith, eqb-true (nextIn stage s n) 0 z, h)
       worse n h (inl c) (inr z) = omega (arith, ltb-true (stage (suc n)) (stage (nextIn stage s n)) z, ap stage h, e)
       worse n h (inr c) (inr z) = omega (arith, ltb-true (stage (suc n)) (stage (nextIn stage s n)) z, ap stage h, e)
@@ -116,7 +123,8 @@ module _ (M : Market) (B : Results) (s start set : ℕ) where
   pub best-start : (top : ℤ) → set < 2 ^ 64 → biased top ≡ B .studentScore s start → ((w : ℕ) → member set w ≡ true → Booked M B s w) → Best M B s start set start top set
   best-start top h e k = record { small = h; score = e; same = refl; known = k }
 
-  module _ (c rest rest′ w : ℕ) (top score : ℤ) (b : Best M B s start set c top rest) (low : Low rest w) (f : (x : ℕ) → member rest′ x ≡ (member rest x && not (eqb x w))) (h : rest′ < 2 ^ 64) (e : biased score ≡ B .studentScore s w) where
+  module _ (c rest rest′ w : ℕ) (top score : ℤ) (b : Best M B s start set c top rest) (low : Low rest w)
+      (f : (x : ℕ) → member rest′ x ≡ (member rest x && not (eqb x w))) (h : rest′ < 2 ^ 64) (e : biased score ≡ B .studentScore s w) where
     known′ : (x : ℕ) → member rest′ x ≡ true → Booked M B s x
     known′ x q = b .known x (and-left (member rest x) _ (sym (f x) ∙ q))
 

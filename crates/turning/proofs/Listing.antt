@@ -67,7 +67,15 @@ pub record Listing (case : List ℕ) (s t m : ℕ) (oldPairs oldStarts pairs sta
 
 module _ (case : List ℕ) (s t m : ℕ) (oldPairs oldStarts : List ℕ) where
   pub listing-start : Listing case s t m oldPairs oldStarts oldPairs oldStarts 0 0 0
-  listing-start = record { within = omega arith; listed = list-start case s t oldPairs oldStarts; seats = sym (before-first (marketIn case)); small = omega arith; samePairs = refl; sameStarts = refl }
+  listing-start = record {
+    within = omega arith;
+    listed = list-start case s t oldPairs oldStarts;
+    seats = sym (before-first (marketIn case));
+    small =
+        omega arith;
+    samePairs = refl;
+    sameStarts = refl;
+  }
 
   module _ (pairs starts : List ℕ) (n from k : ℕ) (i : Listing case s t m oldPairs oldStarts pairs starts n from k) where
     pub listing-few : n ≤ k
@@ -108,8 +116,16 @@ next f a zero l h = let e : a ≡ 0 = omega arith in let z : count f 0 < count f
 next f a (suc m) l h =
     ⊎-elim
     (λ (q : a < suc m).
-    ⊎-elim (λ (b : count f a < count f m). let n : Next f a m = next f a m (omega arith) b in record { at = n .at; from = n .from; to = omega (arith, n .to); passes = n .passes; same = n .same })
-    (λ (b : count f m ≤ count f a). record { at = m; from = omega arith; to = omega arith; passes = last (f (suc m)) refl b; same = omega (arith, count-to f a m (omega arith)) }) (less? (count f a) (count f m)))
+    ⊎-elim (λ (b : count f a < count f m). let n : Next f a m = next f a m (omega arith) b in record
+    { at = n .at; from = n .from; to = omega (arith, n .to); passes = n .passes; same = n .same })
+    (λ (b : count f m ≤ count f a). record {
+      at = m;
+      from = omega arith;
+      to = omega arith;
+      passes = last (f (suc m)) refl b;
+      same = omega
+          (arith, count-to f a m (omega arith));
+    }) (less? (count f a) (count f m)))
     (λ (q : suc m ≤ a). let e : a ≡ suc m = omega arith in let z : count f (suc m) < count f (suc m) = rw e at h in absurd (omega arith))
     (less? a (suc m))
   where
@@ -135,7 +151,8 @@ module _ (M : Market) (B : Results) (seats : List ℕ) (s t set held : ℕ) (old
       none false n q = n
       none true n q = absurd (omega (arith, count-to (inTier M s t) a b (omega arith), ap one n))
 
-  round-passed : (a b : ℕ) → a ≤ b → count (inTier M s t) b ≡ count (inTier M s t) a → Rounding M B seats s t set held old visits total openings a → Rounding M B seats s t set held old visits total openings b
+  round-passed : (a b : ℕ) → a ≤ b → count (inTier M s t) b ≡ count (inTier M s t) a → Rounding M B seats s t set held old visits total openings a →
+      Rounding M B seats s t set held old visits total openings b
   round-passed a b l e r =
       let q : roundTo M B seats s t set b ≡ roundTo M B seats s t set a = passed a b l e in
       record { all = rw q (r .all); sets = rw q (r .sets); on = rw q (r .on); written = rw q (r .written) }

@@ -5,7 +5,6 @@ use mathlib.Core.Logic.{⊎-elim}
 use mathlib.Core.Bool.{Bool, true, false, cond}
 use mathlib.Core.List.{List, [], _∷_, _++_}
 use native.Mathlib.Omega.{arith}
-use native.Mathlib.Numerals.{add-one}
 use lib.Dec.{eqb}
 use lib.ListN.{length, length-append}
 use borrow.Author.Tests.{eq-eqb, ne-eqb}
@@ -140,7 +139,12 @@ module _ (M : Market) (B : Results) (seats : List ℕ) (s t set held : ℕ) (old
           round-held m =
               let vs : List Interview = roundTo M B seats s t set k .interviews in
               let q : roundTo M B seats s t set w
-              ≡ record { interviews = vs ++ ((s, w) ∷ []); openings = cond (unopened M B s w) (roundTo M B seats s t set k .openings) (withMember (roundTo M B seats s t set k .openings) w); missing = 0 } = rw e (taken M B seats s t set k (r .on) due-next (rw e at m)) in
+              ≡ record {
+                interviews = vs ++ ((s, w) ∷ []);
+                openings = cond (unopened M B s w) (roundTo M B seats s t set k .openings)
+                    (withMember (roundTo M B seats s t set k .openings) w);
+                missing = 0;
+              } = rw e (taken M B seats s t set k (r .on) due-next (rw e at m)) in
               record { all = rw q (omega (arith, r .all, length-append vs ((s, w) ∷ []))); sets = rw (q, r .sets); on = rw q; written = rw q more }
 
           -- it is missing, and the round stops
@@ -153,5 +157,10 @@ module _ (M : Market) (B : Results) (seats : List ℕ) (s t set held : ℕ) (old
               whole : roundTo M B seats s t set n ≡ record { interviews = roundTo M B seats s t set k .interviews; openings = roundTo M B seats s t set k .openings; missing = suc k }
               whole = stays M B seats s t set (suc k) n l (λ z. let y : suc k ≡ 0 = rw q at z in omega arith) ∙ q
 
-              same : _≡_ {A = Round} (record { count = total; openings = openings; missing = w }) (record { count = held + length (roundTo M B seats s t set k .interviews); openings = roundTo M B seats s t set k .openings; missing = suc k })
+              same : _≡_ {A = Round} (record { count = total; openings = openings; missing = w })
+                  (record {
+                    count = held + length (roundTo M B seats s t set k .interviews);
+                    openings = roundTo M B seats s t set k .openings;
+                    missing = suc k;
+                  })
               same = rw (r .all, r .sets, e)

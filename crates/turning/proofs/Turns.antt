@@ -7,8 +7,7 @@ use mathlib.Core.List.{List, [], _∷_}
 use mathlib.Core.List.{List·Memᴰ as Mem, List·Memᴰ·head as here, List·Memᴰ·tail as later}
 use native.Mathlib.Omega.{arith}
 use lib.Dec.{eqb, ltb}
-use lib.ListN.{length, getD, drop}
-use lib.Seq.{getD-take, getD-drop}
+use lib.ListN.{length, getD}
 use borrow.Author.Tests.{eq-eqb, ne-eqb, eqb-false, not-true}
 use Rattle.base.specs.Lists.{count, upto}
 use Rattle.base.specs.Bits.{member, members}
@@ -111,7 +110,8 @@ module _ (M : Market) (B : Results) (visits seats : List ℕ) (k : StudentState)
     open-visits new a = a ∙ sym (rw same-round)
 
   -- she applies to workshop c, or to nobody
-  pub apply-none : (c : ℕ) (next : Run) → c ≡ 0 → next ≡ nextRun M B r → (record { state = k; run = next } ≡ applyTo M B visits seats k r c .turned) × (seats ≡ applyTo M B visits seats k r c .seats)
+  pub apply-none : (c : ℕ) (next : Run) → c ≡ 0 → next ≡ nextRun M B r → (record { state = k; run = next } ≡ applyTo M B visits seats k r c .turned) ×
+      (seats ≡ applyTo M B visits seats k r c .seats)
   unfolding applyTo
   apply-none c next z e = rw (z, e) (refl, refl)
 
@@ -120,7 +120,8 @@ module _ (M : Market) (B : Results) (visits seats : List ℕ) (k : StudentState)
       → new ≡ putPart M seats c (pushPadded M B c (r .hand) (part M seats c) .0)
       → x ≡ pushPadded M B c (r .hand) (part M seats c) .1
       → next ≡ afterSeating M B r c x
-      → (record { state = record { reached = k .reached; held = c; openings = k .openings }; run = next } ≡ applyTo M B visits seats k r c .turned) × (new ≡ applyTo M B visits seats k r c .seats)
+      → (record { state = record { reached = k .reached; held = c; openings = k .openings }; run = next } ≡ applyTo M B visits seats k r c .turned) ×
+      (new ≡ applyTo M B visits seats k r c .seats)
   unfolding applyTo
   apply-some zero x new next z a b e = absurd (z refl)
   apply-some (suc c) x new next z a b e = (rw (e, b), a)

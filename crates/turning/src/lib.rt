@@ -234,7 +234,8 @@ fn is_shut(
     requires { ⌜ PairsFound (now case) students workshops ⌝ }
     requires { ⌜ SeatsAt (now case) (now seats) students w ⌝ }
     requires { ⌜ (from ≡ seatsBefore (marketIn (now case)) w) × (many ≡ seatsOf (marketIn (now case)) w) ⌝ }
-    ensures { λ r. ⌜ ((B : Results) (s : ℕ) → tier ≡ marketIn (now (case .entry)) .workshopTier w s → r ≡ shutBy (marketIn (now (case .entry))) B (lastOf (marketIn (now (case .entry))) (now (seats .entry)) w) s w) ⌝ }
+    ensures { λ r. ⌜ ((B : Results) (s : ℕ) → tier ≡ marketIn (now (case .entry)) .workshopTier w s
+        → r ≡ shutBy (marketIn (now (case .entry))) B (lastOf (marketIn (now (case .entry))) (now (seats .entry)) w) s w) ⌝ }
 {
     if many == 0 {
         return true;
@@ -251,7 +252,9 @@ fn is_shut(
 fn is_unopened(case: &[u8], book: &[u8], students: usize, w: usize, pair: usize, e: usize) -> bool
     requires { ⌜ WorkshopAt (now case) students w ⌝ }
     requires { ⌜ (pair < rowCount (now case)) × (1 ≤ e) × (e ≤ entryCount (now book)) ⌝ }
-    ensures { λ r. ⌜ ((s : ℕ) → rowAt (now (case .entry)) pair .fourth ≡ marketIn (now (case .entry)) .workshopTier w s → entryAt (now (book .entry)) (e - 1) .workshopScore ≡ resultsIn (now (book .entry)) .workshopScore w s → r ≡ unopened (marketIn (now (case .entry))) (resultsIn (now (book .entry))) s w) ⌝ }
+    ensures { λ r. ⌜ ((s : ℕ) → rowAt (now (case .entry)) pair .fourth ≡ marketIn (now (case .entry)) .workshopTier w s
+        → entryAt (now (book .entry)) (e - 1) .workshopScore ≡ resultsIn (now (book .entry)) .workshopScore w s
+        → r ≡ unopened (marketIn (now (case .entry))) (resultsIn (now (book .entry))) s w) ⌝ }
 {
     if lookup::workshop_tier(case, pair) == lookup::workshop_outside(case, students, w) {
         records::negative(lookup::workshop_score(book, e))
@@ -289,7 +292,9 @@ fn opened(
 ) -> u64
     requires { ⌜ (w ≤ 64) × WorkshopAt (now case) students w ⌝ }
     requires { ⌜ (pair < rowCount (now case)) × (1 ≤ e) × (e ≤ entryCount (now book)) ⌝ }
-    ensures { λ r. ⌜ ((s : ℕ) → rowAt (now (case .entry)) pair .fourth ≡ marketIn (now (case .entry)) .workshopTier w s → entryAt (now (book .entry)) (e - 1) .workshopScore ≡ resultsIn (now (book .entry)) .workshopScore w s → r ≡ cond (unopened (marketIn (now (case .entry))) (resultsIn (now (book .entry))) s w) set (withMember set w)) ⌝ }
+    ensures { λ r. ⌜ ((s : ℕ) → rowAt (now (case .entry)) pair .fourth ≡ marketIn (now (case .entry)) .workshopTier w s
+        → entryAt (now (book .entry)) (e - 1) .workshopScore ≡ resultsIn (now (book .entry)) .workshopScore w s
+        → r ≡ cond (unopened (marketIn (now (case .entry))) (resultsIn (now (book .entry))) s w) set (withMember set w)) ⌝ }
 {
     if is_unopened(case, book, students, w, pair, e) {
         return set;
@@ -351,7 +356,8 @@ fn hold_round(
     requires { ⌜ ((w : ℕ) → 1 ≤ w → w ≤ workshops → SeatsAt (now case) (now seats) students w) ⌝ }
     requires { ⌜ 2 * (held + count (dueAt (marketIn (now case)) (resultsIn (now book)) (now seats) s tier) workshops) ≤ length (now visits) ⌝ }
     ensures { λ r. ⌜ r ≡ roundOf held (roundTo (marketIn (now (case .entry))) (resultsIn (now (book .entry))) (now (seats .entry)) s tier set workshops) ⌝ }
-    ensures { λ r. ⌜ now (visits .exit) ≡ putAt (2 * held) (flat (roundTo (marketIn (now (case .entry))) (resultsIn (now (book .entry))) (now (seats .entry)) s tier set workshops .interviews)) (now (visits .entry)) ⌝ }
+    ensures { λ r. ⌜ now (visits .exit) ≡ putAt (2 * held)
+        (flat (roundTo (marketIn (now (case .entry))) (resultsIn (now (book .entry))) (now (seats .entry)) s tier set workshops .interviews)) (now (visits .entry)) ⌝ }
 {
     let mut pairs = [0usize; 64];
     let mut starts = [0usize; 64];

@@ -66,7 +66,25 @@ use Rattle.engine.proofs.lgs_place.Statement as stated
 use Rattle.engine.proofs.lgs_place.Code as code
 
 abbrev stayed : Stays (lgs-place.ended .signature .params) (lgs-place.ended .kept)
-stayed = (stay-none-slice (0 ∷ []) tt (plain (λ _. u8)) yes, (stay-none-slice (1 ∷ []) tt (plain (λ _. u8)) yes, (stay-slice (2 ∷ []) tt (plain (λ _. u16)), (stay-slice (3 ∷ []) tt (plain (λ _. u16)), (stay-slice (4 ∷ []) tt (plain (λ _. u16)), (stay-slice (5 ∷ []) tt (plain (λ _. u16)), (stay-slice (6 ∷ []) tt (plain (λ _. T.the-row)), tt)))))))
+stayed = (
+  stay-none-slice (0 ∷ []) tt (plain (λ _. u8)) yes,
+  (
+    stay-none-slice (1 ∷ []) tt (plain (λ _. u8)) yes,
+    (
+      stay-slice (2 ∷ []) tt (plain (λ _. u16)),
+      (
+        stay-slice (3 ∷ []) tt (plain (λ _. u16)),
+        (
+          stay-slice (4 ∷ []) tt (plain (λ _. u16)),
+          (
+            stay-slice (5 ∷ []) tt (plain (λ _. u16)),
+            (stay-slice (6 ∷ []) tt (plain (λ _. T.the-row)), tt),
+          ),
+        ),
+      ),
+    ),
+  ),
+)
 
 module _ {M : Type 1} (𝓤 : URA M) (H : Heap 𝓤) (A : Atoms 𝓤) (mem : Memory → SProp 𝓤) (run : Routine → Fun 𝓤) where
   -- the contracts that the proof cites
@@ -278,7 +296,25 @@ module _ {M : Type 1} (𝓤 : URA M) (H : Heap 𝓤) (A : Atoms 𝓤) (W : Given
       → Triple 𝓤 (C #answering·numbers) (NumbersOf 𝓤 H A mem run) → Walks 𝓤 H A lgs-place.ended stayed (WpFn 𝓤 H C Λ code.function) (lgs-place.clauses 𝓤 H A mem run)
   lgs-place-walks C Λ fm known-place known-numbers = walked 𝓤 H A lgs-place.ended stayed (lgs-place.clauses 𝓤 H A mem run) (WpFn 𝓤 H C Λ code.function)
       (λ κs. (slice-vals, (slice-vals, (slice-vals, (slice-vals, (slice-vals, (slice-vals, (slice-vals, tt))))))))
-      (λ κs. (shr-slice-tells (named 0) (κs .0) u8, (shr-slice-tells (named 1) (κs .1 .0) u8, (mut-slice-tells (named 2) (κs .1 .1 .0) u16, (mut-slice-tells (named 3) (κs .1 .1 .1 .0) u16, (mut-slice-tells (named 4) (κs .1 .1 .1 .1 .0) u16, (mut-slice-tells (named 5) (κs .1 .1 .1 .1 .1 .0) u16, (mut-slice-tells (named 6) (κs .1 .1 .1 .1 .1 .1 .0) T.the-row, tt))))))))
+      (λ κs. (
+        shr-slice-tells (named 0) (κs .0) u8,
+        (
+          shr-slice-tells (named 1) (κs .1 .0) u8,
+          (
+            mut-slice-tells (named 2) (κs .1 .1 .0) u16,
+            (
+              mut-slice-tells (named 3) (κs .1 .1 .1 .0) u16,
+              (
+                mut-slice-tells (named 4) (κs .1 .1 .1 .1 .0) u16,
+                (
+                  mut-slice-tells (named 5) (κs .1 .1 .1 .1 .1 .0) u16,
+                  (mut-slice-tells (named 6) (κs .1 .1 .1 .1 .1 .1 .0) T.the-row, tt),
+                ),
+              ),
+            ),
+          ),
+        ),
+      ))
       (λ κs qs bounds a g are. via 𝓤 _ (fst∗ 𝓤 _ (emp 𝓤)) (walk 𝓤 H A W mem run (κs .0) (κs .1 .0) (κs .1 .1 .0) (κs .1 .1 .1 .0) (κs .1 .1 .1 .1 .0)
       (κs .1 .1 .1 .1 .1 .0) (κs .1 .1 .1 .1 .1 .1 .0) (qs .0) (qs .1 .0) (qs .1 .1 .0) (qs .1 .1 .1 .0) (qs .1 .1 .1 .1 .0) (qs .1 .1 .1 .1 .1 .0)
       (qs .1 .1 .1 .1 .1 .1 .0) (spot-of (a .0)) (spot-of (a .1 .0)) (spot-of (a .1 .1 .0)) (spot-of (a .1 .1 .1 .0)) (spot-of (a .1 .1 .1 .1 .0))
@@ -291,7 +327,22 @@ lgs-place-meets : {M : Type 1} (𝓤 : URA M) (H : Heap 𝓤) (A : Atoms 𝓤) �
     → Triple 𝓤 (𝓣 .C #engine·place) (PlaceOf 𝓤 H A mem run) → Triple 𝓤 (𝓣 .C #answering·numbers) (NumbersOf 𝓤 H A mem run)
     → Meets 𝓤 H A lgs-place.signature (WpFn 𝓤 H (𝓣 .C) (𝓣 .Λ) code.function) (lgs-place.spec 𝓤 H A mem run)
 lgs-place-meets 𝓤 H A W mem run 𝓣 known-place known-numbers =
-    walk-meets 𝓤 H A lgs-place.ended stayed W (goes-none-slice 𝓤 H A W 7 (0 ∷ []) tt (plain (λ _. u8)) yes, (goes-none-slice 𝓤 H A W 7 (1 ∷ []) tt (plain (λ _. u8)) yes, (goes-slice 𝓤 H A W 7 2 tt (plain (λ _. u16)), (goes-slice 𝓤 H A W 7 3 tt (plain (λ _. u16)), (goes-slice 𝓤 H A W 7 4 tt (plain (λ _. u16)), (goes-slice 𝓤 H A W 7 5 tt (plain (λ _. u16)), (goes-slice 𝓤 H A W 7 6 tt (plain (λ _. T.the-row)), tt))))))) (lgs-place.clauses 𝓤 H A mem run)
+    walk-meets 𝓤 H A lgs-place.ended stayed W (
+      goes-none-slice 𝓤 H A W 7 (0 ∷ []) tt (plain (λ _. u8)) yes,
+      (
+        goes-none-slice 𝓤 H A W 7 (1 ∷ []) tt (plain (λ _. u8)) yes,
+        (
+          goes-slice 𝓤 H A W 7 2 tt (plain (λ _. u16)),
+          (
+            goes-slice 𝓤 H A W 7 3 tt (plain (λ _. u16)),
+            (
+              goes-slice 𝓤 H A W 7 4 tt (plain (λ _. u16)),
+              (goes-slice 𝓤 H A W 7 5 tt (plain (λ _. u16)), (goes-slice 𝓤 H A W 7 6 tt (plain (λ _. T.the-row)), tt)),
+            ),
+          ),
+        ),
+      ),
+    ) (lgs-place.clauses 𝓤 H A mem run)
     (WpFn 𝓤 H (𝓣 .C) (𝓣 .Λ) code.function) (WpFn-mono 𝓤 H (W .laws) 𝓣 code.function) (lgs-place-walks 𝓤 H A W mem run (𝓣 .C) (𝓣 .Λ)
     (fmOf 𝓤 H (W .laws) 𝓣) known-place known-numbers)
 

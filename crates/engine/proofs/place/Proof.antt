@@ -20,7 +20,8 @@ use prog.Wp.{Heap, Env, Calls, Loops, WpFn, Tables}
 use ghost.Atoms.{Atoms, sem}
 use contract.Monad.{Fun, fact}
 use contract.Running.{givenOf, tables, tablesOf}
-use types.Kit.{Given, Item, ‵, raw, some, _⊛_, ⋆, _$_, _∵_, !, qed, by, move, keep, drop, use1, group, split, join, pick, rewrite, fsplit, fjoin, feqL, suffices, frame, done, Sq, runs, atRet}
+use types.Kit.{Given, Item, ‵, raw, some, _⊛_, ⋆, _$_, _∵_, !, qed, by, move, keep, drop, use1, group, split, join, pick, rewrite, fsplit, fjoin}
+use types.Kit.{feqL, suffices, frame, done, Sq, runs, atRet}
 use types.Part.{agg, whole, sub, look-in}
 use types.Run.{look, init, forget, stop, hop, fld, from, load, addr, of-opd, and-then, no-more, assigns, land, returns, enter, alloc1, alloc0, params1, pass1, pass0, free1, free0}
 use sound.WpLaws.{FmC, fmOf, WpFn-mono}
@@ -93,7 +94,25 @@ use Rattle.engine.proofs.place.Code as code
 use Rattle.engine.proofs.place.Code.Mir as code-mir
 
 abbrev stayed : Stays (place.ended .signature .params) (place.ended .kept)
-stayed = (stay-none-slice (0 ∷ []) tt (plain (λ _. u8)) yes, (stay-none-slice (1 ∷ []) tt (plain (λ _. u8)) yes, (stay-slice (2 ∷ []) tt (plain (λ _. u16)), (stay-slice (3 ∷ []) tt (plain (λ _. u16)), (stay-slice (4 ∷ []) tt (plain (λ _. u16)), (stay-slice (5 ∷ []) tt (plain (λ _. u16)), (stay-slice (6 ∷ []) tt (plain (λ _. T.the-row)), tt)))))))
+stayed = (
+  stay-none-slice (0 ∷ []) tt (plain (λ _. u8)) yes,
+  (
+    stay-none-slice (1 ∷ []) tt (plain (λ _. u8)) yes,
+    (
+      stay-slice (2 ∷ []) tt (plain (λ _. u16)),
+      (
+        stay-slice (3 ∷ []) tt (plain (λ _. u16)),
+        (
+          stay-slice (4 ∷ []) tt (plain (λ _. u16)),
+          (
+            stay-slice (5 ∷ []) tt (plain (λ _. u16)),
+            (stay-slice (6 ∷ []) tt (plain (λ _. T.the-row)), tt),
+          ),
+        ),
+      ),
+    ),
+  ),
+)
 
 module _ {M : Type 1} (𝓤 : URA M) (H : Heap 𝓤) (A : Atoms 𝓤) (mem : Memory → SProp 𝓤) (run : Routine → Fun 𝓤) where
   -- the contracts that the proof cites
@@ -214,7 +233,28 @@ module _ {M : Type 1} (𝓤 : URA M) (H : Heap 𝓤) (A : Atoms 𝓤) (W : Given
   passed-prepare a₄ a₅ = (ref p₀ case, (ref p₁ book, (length places, (length visits, (anew p₄ a₄ seats, (anew p₅ a₅ index, (length ys, tt)))))))
 
   abbrev to-prepare : Loan → Loan → PrepareOf 𝓤 H A mem run .Ghost
-  to-prepare a₄ a₅ = ((lives-prepare a₄ a₅, (q₀, (q₁, (fullShare, (fullShare, tt)))), tt, passed-prepare a₄ a₅, (sv p₀ case ∷ [], (sv p₁ book ∷ [], (vint w64 (length places) ∷ [], (vint w64 (length visits) ∷ [], (sv p₄ seats ∷ [], (sv p₅ index ∷ [], (vint w64 (length ys) ∷ [], tt)))))))), tt)
+  to-prepare a₄ a₅ = (
+    (
+      lives-prepare a₄ a₅,
+      (q₀, (q₁, (fullShare, (fullShare, tt)))),
+      tt,
+      passed-prepare a₄ a₅,
+      (
+        sv p₀ case ∷ [],
+        (
+          sv p₁ book ∷ [],
+          (
+            vint w64 (length places) ∷ [],
+            (
+              vint w64 (length visits) ∷ [],
+              (sv p₄ seats ∷ [], (sv p₅ index ∷ [], (vint w64 (length ys) ∷ [], tt))),
+            ),
+          ),
+        ),
+      ),
+    ),
+    tt,
+  )
 
   abbrev Asked-prepare : Loan → Loan → List (Item 𝓤)
   Asked-prepare a₄ a₅ = Case ∷ ‵ (flft κ₀ q₀) ∷ Book ∷ ‵ (flft κ₁ q₁) ∷ ‵ (MutSlice (named 2) (a₄ .ν ∷ []) u16 .own (anew p₄ a₄ seats) (sv p₄ seats ∷ []))
@@ -260,10 +300,50 @@ module _ {M : Type 1} (𝓤 : URA M) (H : Heap 𝓤) (A : Atoms 𝓤) (W : Given
 
   abbrev passed-run : Loan → Loan → Loan → Loan → List ℕ → List ℕ → Prepared
       → RefT (List ℕ) × (RefT (List ℕ) × (RefT (List ℕ) × (RefT (List ℕ) × (RefT (List ℕ) × (RefT (List StudentState) × (Run × (ℕ × (ℕ × Unit {0}))))))))
-  passed-run a₅ a₃ a₄ a₆ index₁ seats₁ p = (ref p₀ case, (ref p₁ book, (anew p₅ a₅ index₁, (anew p₃ a₃ visits, (anew p₄ a₄ seats₁, (anew p₆ a₆ zeros, (p .run, (p .students, (p .workshops, tt)))))))))
+  passed-run a₅ a₃ a₄ a₆ index₁ seats₁ p = (
+    ref p₀ case,
+    (
+      ref p₁ book,
+      (
+        anew p₅ a₅ index₁,
+        (anew p₃ a₃ visits, (anew p₄ a₄ seats₁, (anew p₆ a₆ zeros, (p .run, (p .students, (p .workshops, tt)))))),
+      ),
+    ),
+  )
 
   abbrev to-run : Loan → Loan → Loan → Loan → List ℕ → List ℕ → Prepared → RunOf 𝓤 H A mem run .Ghost
-  to-run a₅ a₃ a₄ a₆ index₁ seats₁ p = ((lives-run a₅ a₃ a₄ a₆, (q₀, (q₁, (fullShare, (fullShare, (fullShare, (fullShare, tt)))))), tt, passed-run a₅ a₃ a₄ a₆ index₁ seats₁ p, (sv p₀ case ∷ [], (sv p₁ book ∷ [], (sv p₅ index ∷ [], (sv p₃ visits ∷ [], (sv p₄ seats ∷ [], (sv p₆ ys ∷ [], (S′.lowered (p .run) ∷ [], (vint w64 (p .students) ∷ [], (vint w64 (p .workshops) ∷ [], tt)))))))))), tt)
+  to-run a₅ a₃ a₄ a₆ index₁ seats₁ p = (
+    (
+      lives-run a₅ a₃ a₄ a₆,
+      (q₀, (q₁, (fullShare, (fullShare, (fullShare, (fullShare, tt)))))),
+      tt,
+      passed-run a₅
+          a₃ a₄ a₆ index₁ seats₁ p,
+      (
+        sv p₀ case ∷ [],
+        (
+          sv p₁ book ∷ [],
+          (
+            sv p₅ index ∷ [],
+            (
+              sv p₃ visits ∷ [],
+              (
+                sv p₄ seats ∷ [],
+                (
+                  sv p₆ ys ∷ [],
+                  (
+                    S′.lowered (p .run) ∷ [],
+                    (vint w64 (p .students) ∷ [], (vint w64 (p .workshops) ∷ [], tt)),
+                  ),
+                ),
+              ),
+            ),
+          ),
+        ),
+      ),
+    ),
+    tt,
+  )
 
   abbrev Asked-run : Loan → Loan → Loan → Loan → List ℕ → List ℕ → Prepared → List (Item 𝓤)
   Asked-run a₅ a₃ a₄ a₆ index₁ seats₁ p = Case ∷ ‵ (flft κ₀ q₀) ∷ Book ∷ ‵ (flft κ₁ q₁) ∷ ‵ (MutSlice (named 2) (a₅ .ν ∷ []) u16 .own (anew p₅ a₅ index₁)
@@ -553,7 +633,8 @@ module _ {M : Type 1} (𝓤 : URA M) (H : Heap 𝓤) (A : Atoms 𝓤) (W : Given
         move ! (2 ∷ 4 ∷ 3 ∷ []) $ back-on ! tt T.the-row (named 6) κ₆ q₆ (p₆ .γ) (p₆ .b) (p₆ .o) (length ys) ν₆ δ₆ (h .states₂) (ws .0) room₆ (h .long₆)
         (e₆ ∙ (h .long₆)) $ rewrite ! 0 (λ (l : List StudentState). States l) (f .1) refl $
         move ! (0 ∷ 1 ∷ 4 ∷ 5 ∷ 6 ∷ 7 ∷ 8 ∷ 9 ∷ 2 ∷ 3 ∷ []) $
-        land ! (from ! (stop !)) (init ! 54 refl (tt, tt)) $ forget ! 26 refl $ forget ! 28 refl $ forget ! 30 refl $ forget ! 32 refl $ forget ! 54 refl $ forget ! 64 refl $ clearing-again g h))))))))
+        land ! (from ! (stop !)) (init ! 54 refl (tt, tt)) $ forget ! 26 refl $ forget ! 28 refl $ forget ! 30 refl $ forget ! 32 refl $ forget ! 54
+        refl $ forget ! 64 refl $ clearing-again g h))))))))
 
     -- the run
     running : (g : Prep) → Sq W (Ctx zeros (g .index₁) (g .seats₁) visits places (‵ (fat fullShare P′.mir l₁₁ 0 (P′.lowered (g .p)))) (‵ (froom S′.mir l₁₅ 0)))
@@ -621,7 +702,17 @@ module _ {M : Type 1} (𝓤 : URA M) (H : Heap 𝓤) (A : Atoms 𝓤) (W : Given
         land ! (from ! (stop !)) (init ! 66 refl (LL.lawful S.the-type S′.the-laws 𝓤 H A W .typed r _ made .0)) $
         forget ! 34 refl $ forget ! 36 refl $ forget ! 38 refl $ forget ! 40 refl $ forget ! 42 refl $ forget ! 44 refl $ forget ! 46 refl $ forget ! 48 refl $
         forget ! 68 refl $ forget ! 70 refl $ forget ! 72 refl $
-        reading g (record { visits₂ = ws .1 .1 .1 .0; seats₂ = ws .1 .1 .1 .1 .0; states₂ = ws .1 .1 .1 .1 .1 .0; r = r; is-r = made; long₃ = e₃; long₄ = e₄ ∙ g .long₄; long₆ = e₆ ∙ zeros-long; ran = f .0 }))))))))))))
+        reading g (record {
+          visits₂ = ws .1 .1 .1 .0;
+          seats₂ = ws .1 .1 .1 .1 .0;
+          states₂ = ws .1 .1 .1 .1 .1 .0;
+          r = r;
+          is-r = made;
+          long₃ = e₃;
+          long₄ = e₄ ∙ g .long₄;
+          long₆ = e₆ ∙ zeros-long;
+          ran = f .0;
+        }))))))))))))
 
     -- the states are cleared
     clearing : (g : Prep) → Sq W (Ctx ys (g .index₁) (g .seats₁) visits places (‵ (fat fullShare P′.mir l₁₁ 0 (P′.lowered (g .p)))) (‵ (froom S′.mir l₁₅ 0)))
@@ -730,7 +821,25 @@ module _ {M : Type 1} (𝓤 : URA M) (H : Heap 𝓤) (A : Atoms 𝓤) (W : Given
       → Walks 𝓤 H A place.ended stayed (WpFn 𝓤 H C Λ code.function) (place.clauses 𝓤 H A mem run)
   place-walks C Λ fm known-prepare known-clear known-run known-to-place known-read known-finish = walked 𝓤 H A place.ended stayed (place.clauses 𝓤 H A mem run) (WpFn 𝓤 H C Λ code.function)
       (λ κs. (slice-vals, (slice-vals, (slice-vals, (slice-vals, (slice-vals, (slice-vals, (slice-vals, tt))))))))
-      (λ κs. (shr-slice-tells (named 0) (κs .0) u8, (shr-slice-tells (named 1) (κs .1 .0) u8, (mut-slice-tells (named 2) (κs .1 .1 .0) u16, (mut-slice-tells (named 3) (κs .1 .1 .1 .0) u16, (mut-slice-tells (named 4) (κs .1 .1 .1 .1 .0) u16, (mut-slice-tells (named 5) (κs .1 .1 .1 .1 .1 .0) u16, (mut-slice-tells (named 6) (κs .1 .1 .1 .1 .1 .1 .0) T.the-row, tt))))))))
+      (λ κs. (
+        shr-slice-tells (named 0) (κs .0) u8,
+        (
+          shr-slice-tells (named 1) (κs .1 .0) u8,
+          (
+            mut-slice-tells (named 2) (κs .1 .1 .0) u16,
+            (
+              mut-slice-tells (named 3) (κs .1 .1 .1 .0) u16,
+              (
+                mut-slice-tells (named 4) (κs .1 .1 .1 .1 .0) u16,
+                (
+                  mut-slice-tells (named 5) (κs .1 .1 .1 .1 .1 .0) u16,
+                  (mut-slice-tells (named 6) (κs .1 .1 .1 .1 .1 .1 .0) T.the-row, tt),
+                ),
+              ),
+            ),
+          ),
+        ),
+      ))
       (λ κs qs bounds a g are. via 𝓤 _ (fst∗ 𝓤 _ (emp 𝓤)) (walk 𝓤 H A W mem run (κs .0) (κs .1 .0) (κs .1 .1 .0) (κs .1 .1 .1 .0) (κs .1 .1 .1 .1 .0)
       (κs .1 .1 .1 .1 .1 .0) (κs .1 .1 .1 .1 .1 .1 .0) (qs .0) (qs .1 .0) (qs .1 .1 .0) (qs .1 .1 .1 .0) (qs .1 .1 .1 .1 .0) (qs .1 .1 .1 .1 .1 .0)
       (qs .1 .1 .1 .1 .1 .1 .0) (spot-of (a .0)) (spot-of (a .1 .0)) (spot-of (a .1 .1 .0)) (spot-of (a .1 .1 .1 .0)) (spot-of (a .1 .1 .1 .1 .0))
@@ -745,7 +854,22 @@ place-meets : {M : Type 1} (𝓤 : URA M) (H : Heap 𝓤) (A : Atoms 𝓤) → G
     → Triple 𝓤 (𝓣 .C #engine·read-places) (ReadOf 𝓤 H A mem run) → Triple 𝓤 (𝓣 .C #answering·finish) (FinishOf 𝓤 H A mem run)
     → Meets 𝓤 H A place.signature (WpFn 𝓤 H (𝓣 .C) (𝓣 .Λ) code.function) (place.spec 𝓤 H A mem run)
 place-meets 𝓤 H A W mem run 𝓣 known-prepare known-clear known-run known-to-place known-read known-finish =
-    walk-meets 𝓤 H A place.ended stayed W (goes-none-slice 𝓤 H A W 7 (0 ∷ []) tt (plain (λ _. u8)) yes, (goes-none-slice 𝓤 H A W 7 (1 ∷ []) tt (plain (λ _. u8)) yes, (goes-slice 𝓤 H A W 7 2 tt (plain (λ _. u16)), (goes-slice 𝓤 H A W 7 3 tt (plain (λ _. u16)), (goes-slice 𝓤 H A W 7 4 tt (plain (λ _. u16)), (goes-slice 𝓤 H A W 7 5 tt (plain (λ _. u16)), (goes-slice 𝓤 H A W 7 6 tt (plain (λ _. T.the-row)), tt))))))) (place.clauses 𝓤 H A mem run)
+    walk-meets 𝓤 H A place.ended stayed W (
+      goes-none-slice 𝓤 H A W 7 (0 ∷ []) tt (plain (λ _. u8)) yes,
+      (
+        goes-none-slice 𝓤 H A W 7 (1 ∷ []) tt (plain (λ _. u8)) yes,
+        (
+          goes-slice 𝓤 H A W 7 2 tt (plain (λ _. u16)),
+          (
+            goes-slice 𝓤 H A W 7 3 tt (plain (λ _. u16)),
+            (
+              goes-slice 𝓤 H A W 7 4 tt (plain (λ _. u16)),
+              (goes-slice 𝓤 H A W 7 5 tt (plain (λ _. u16)), (goes-slice 𝓤 H A W 7 6 tt (plain (λ _. T.the-row)), tt)),
+            ),
+          ),
+        ),
+      ),
+    ) (place.clauses 𝓤 H A mem run)
     (WpFn 𝓤 H (𝓣 .C) (𝓣 .Λ) code.function) (WpFn-mono 𝓤 H (W .laws) 𝓣 code.function) (place-walks 𝓤 H A W mem run (𝓣 .C) (𝓣 .Λ)
     (fmOf 𝓤 H (W .laws) 𝓣) known-prepare known-clear known-run known-to-place known-read known-finish)
 

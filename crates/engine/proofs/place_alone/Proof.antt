@@ -62,7 +62,19 @@ use Rattle.engine.proofs.place_alone.Statement as stated
 use Rattle.engine.proofs.place_alone.Code as code
 
 abbrev stayed : Stays (place-alone.ended .signature .params) (place-alone.ended .kept)
-stayed = (stay-none-slice (0 ∷ []) tt (plain (λ _. u8)) yes, (stay-none-slice (1 ∷ []) tt (plain (λ _. u8)) yes, (stay-slice (2 ∷ []) tt (plain (λ _. u16)), (stay-slice (3 ∷ []) tt (plain (λ _. u16)), (stay-slice (4 ∷ []) tt (plain (λ _. u16)), (stay-slice (5 ∷ []) tt (plain (λ _. u16)), tt))))))
+stayed = (
+  stay-none-slice (0 ∷ []) tt (plain (λ _. u8)) yes,
+  (
+    stay-none-slice (1 ∷ []) tt (plain (λ _. u8)) yes,
+    (
+      stay-slice (2 ∷ []) tt (plain (λ _. u16)),
+      (
+        stay-slice (3 ∷ []) tt (plain (λ _. u16)),
+        (stay-slice (4 ∷ []) tt (plain (λ _. u16)), (stay-slice (5 ∷ []) tt (plain (λ _. u16)), tt)),
+      ),
+    ),
+  ),
+)
 
 -- the states, and their number
 abbrev zeros : List StudentState
@@ -146,7 +158,29 @@ module _ {M : Type 1} (𝓤 : URA M) (H : Heap 𝓤) (A : Atoms 𝓤) (W : Given
   passed l a₂ a₃ a₄ a₅ a₆ = (ref p₀ case, (ref p₁ book, (anew p₂ a₂ places, (anew p₃ a₃ visits, (anew p₄ a₄ seats, (anew p₅ a₅ index, (made-at l a₆, tt)))))))
 
   abbrev to-place : ℕ → Loan → Loan → Loan → Loan → Loan → PlaceOf 𝓤 H A mem run .Ghost
-  to-place l a₂ a₃ a₄ a₅ a₆ = ((lives a₂ a₃ a₄ a₅ a₆, (q₀, (q₁, (fullShare, (fullShare, (fullShare, (fullShare, (fullShare, tt))))))), tt, passed l a₂ a₃ a₄ a₅ a₆, (sv p₀ case ∷ [], (sv p₁ book ∷ [], (sv p₂ places ∷ [], (sv p₃ visits ∷ [], (sv p₄ seats ∷ [], (sv p₅ index ∷ [], (sliceVal (l, 0) 512 ∷ [], tt)))))))), tt)
+  to-place l a₂ a₃ a₄ a₅ a₆ = (
+    (
+      lives a₂ a₃ a₄ a₅ a₆,
+      (q₀, (q₁, (fullShare, (fullShare, (fullShare, (fullShare, (fullShare, tt))))))),
+      tt,
+      passed l a₂
+          a₃ a₄ a₅ a₆,
+      (
+        sv p₀ case ∷ [],
+        (
+          sv p₁ book ∷ [],
+          (
+            sv p₂ places ∷ [],
+            (
+              sv p₃ visits ∷ [],
+              (sv p₄ seats ∷ [], (sv p₅ index ∷ [], (sliceVal (l, 0) 512 ∷ [], tt))),
+            ),
+          ),
+        ),
+      ),
+    ),
+    tt,
+  )
 
   abbrev Asked : ℕ → Loan → Loan → Loan → Loan → Loan → List (Item 𝓤)
   Asked l a₂ a₃ a₄ a₅ a₆ = Case ∷ ‵ (flft κ₀ q₀) ∷ Book ∷ ‵ (flft κ₁ q₁) ∷ ‵ (MutSlice (named 2) (a₂ .ν ∷ []) u16 .own (anew p₂ a₂ places) (sv p₂ places ∷ []))
@@ -191,7 +225,8 @@ module _ {M : Type 1} (𝓤 : URA M) (H : Heap 𝓤) (A : Atoms 𝓤) (W : Given
         assigns ! (agg ! (and-then ! (lit ! tt) (and-then ! (lit ! tt) (and-then ! (lit ! tt) (no-more !))))) (from ! (stop !))
         (init ! 34 refl (LL.lawful T.the-type T′.the-laws 𝓤 H A W .typed zeroState _ is-zero .0)) $
         assigns ! (rep ! 512 (load ! (from ! (stop !)) (look ! 34 refl))) (from ! (stop !))
-        (init ! 32 refl (array-lawful 𝓤 H A W T.the-row (LL.lawful T.the-type T′.the-laws 𝓤 H A W) 512 .typed zeros _ (is-repeat T.the-row 512 zeroState (T′.lowered zeroState) is-zero) .0)) $
+        (init ! 32 refl (array-lawful 𝓤 H A W T.the-row (LL.lawful T.the-type T′.the-laws 𝓤 H A W) 512 .typed zeros _
+        (is-repeat T.the-row 512 zeroState (T′.lowered zeroState) is-zero) .0)) $
         assigns ! (addr ! (from ! (fld ! refl (hop ! (look-in ! 42 (sub ! 0 refl (whole !))) (stop !))))) (from ! (stop !)) (init ! 30 refl (tt, tt)) $
         assigns ! (agg ! (and-then ! (load ! (from ! (stop !)) (look ! 30 refl)) (and-then ! (load ! (from ! (fld ! refl (stop !)))
         (look-in ! 42 (sub ! 1 refl (whole !)))) (no-more !)))) (from ! (stop !)) (init ! 28 refl (tt, (tt, (record { fits = room₂ .0 }, tt)))) $
@@ -266,7 +301,19 @@ module _ {M : Type 1} (𝓤 : URA M) (H : Heap 𝓤) (A : Atoms 𝓤) (W : Given
       → Walks 𝓤 H A place-alone.ended stayed (WpFn 𝓤 H C Λ code.function) (place-alone.clauses 𝓤 H A mem run)
   place-alone-walks C Λ fm known = walked 𝓤 H A place-alone.ended stayed (place-alone.clauses 𝓤 H A mem run) (WpFn 𝓤 H C Λ code.function)
       (λ κs. (slice-vals, (slice-vals, (slice-vals, (slice-vals, (slice-vals, (slice-vals, tt)))))))
-      (λ κs. (shr-slice-tells (named 0) (κs .0) u8, (shr-slice-tells (named 1) (κs .1 .0) u8, (mut-slice-tells (named 2) (κs .1 .1 .0) u16, (mut-slice-tells (named 3) (κs .1 .1 .1 .0) u16, (mut-slice-tells (named 4) (κs .1 .1 .1 .1 .0) u16, (mut-slice-tells (named 5) (κs .1 .1 .1 .1 .1 .0) u16, tt)))))))
+      (λ κs. (
+        shr-slice-tells (named 0) (κs .0) u8,
+        (
+          shr-slice-tells (named 1) (κs .1 .0) u8,
+          (
+            mut-slice-tells (named 2) (κs .1 .1 .0) u16,
+            (
+              mut-slice-tells (named 3) (κs .1 .1 .1 .0) u16,
+              (mut-slice-tells (named 4) (κs .1 .1 .1 .1 .0) u16, (mut-slice-tells (named 5) (κs .1 .1 .1 .1 .1 .0) u16, tt)),
+            ),
+          ),
+        ),
+      ))
       (λ κs qs bounds a g are. via 𝓤 _ (fst∗ 𝓤 _ (emp 𝓤)) (walk 𝓤 H A W mem run (κs .0) (κs .1 .0) (κs .1 .1 .0) (κs .1 .1 .1 .0) (κs .1 .1 .1 .1 .0)
       (κs .1 .1 .1 .1 .1 .0) (qs .0) (qs .1 .0) (qs .1 .1 .0) (qs .1 .1 .1 .0) (qs .1 .1 .1 .1 .0) (qs .1 .1 .1 .1 .1 .0) (spot-of (a .0)) (spot-of (a .1 .0))
       (spot-of (a .1 .1 .0)) (spot-of (a .1 .1 .1 .0)) (spot-of (a .1 .1 .1 .1 .0)) (spot-of (a .1 .1 .1 .1 .1 .0))
@@ -277,7 +324,22 @@ place-alone-meets : {M : Type 1} (𝓤 : URA M) (H : Heap 𝓤) (A : Atoms 𝓤)
     → Triple 𝓤 (𝓣 .C #engine·place) (PlaceOf 𝓤 H A mem run)
     → Meets 𝓤 H A place-alone.signature (WpFn 𝓤 H (𝓣 .C) (𝓣 .Λ) code.function) (place-alone.spec 𝓤 H A mem run)
 place-alone-meets 𝓤 H A W mem run 𝓣 known =
-    walk-meets 𝓤 H A place-alone.ended stayed W (goes-none-slice 𝓤 H A W 6 (0 ∷ []) tt (plain (λ _. u8)) yes, (goes-none-slice 𝓤 H A W 6 (1 ∷ []) tt (plain (λ _. u8)) yes, (goes-slice 𝓤 H A W 6 2 tt (plain (λ _. u16)), (goes-slice 𝓤 H A W 6 3 tt (plain (λ _. u16)), (goes-slice 𝓤 H A W 6 4 tt (plain (λ _. u16)), (goes-slice 𝓤 H A W 6 5 tt (plain (λ _. u16)), tt)))))) (place-alone.clauses 𝓤 H A mem run)
+    walk-meets 𝓤 H A place-alone.ended stayed W (
+      goes-none-slice 𝓤 H A W 6 (0 ∷ []) tt (plain (λ _. u8)) yes,
+      (
+        goes-none-slice 𝓤 H A W 6 (1 ∷ []) tt (plain (λ _. u8)) yes,
+        (
+          goes-slice 𝓤 H A W 6 2 tt (plain (λ _. u16)),
+          (
+            goes-slice 𝓤 H A W 6 3 tt (plain (λ _. u16)),
+            (
+              goes-slice 𝓤 H A W 6 4 tt (plain (λ _. u16)),
+              (goes-slice 𝓤 H A W 6 5 tt (plain (λ _. u16)), tt),
+            ),
+          ),
+        ),
+      ),
+    ) (place-alone.clauses 𝓤 H A mem run)
     (WpFn 𝓤 H (𝓣 .C) (𝓣 .Λ) code.function) (WpFn-mono 𝓤 H (W .laws) 𝓣 code.function) (place-alone-walks 𝓤 H A W mem run (𝓣 .C) (𝓣 .Λ) (fmOf 𝓤 H (W .laws) 𝓣) known)
 
 pub place-alone-spec : {M : Type 1} → stated.statement M

@@ -3,7 +3,7 @@
 -- The variant is the number of places read, with that it is no more than asked for.
 -- All that the proof knows of `put_place` is that it meets its contract.
 -- Assumes nothing.
-use mathlib.Core.Path.{_≡_, refl, sym, ap, _∙_}
+use mathlib.Core.Path.{_≡_, refl, sym, _∙_}
 use Prim.Native.Nat.{ℕ, _+_, _-_, _<_, _≤_, _^_, _*_}
 use native.Mathlib.Omega.{arith}
 use mathlib.Core.Bool.{Bool, true, false}
@@ -25,9 +25,12 @@ use prog.Wp.{Heap, Out, Env, Calls, Loops, Wp, atReturn, afterTurn, afterBlock, 
 use ghost.Atoms.{Atoms}
 use contract.Monad.{Fun, fact}
 use contract.Running.{givenOf, tables, tablesOf}
-use types.Kit.{Given, Item, ‵, raw, some, _⊛_, ⋆, _$_, _∵_, !, qed, by, move, keep, drop, use1, group, split, join, pick, rewrite, fsplit, fjoin, feqL, feqI, suffices, frame, done, Sq, runs, anyQ, atRet}
+use types.Kit.{Given, Item, ‵, raw, some, _⊛_, ⋆, _$_, _∵_, !, qed, by, move, keep, drop, use1, group, split, join, pick, rewrite, fsplit, fjoin}
+use types.Kit.{feqL, feqI, suffices, frame, done, Sq, runs, anyQ, atRet}
 use types.Part.{agg, whole, sub, look-in}
-use types.Run.{look, look-raw, init, store, forget, stop, hop, fld, from, load, addr, lit, unit-lit, of-opd, bin, and-then, no-more, assigns, assigns-last, land, first, blocks, stays, leaves-loop, loops, again, Below, exec, returns, enter, alloc1, alloc0, params1, pass1, pass0, free1, free0}
+use types.Run.{look, look-raw, init, store, forget, stop, hop, fld, from, load, addr, lit, unit-lit, of-opd, bin, and-then, no-more, assigns}
+use types.Run.{assigns-last, land, first, blocks, stays, leaves-loop, loops, again, Below, exec, returns, enter, alloc1, alloc0, params1, pass1}
+use types.Run.{pass0, free1, free0}
 use sound.WpLaws.{FmC, fmOf, WpFn-mono}
 use denote.RattleType.{owns}
 use denote.Laws.{Is}

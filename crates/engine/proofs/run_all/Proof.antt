@@ -26,9 +26,11 @@ use prog.Wp.{Heap, Out, Env, Calls, Loops, Wp, atReturn, afterTurn, afterBlock, 
 use ghost.Atoms.{Atoms}
 use contract.Monad.{Fun, fact}
 use contract.Running.{givenOf, tables, tablesOf}
-use types.Kit.{Given, Item, ‵, raw, some, _⊛_, ⋆, _$_, _∵_, !, qed, by, move, keep, drop, use1, group, split, join, pick, rewrite, fsplit, fjoin, feqL, suffices, frame, done, Sq, runs, anyQ, atRet}
+use types.Kit.{Given, Item, ‵, raw, some, _⊛_, ⋆, _$_, _∵_, !, qed, by, move, keep, drop, use1, group, split, join, pick, rewrite, fsplit, fjoin}
+use types.Kit.{feqL, suffices, frame, done, Sq, runs, anyQ, atRet}
 use types.Part.{agg, whole, sub, look-in}
-use types.Run.{look, init, store, forget, stop, hop, fld, from, load, addr, lit, of-opd, bin, and-then, no-more, assigns, assigns-last, land, first, blocks, stays, leaves-loop, loops, again, Below, exec, returns, enter, alloc1, alloc0, params1, pass1, pass0, free1, free0}
+use types.Run.{look, init, store, forget, stop, hop, fld, from, load, addr, lit, of-opd, bin, and-then, no-more, assigns, assigns-last, land, first}
+use types.Run.{blocks, stays, leaves-loop, loops, again, Below, exec, returns, enter, alloc1, alloc0, params1, pass1, pass0, free1, free0}
 use sound.WpLaws.{FmC, fmOf, WpFn-mono}
 use denote.RattleType.{owns}
 use denote.Laws.{Is}
@@ -72,7 +74,25 @@ use Rattle.engine.proofs.run_all.Code as code
 use Rattle.engine.proofs.run_all.Code.Mir as code-mir
 
 abbrev stayed : Stays (run-all.ended .signature .params) (run-all.ended .kept)
-stayed = (stay-none-slice (0 ∷ []) tt (plain (λ _. u8)) yes, (stay-none-slice (1 ∷ []) tt (plain (λ _. u8)) yes, (stay-slice (2 ∷ []) tt (plain (λ _. u16)), (stay-slice (3 ∷ []) tt (plain (λ _. u16)), (stay-slice (4 ∷ []) tt (plain (λ _. u16)), (stay-slice (5 ∷ []) tt (plain (λ _. T.the-row)), (stay-none (λ _. S.the-row) yes, (stay-none (λ _. usize) yes, (stay-none (λ _. usize) yes, tt)))))))))
+stayed = (
+  stay-none-slice (0 ∷ []) tt (plain (λ _. u8)) yes,
+  (
+    stay-none-slice (1 ∷ []) tt (plain (λ _. u8)) yes,
+    (
+      stay-slice (2 ∷ []) tt (plain (λ _. u16)),
+      (
+        stay-slice (3 ∷ []) tt (plain (λ _. u16)),
+        (
+          stay-slice (4 ∷ []) tt (plain (λ _. u16)),
+          (
+            stay-slice (5 ∷ []) tt (plain (λ _. T.the-row)),
+            (stay-none (λ _. S.the-row) yes, (stay-none (λ _. usize) yes, (stay-none (λ _. usize) yes, tt))),
+          ),
+        ),
+      ),
+    ),
+  ),
+)
 
 -- the contract that the proof cites
 abbrev TurnOf : {M : Type 1} (𝓤 : URA M) (H : Heap 𝓤) (A : Atoms 𝓤) (mem : Memory → SProp 𝓤) (run : Routine → Fun 𝓤) → Contract 𝓤
@@ -105,7 +125,22 @@ module _ {M : Type 1} (𝓤 : URA M) (H : Heap 𝓤) (A : Atoms 𝓤) (W : Given
 
   -- the machine values, which stay
   abbrev at : Vals run-all.signature κs
-  at = (sv p₀ case ∷ [], (sv p₁ book ∷ [], (sv p₂ index ∷ [], (sv p₃ visits ∷ [], (sv p₄ seats ∷ [], (sv p₅ ys ∷ [], (S′.lowered start ∷ [], (vint w64 students ∷ [], (vint w64 workshops ∷ [], tt)))))))))
+  at = (
+    sv p₀ case ∷ [],
+    (
+      sv p₁ book ∷ [],
+      (
+        sv p₂ index ∷ [],
+        (
+          sv p₃ visits ∷ [],
+          (
+            sv p₄ seats ∷ [],
+            (sv p₅ ys ∷ [], (S′.lowered start ∷ [], (vint w64 students ∷ [], (vint w64 workshops ∷ [], tt)))),
+          ),
+        ),
+      ),
+    ),
+  )
 
   abbrev Post : Val → SProp 𝓤
   Post = walkOf 𝓤 H A run-all.ended stayed (run-all.clauses 𝓤 H A mem run) .post ((κs, qs, tt, x, at), tt)
@@ -177,7 +212,22 @@ module _ {M : Type 1} (𝓤 : URA M) (H : Heap 𝓤) (A : Atoms 𝓤) (W : Given
       (q₀, (q₁, (fullShare, (fullShare, (fullShare, (fullShare, tt)))))),
       tt,
       passed a₂ a₃ a₄ a₅ vs us zs st,
-      (sv p₀ case ∷ [], (sv p₁ book ∷ [], (sv p₂ index ∷ [], (sv p₃ visits ∷ [], (sv p₄ seats ∷ [], (sv p₅ ys ∷ [], (S′.lowered st ∷ [], (vint w64 students ∷ [], (vint w64 workshops ∷ [], tt))))))))),
+      (
+        sv p₀ case ∷ [],
+        (
+          sv p₁ book ∷ [],
+          (
+            sv p₂ index ∷ [],
+            (
+              sv p₃ visits ∷ [],
+              (
+                sv p₄ seats ∷ [],
+                (sv p₅ ys ∷ [], (S′.lowered st ∷ [], (vint w64 students ∷ [], (vint w64 workshops ∷ [], tt)))),
+              ),
+            ),
+          ),
+        ),
+      ),
     ),
     tt,
   )
@@ -449,7 +499,25 @@ module _ {M : Type 1} (𝓤 : URA M) (H : Heap 𝓤) (A : Atoms 𝓤) (W : Given
       → Walks 𝓤 H A run-all.ended stayed (WpFn 𝓤 H (𝓣 .C) (𝓣 .Λ) code.function) (run-all.clauses 𝓤 H A mem run)
   run-all-walks 𝓣 known = walked 𝓤 H A run-all.ended stayed (run-all.clauses 𝓤 H A mem run) (WpFn 𝓤 H (𝓣 .C) (𝓣 .Λ) code.function)
       (λ κs. (slice-vals, (slice-vals, (slice-vals, (slice-vals, (slice-vals, (slice-vals, ((λ st. S′.lowered st ∷ []), (uint-vals w64, (uint-vals w64, tt))))))))))
-      (λ κs. (shr-slice-tells (named 0) (κs .0) u8, (shr-slice-tells (named 1) (κs .1 .0) u8, (mut-slice-tells (named 2) (κs .1 .1 .0) u16, (mut-slice-tells (named 3) (κs .1 .1 .1 .0) u16, (mut-slice-tells (named 4) (κs .1 .1 .1 .1 .0) u16, (mut-slice-tells (named 5) (κs .1 .1 .1 .1 .1 .0) T.the-row, (S′.lowers .val-is, (uint-tells w64, (uint-tells w64, tt))))))))))
+      (λ κs. (
+        shr-slice-tells (named 0) (κs .0) u8,
+        (
+          shr-slice-tells (named 1) (κs .1 .0) u8,
+          (
+            mut-slice-tells (named 2) (κs .1 .1 .0) u16,
+            (
+              mut-slice-tells (named 3) (κs .1 .1 .1 .0) u16,
+              (
+                mut-slice-tells (named 4) (κs .1 .1 .1 .1 .0) u16,
+                (
+                  mut-slice-tells (named 5) (κs .1 .1 .1 .1 .1 .0) T.the-row,
+                  (S′.lowers .val-is, (uint-tells w64, (uint-tells w64, tt))),
+                ),
+              ),
+            ),
+          ),
+        ),
+      ))
       (λ κs qs bounds a g are. needs 𝓤 (CanRun (a .0 .now) (a .1 .0 .now) (a .1 .1 .0 .now) (a .1 .1 .1 .0 .now) (a .1 .1 .1 .1 .0 .now) (a .1 .1 .1 .1 .1 .0 .now)
       (a .1 .1 .1 .1 .1 .1 .0) (a .1 .1 .1 .1 .1 .1 .1 .0) (a .1 .1 .1 .1 .1 .1 .1 .1 .0)) _ (λ can.
       walk 𝓤 H A W mem run (κs .0) (κs .1 .0) (κs .1 .1 .0) (κs .1 .1 .1 .0) (κs .1 .1 .1 .1 .0) (κs .1 .1 .1 .1 .1 .0) (qs .0) (qs .1 .0) (qs .1 .1 .0)
@@ -476,7 +544,13 @@ run-all-meets 𝓤 H A W mem run 𝓣 known =
               goes-slice 𝓤 H A W 6 4 tt (plain (λ _. u16)),
               (
                 goes-slice 𝓤 H A W 6 5 tt (plain (λ _. T.the-row)),
-                (goes-none 𝓤 H A W 6 (λ _. S.the-row) yes (λ κs x f. refl), (goes-none 𝓤 H A W 6 (λ _. usize) yes (λ κs x f. refl), (goes-none 𝓤 H A W 6 (λ _. usize) yes (λ κs x f. refl), tt))),
+                (
+                  goes-none 𝓤 H A W 6 (λ _. S.the-row) yes (λ κs x f. refl),
+                  (
+                    goes-none 𝓤 H A W 6 (λ _. usize) yes (λ κs x f. refl),
+                    (goes-none 𝓤 H A W 6 (λ _. usize) yes (λ κs x f. refl), tt),
+                  ),
+                ),
               ),
             ),
           ),

@@ -56,7 +56,8 @@ returns c =
     let s = c .before .before .before .before .before .start-of in
     let e = c .before .before .before .before .end-of in
     let d : e .result - s .result ≡ seatsOf M (a .w) = omega (arith, e .ensures) in
-    let f : take (e .result - s .result) (drop (s .result) (a .seats .now)) ≡ part M (a .seats .now) (a .w) = part-lent M (a .seats .now) (a .w) (s .result) (e .result) (s .ensures .0) (e .ensures .0) in
+    let f : take (e .result - s .result) (drop (s .result) (a .seats .now)) ≡ part M (a .seats .now) (a .w) = part-lent M (a .seats .now) (a .w)
+    (s .result) (e .result) (s .ensures .0) (e .ensures .0) in
     ((cc), (cc))
 
 pub seat-at-spec : {M : Type 1} → statement M

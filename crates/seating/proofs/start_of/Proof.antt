@@ -1,5 +1,5 @@
 -- `seating::start_of` meets its contract. The invariant: where the part of workshop v starts, with a bound so that it does not wrap.
-use Prim.Native.Nat.{ℕ, _*_, _-_, _≤_}
+use Prim.Native.Nat.{_*_, _-_, _≤_}
 use mathlib.Core.Path.{_≡_, sym, ap, _∙_}
 use native.Mathlib.Omega.{arith}
 use Rattle.lgs.specs.Market.{seatsBefore}

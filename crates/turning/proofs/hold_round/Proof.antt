@@ -40,29 +40,41 @@ abbrev Comes : tie.In-loop Inv-loop μ-loop → ℕ → Type 0
 Comes c w =
     let a = entry c .args in
     let here = c .before .loop in
-    Coming (a .case .now) (resultsIn (a .book .now)) (a .seats .now) (a .s) (a .tier) (a .set) (a .held) (a .workshops) (a .visits .now) (here .visits) (here .count) (here .openings) (here .k) w (getD (pairs-of c) (here .k) 0) (getD (starts-of c) (here .k) 0)
+    Coming (a .case .now) (resultsIn (a .book .now)) (a .seats .now) (a .s) (a .tier) (a .set) (a .held) (a .workshops) (a .visits .now)
+    (here .visits) (here .count) (here .openings) (here .k) w (getD (pairs-of c) (here .k) 0) (getD (starts-of c) (here .k) 0)
 
 few : (c : tie.In-loop Inv-loop μ-loop) → c .before .loop .k < 64
 few c =
     let a = entry c .args in
     let here = c .before .loop in
-    omega (arith, going-few (a .case .now) (resultsIn (a .book .now)) (a .seats .now) (a .s) (a .tier) (a .set) (a .held) (a .workshops) (c .before .before .before .before .list-tier .result) (pairs-of c) (starts-of c) (a .visits .now) (here .visits) (here .count) (here .openings) (here .k) (here .inv), entry c .pre .0 .found .manyWorkshops)
+    omega (
+      arith,
+      going-few (a .case .now) (resultsIn (a .book .now)) (a .seats .now) (a .s) (a .tier) (a .set) (a .held) (a .workshops)
+          (c .before .before .before .before .list-tier .result) (pairs-of c) (starts-of c) (a .visits .now) (here .visits) (here .count) (here .openings)
+          (here .k) (here .inv),
+      entry c .pre .0 .found .manyWorkshops,
+    )
 
 -- the record at place k of the list is that of a pair, which names the workshop
 within : (c : tie.In-loop Inv-loop μ-loop) → getD (pairs-of c) (c .before .loop .k) 0 < rowCount (entry c .args .case .now)
 within c =
     let a = entry c .args in
     let here = c .before .loop in
-    coming-within (a .case .now) (resultsIn (a .book .now)) (a .seats .now) (a .s) (a .tier) (a .set) (a .held) (a .workshops) (c .before .before .before .before .list-tier .result) (pairs-of c) (starts-of c) (a .visits .now) (here .visits) (here .count) (here .openings) (here .k) (here .inv) (omega arith) (entry c .pre .0 .pair (a .s))
+    coming-within (a .case .now) (resultsIn (a .book .now)) (a .seats .now) (a .s) (a .tier) (a .set) (a .held) (a .workshops)
+    (c .before .before .before .before .list-tier .result) (pairs-of c) (starts-of c) (a .visits .now) (here .visits) (here .count) (here .openings)
+    (here .k) (here .inv) (omega arith) (entry c .pre .0 .pair (a .s))
 
 comes : (c : tie.After-second-at Inv-loop μ-loop) → Comes (c .before) (c .second-at .result)
 comes c =
     let d = c .before in
     let a = entry d .args in
     let here = d .before .loop in
-    coming-as (a .case .now) (resultsIn (a .book .now)) (a .seats .now) (a .s) (a .tier) (a .set) (a .held) (a .workshops) (d .before .before .before .before .list-tier .result) (pairs-of d) (starts-of d) (a .visits .now) (here .visits) (here .count) (here .openings) (here .k) (here .inv) (omega arith) (entry d .pre .0 .pair (a .s)) (c .second-at .result) (c .second-at .ensures)
+    coming-as (a .case .now) (resultsIn (a .book .now)) (a .seats .now) (a .s) (a .tier) (a .set) (a .held) (a .workshops)
+    (d .before .before .before .before .list-tier .result) (pairs-of d) (starts-of d) (a .visits .now) (here .visits) (here .count) (here .openings)
+    (here .k) (here .inv) (omega arith) (entry d .pre .0 .pair (a .s)) (c .second-at .result) (c .second-at .ensures)
 
-pair-at : (c : tie.After-second-at Inv-loop μ-loop) → (let a = entry (c .before) .args in (marketIn (a .case .now) .paired (a .s) (c .second-at .result) ≡ true) × PairAt (a .case .now) (a .s) (c .second-at .result))
+pair-at : (c : tie.After-second-at Inv-loop μ-loop) → (let a = entry (c .before) .args in
+    (marketIn (a .case .now) .paired (a .s) (c .second-at .result) ≡ true) × PairAt (a .case .now) (a .s) (c .second-at .result))
 pair-at c =
     let a = entry (c .before) .args in
     let p = tier-pair (marketIn (a .case .now)) (resultsIn (a .book .now)) (a .seats .now) (a .s) (a .tier) (c .second-at .result) (comes c .tier) in
@@ -73,20 +85,25 @@ bounds : (c : tie.After-second-at Inv-loop μ-loop) → (1 ≤ c .second-at .res
 bounds c = let x = comes c in (omega (arith, x .number), omega (arith, x .number, x .below), entry (c .before) .pre .0 .found .manyWorkshops)
 
 -- whether the workshop is to be interviewed
-shut : (c : tie.After-is-shut Inv-loop μ-loop) → (let d = c .before .before .before in let a = entry (d .before) .args in c .is-shut .result ≡ shutBy (marketIn (a .case .now)) (resultsIn (a .book .now)) (lastOf (marketIn (a .case .now)) (a .seats .now) (d .second-at .result)) (a .s) (d .second-at .result))
+shut : (c : tie.After-is-shut Inv-loop μ-loop) → (let d = c .before .before .before in let a = entry (d .before) .args in c .is-shut .result ≡ shutBy
+    (marketIn (a .case .now)) (resultsIn (a .book .now)) (lastOf (marketIn (a .case .now)) (a .seats .now) (d .second-at .result)) (a .s)
+    (d .second-at .result))
 shut c =
     let d = c .before .before .before in
     let a = entry (d .before) .args in
-    c .is-shut .ensures (resultsIn (a .book .now)) (a .s) (tier-at (a .case .now) (a .s) (d .second-at .result) _ (c .before .workshop-tier .result) (pair-at d .1) (comes d .pair) (c .before .workshop-tier .ensures))
+    c .is-shut .ensures (resultsIn (a .book .now)) (a .s) (tier-at (a .case .now) (a .s) (d .second-at .result) _ (c .before .workshop-tier .result)
+    (pair-at d .1) (comes d .pair) (c .before .workshop-tier .ensures))
 
-due : (c : tie.Else1 Inv-loop μ-loop) → (let d = c .before .before .before .before in let a = entry (d .before) .args in dueAt (marketIn (a .case .now)) (resultsIn (a .book .now)) (a .seats .now) (a .s) (a .tier) (d .second-at .result) ≡ true)
+due : (c : tie.Else1 Inv-loop μ-loop) → (let d = c .before .before .before .before in let a = entry (d .before) .args in dueAt
+    (marketIn (a .case .now)) (resultsIn (a .book .now)) (a .seats .now) (a .s) (a .tier) (d .second-at .result) ≡ true)
 due c =
     let d = c .before .before .before .before in
     let a = entry (d .before) .args in
     tier-due (marketIn (a .case .now)) (resultsIn (a .book .now)) (a .seats .now) (a .s) (a .tier) (d .second-at .result) (comes d .tier) false (sym (shut (c .before)) ∙ c .if1 .left)
 
 -- its interview is in the book, where the index says
-booked : (c : tie.Else2 Inv-loop μ-loop) → (let d = c .before .before .before .before .before .before in let a = entry (d .before) .args in Booked (marketIn (a .case .now)) (resultsIn (a .book .now)) (a .s) (d .second-at .result))
+booked : (c : tie.Else2 Inv-loop μ-loop) → (let d = c .before .before .before .before .before .before in let a = entry (d .before) .args in Booked
+    (marketIn (a .case .now)) (resultsIn (a .book .now)) (a .s) (d .second-at .result))
 booked c =
     let d = c .before .before .before .before .before .before in
     let start = entry (d .before) in
@@ -99,8 +116,10 @@ booked c =
       met = met-by k (start .args .s) (d .second-at .result) p _ (c .before .entry-of .result) (comes d .pair) (c .before .entry-of .ensures) (c .if2 .left);
     }
 
-entered : (c : tie.Else2 Inv-loop μ-loop) → (let d = c .before .before .before .before .before .before in let a = entry (d .before) .args in EntryAt (a .book .now) (a .s) (d .second-at .result) (c .before .entry-of .result))
-entered c = let d = c .before .before .before .before .before .before in entry-known (entry (d .before) .pre .0) (booked c) _ (c .before .entry-of .result) (comes d .pair) (c .before .entry-of .ensures)
+entered : (c : tie.Else2 Inv-loop μ-loop) → (let d = c .before .before .before .before .before .before in let a = entry (d .before) .args in EntryAt
+    (a .book .now) (a .s) (d .second-at .result) (c .before .entry-of .result))
+entered c = let d = c .before .before .before .before .before .before in entry-known (entry (d .before) .pre .0) (booked c) _
+    (c .before .entry-of .result) (comes d .pair) (c .before .entry-of .ensures)
 
 -- there is room for it in the visits
 room : (c : tie.Else1 Inv-loop μ-loop) → (let here = c .before .before .before .before .before .before .loop in 2 * here .count + 2 ≤ length (here .visits))
@@ -110,7 +129,9 @@ room c =
     let a = start .args in
     let here = d .before .before .loop in
     let x = comes d in
-    round-room (marketIn (a .case .now)) (resultsIn (a .book .now)) (a .seats .now) (a .s) (a .tier) (a .set) (a .held) (a .visits .now) (here .visits) (here .count) (here .openings) (x .at) (a .workshops) (x .so) (start .pre .1 .1 .1) (x .below) (d .second-at .result) (x .number) (due c)
+    round-room (marketIn (a .case .now)) (resultsIn (a .book .now)) (a .seats .now) (a .s) (a .tier) (a .set) (a .held) (a .visits .now)
+    (here .visits) (here .count) (here .openings) (x .at) (a .workshops) (x .so) (start .pre .1 .1 .1) (x .below) (d .second-at .result) (x .number)
+    (due c)
 
 slice-aggregate-list-tier : tie.Need-slice-aggregate-list-tier Inv-loop μ-loop
 slice-aggregate-list-tier c = refl
@@ -119,13 +140,15 @@ slice-aggregate-list-tier-2 : tie.Need-slice-aggregate-list-tier-2 Inv-loop μ-l
 slice-aggregate-list-tier-2 c = refl
 
 list-tier-requires : tie.Need-list-tier-requires Inv-loop μ-loop
-list-tier-requires c κs = let start = c .before .before .before .before .before .before .before in let k = start .pre .0 in ((omega (arith, k), k .found .manyWorkshops, k .found .manyWorkshops), (k .found, (k .workshop, k .pair (start .args .s))))
+list-tier-requires c κs = let start = c .before .before .before .before .before .before .before in let k = start .pre .0 in
+    ((omega (arith, k), k .found .manyWorkshops, k .found .manyWorkshops), (k .found, (k .workshop, k .pair (start .args .s))))
 
 loop-holds : tie.Need-loop-holds Inv-loop μ-loop
 loop-holds c =
     let a = c .before .before .before .before .before .before .before .before .before .before .args in
     let l = c .before .before .list-tier in
-    going-start (a .case .now) (resultsIn (a .book .now)) (a .seats .now) (a .s) (a .tier) (a .set) (a .held) (a .workshops) (l .result) (l .last .1 .1 .1 .1 .1 .0) (l .last .1 .1 .1 .1 .1 .1 .0) (a .visits .now) (l .ensures)
+    going-start (a .case .now) (resultsIn (a .book .now)) (a .seats .now) (a .s) (a .tier) (a .set) (a .held) (a .workshops) (l .result)
+    (l .last .1 .1 .1 .1 .1 .0) (l .last .1 .1 .1 .1 .1 .1 .0) (a .visits .now) (l .ensures)
 
 mul-pair : tie.Need-mul-pair Inv-loop μ-loop
 mul-pair c = omega (arith, few c)
@@ -172,8 +195,12 @@ loop-again c =
     let here = d .before .before .loop in
     let x = comes d in
     let e = tier-due (marketIn (a .case .now)) (resultsIn (a .book .now)) (a .seats .now) (a .s) (a .tier) (d .second-at .result) (x .tier) true (sym (shut (c .before)) ∙ c .if1 .taken) in
-    let r = round-skip (marketIn (a .case .now)) (resultsIn (a .book .now)) (a .seats .now) (a .s) (a .tier) (a .set) (a .held) (a .visits .now) (here .visits) (here .count) (here .openings) (x .at) (a .workshops) (x .so) (start .pre .1 .1 .1) (x .below) (d .second-at .result) (x .number) e in
-    going-on (a .case .now) (resultsIn (a .book .now)) (a .seats .now) (a .s) (a .tier) (a .set) (a .held) (a .workshops) (d .before .before .before .before .before .list-tier .result) (pairs-of (d .before)) (starts-of (d .before)) (a .visits .now) (here .visits) (here .count) (here .openings) (here .k) (here .inv) (d .second-at .result) _ _ _ _ _ x r
+    let r = round-skip (marketIn (a .case .now)) (resultsIn (a .book .now)) (a .seats .now) (a .s) (a .tier) (a .set) (a .held) (a .visits .now)
+    (here .visits) (here .count) (here .openings) (x .at) (a .workshops) (x .so) (start .pre .1 .1 .1) (x .below) (d .second-at .result) (x .number)
+    e in
+    going-on (a .case .now) (resultsIn (a .book .now)) (a .seats .now) (a .s) (a .tier) (a .set) (a .held) (a .workshops)
+    (d .before .before .before .before .before .list-tier .result) (pairs-of (d .before)) (starts-of (d .before)) (a .visits .now) (here .visits)
+    (here .count) (here .openings) (here .k) (here .inv) (d .second-at .result) _ _ _ _ _ x r
 
 add-entry-of : tie.Need-add-entry-of Inv-loop μ-loop
 add-entry-of c = omega (arith, c .before .before .before .before .before .before .before .before .before .before .before .before .before .before .before .before .before .pre .0)
@@ -189,7 +216,8 @@ same-length c =
     let d = c .before .before .before .before .before .before .before in
     let a = entry d .args in
     let here = d .before .loop in
-    round-length (marketIn (a .case .now)) (resultsIn (a .book .now)) (a .seats .now) (a .s) (a .tier) (a .set) (a .held) (a .visits .now) (here .visits) (here .count) (here .openings) (here .inv .done) (a .workshops) (here .inv .so) (entry d .pre .1 .1 .1) (here .inv .within)
+    round-length (marketIn (a .case .now)) (resultsIn (a .book .now)) (a .seats .now) (a .s) (a .tier) (a .set) (a .held) (a .visits .now)
+    (here .visits) (here .count) (here .openings) (here .inv .done) (a .workshops) (here .inv .so) (entry d .pre .1 .1 .1) (here .inv .within)
 
 returns : tie.Need-returns Inv-loop μ-loop
 returns c =
@@ -199,14 +227,30 @@ returns c =
     let here = d .before .before .loop in
     let x = comes d in
     let q = unmet-by (start .pre .0) (a .s) (d .second-at .result) (pair-at d .0) _ (c .before .entry-of .result) (x .pair) (c .before .entry-of .ensures) (c .if2 .taken) in
-    let r = round-missing (marketIn (a .case .now)) (resultsIn (a .book .now)) (a .seats .now) (a .s) (a .tier) (a .set) (a .held) (a .visits .now) (here .visits) (here .count) (here .openings) (x .at) (a .workshops) (x .so) (start .pre .1 .1 .1) (x .below) (d .second-at .result) (x .number) (due (c .before .before)) q in
+    let r = round-missing (marketIn (a .case .now)) (resultsIn (a .book .now)) (a .seats .now) (a .s) (a .tier) (a .set) (a .held) (a .visits .now)
+    (here .visits) (here .count) (here .openings) (x .at) (a .workshops) (x .so) (start .pre .1 .1 .1) (x .below) (d .second-at .result) (x .number)
+    (due (c .before .before)) q in
     (r .0, r .1)
 
 cast-put-interview : tie.Need-cast-put-interview Inv-loop μ-loop
-cast-put-interview c = let start = c .before .before .before .before .before .before .before .before .before .before .before .before .before .before .before .before .before .before .before .before in omega (arith, bounds (c .before .before .before .before .before .before .before), start .pre .0 .found .manyStudents, start .pre .1 .0)
+cast-put-interview c = let start = c .before .before .before .before .before .before .before .before .before .before .before .before .before .before
+    .before .before .before .before .before .before in omega (
+      arith,
+      bounds (c .before .before .before .before .before .before .before),
+      start .pre .0
+          .found .manyStudents,
+      start .pre .1 .0,
+    )
 
 cast-put-interview-2 : tie.Need-cast-put-interview-2 Inv-loop μ-loop
-cast-put-interview-2 c = let start = c .before .before .before .before .before .before .before .before .before .before .before .before .before .before .before .before .before .before .before .before in omega (arith, bounds (c .before .before .before .before .before .before .before), start .pre .0 .found .manyStudents, start .pre .1 .0)
+cast-put-interview-2 c = let start = c .before .before .before .before .before .before .before .before .before .before .before .before .before .before
+    .before .before .before .before .before .before in omega (
+      arith,
+      bounds (c .before .before .before .before .before .before .before),
+      start .pre .0
+          .found .manyStudents,
+      start .pre .1 .0,
+    )
 
 put-interview-requires : tie.Need-put-interview-requires Inv-loop μ-loop
 put-interview-requires c κs = room (c .before .before .before)
@@ -223,7 +267,14 @@ add-count c =
     let d = c .before .before .before .before .before .before .before .before .before .before .before .before in
     let a = entry d .args in
     let here = d .before .loop in
-    omega (arith, room (c .before .before .before .before .before .before .before), round-length (marketIn (a .case .now)) (resultsIn (a .book .now)) (a .seats .now) (a .s) (a .tier) (a .set) (a .held) (a .visits .now) (here .visits) (here .count) (here .openings) (here .inv .done) (a .workshops) (here .inv .so) (entry d .pre .1 .1 .1) (here .inv .within), entry d .good)
+    omega (
+      arith,
+      room (c .before .before .before .before .before .before .before),
+      round-length (marketIn (a .case .now)) (resultsIn (a .book .now))
+          (a .seats .now) (a .s) (a .tier) (a .set) (a .held) (a .visits .now) (here .visits) (here .count) (here .openings) (here .inv .done)
+          (a .workshops) (here .inv .so) (entry d .pre .1 .1 .1) (here .inv .within),
+      entry d .good,
+    )
 
 add-k-2 : tie.Need-add-k-2 Inv-loop μ-loop
 add-k-2 c = omega (arith, few (c .before .before .before .before .before .before .before .before .before .before .before .before))
@@ -240,23 +291,32 @@ loop-again-2 c =
     let x = comes d in
     let t = tier-at (a .case .now) (a .s) (d .second-at .result) _ _ (pair-at d .1) (x .pair) refl in
     let o = c .opened .ensures (a .s) t (sym (entered (c .before .before .before .before .before) .workshopScore)) in
-    let r = round-held (marketIn (a .case .now)) (resultsIn (a .book .now)) (a .seats .now) (a .s) (a .tier) (a .set) (a .held) (a .visits .now) (here .visits) (here .count) (here .openings) (x .at) (a .workshops) (x .so) (start .pre .1 .1 .1) (x .below) (d .second-at .result) (x .number) (due (c .before .before .before .before .before .before .before)) (booked (c .before .before .before .before .before) .met) in
-    going-on (a .case .now) (resultsIn (a .book .now)) (a .seats .now) (a .s) (a .tier) (a .set) (a .held) (a .workshops) (d .before .before .before .before .before .list-tier .result) (pairs-of (d .before)) (starts-of (d .before)) (a .visits .now) (here .visits) (here .count) (here .openings) (here .k) (here .inv) (d .second-at .result) _ _ _ _ _ x (rw (c .before .before .before .put-interview .ensures, o) r)
+    let r = round-held (marketIn (a .case .now)) (resultsIn (a .book .now)) (a .seats .now) (a .s) (a .tier) (a .set) (a .held) (a .visits .now)
+    (here .visits) (here .count) (here .openings) (x .at) (a .workshops) (x .so) (start .pre .1 .1 .1) (x .below) (d .second-at .result) (x .number)
+    (due (c .before .before .before .before .before .before .before)) (booked (c .before .before .before .before .before) .met) in
+    going-on (a .case .now) (resultsIn (a .book .now)) (a .seats .now) (a .s) (a .tier) (a .set) (a .held) (a .workshops)
+    (d .before .before .before .before .before .list-tier .result) (pairs-of (d .before)) (starts-of (d .before)) (a .visits .now) (here .visits)
+    (here .count) (here .openings) (here .k) (here .inv) (d .second-at .result) _ _ _ _ _ x
+    (rw (c .before .before .before .put-interview .ensures, o) r)
 
 same-length-2 : tie.Need-same-length-2 Inv-loop μ-loop
 same-length-2 c =
     let here = c .before .loop in
     let start = c .before .before .before .before .before .before .before .before .before .before .before .before in
     let a = start .args in
-    round-length (marketIn (a .case .now)) (resultsIn (a .book .now)) (a .seats .now) (a .s) (a .tier) (a .set) (a .held) (a .visits .now) (here .visits) (here .count) (here .openings) (here .inv .done) (a .workshops) (here .inv .so) (start .pre .1 .1 .1) (here .inv .within)
+    round-length (marketIn (a .case .now)) (resultsIn (a .book .now)) (a .seats .now) (a .s) (a .tier) (a .set) (a .held) (a .visits .now)
+    (here .visits) (here .count) (here .openings) (here .inv .done) (a .workshops) (here .inv .so) (start .pre .1 .1 .1) (here .inv .within)
 
 returns-2 : tie.Need-returns-2 Inv-loop μ-loop
 returns-2 c =
     let here = c .before .loop in
     let l = c .before .before .before .before .list-tier in
     let a = c .before .before .before .before .before .before .before .before .before .before .before .before .args in
-    let g = going-end (a .case .now) (resultsIn (a .book .now)) (a .seats .now) (a .s) (a .tier) (a .set) (a .held) (a .workshops) (l .result) (l .last .1 .1 .1 .1 .1 .0) (l .last .1 .1 .1 .1 .1 .1 .0) (a .visits .now) (here .visits) (here .count) (here .openings) (here .k) (here .inv) (omega arith) in
-    let r = round-end (marketIn (a .case .now)) (resultsIn (a .book .now)) (a .seats .now) (a .s) (a .tier) (a .set) (a .held) (a .visits .now) (here .visits) (here .count) (here .openings) (a .workshops) (a .workshops) g refl in
+    let g = going-end (a .case .now) (resultsIn (a .book .now)) (a .seats .now) (a .s) (a .tier) (a .set) (a .held) (a .workshops) (l .result)
+    (l .last .1 .1 .1 .1 .1 .0) (l .last .1 .1 .1 .1 .1 .1 .0) (a .visits .now) (here .visits) (here .count) (here .openings) (here .k) (here .inv)
+    (omega arith) in
+    let r = round-end (marketIn (a .case .now)) (resultsIn (a .book .now)) (a .seats .now) (a .s) (a .tier) (a .set) (a .held) (a .visits .now)
+    (here .visits) (here .count) (here .openings) (a .workshops) (a .workshops) g refl in
     (r .0, r .1)
 
 pub hold-round-spec : {M : Type 1} → statement M

@@ -28,17 +28,26 @@ head c = c .before .before
 few : (c : tie.After-pair-of Inv-loop μ-loop) → (head c .loop .n ≤ head c .loop .done) × (head c .loop .done < entry c .args .workshops) × (entry c .args .workshops ≤ 64)
 few c =
     let here = head c .loop in
-    let a = entry c .args in
-    (listing-few (a .case .now) (a .s) (a .tier) (a .workshops) (a .pairs .now) (a .starts .now) (here .pairs) (here .starts) (here .n) (here .from) (here .done) (here .inv), omega arith, entry c .pre .1 .0 .manyWorkshops)
+    let a = entry c .args in (
+      listing-few (a .case .now) (a .s) (a .tier) (a .workshops) (a .pairs .now) (a .starts .now) (here .pairs) (here .starts) (here .n) (here .from)
+          (here .done) (here .inv),
+      omega arith,
+      entry c .pre .1 .0 .manyWorkshops,
+    )
 
 -- workshop `done + 1` has been written, and x is 1 where it is of the tier
-more : (c : tie.After-end-of Inv-loop μ-loop) (x : ℕ) → (let d = c .before in let a = entry d .args in let here = head d .loop in x ≡ one (inTier (marketIn (a .case .now)) (a .s) (a .tier) (here .done + 1)) → Listing (a .case .now) (a .s) (a .tier) (a .workshops) (a .pairs .now) (a .starts .now) (set (here .pairs) (here .n) (d .pair-of .result)) (set (here .starts) (here .n) (here .from)) (here .n + x) (c .end-of .result) (here .done + 1))
+more : (c : tie.After-end-of Inv-loop μ-loop) (x : ℕ) → (let d = c .before in let a = entry d .args in let here = head d .loop in x ≡ one
+    (inTier (marketIn (a .case .now)) (a .s) (a .tier) (here .done + 1)) → Listing (a .case .now) (a .s) (a .tier) (a .workshops) (a .pairs .now)
+    (a .starts .now) (set (here .pairs) (here .n) (d .pair-of .result)) (set (here .starts) (here .n) (here .from)) (here .n + x) (c .end-of .result)
+    (here .done + 1))
 more c x e =
     let d = c .before in
     let start = entry d in
     let a = start .args in
     let here = head d .loop in
-    listing-more (a .case .now) (a .s) (a .tier) (a .workshops) (a .pairs .now) (a .starts .now) (here .pairs) (here .starts) (here .n) (here .from) (here .done) (here .inv) (omega (arith, few d)) (omega arith) (omega arith) (d .pair-of .result) (c .end-of .result) x (d .pair-of .ensures) (c .end-of .ensures .0) (c .end-of .ensures .1) e
+    listing-more (a .case .now) (a .s) (a .tier) (a .workshops) (a .pairs .now) (a .starts .now) (here .pairs) (here .starts) (here .n) (here .from)
+    (here .done) (here .inv) (omega (arith, few d)) (omega arith) (omega arith) (d .pair-of .result) (c .end-of .result) x (d .pair-of .ensures)
+    (c .end-of .ensures .0) (c .end-of .ensures .1) e
 
 row-count-requires : tie.Need-row-count-requires Inv-loop μ-loop
 row-count-requires c κs = search needs
@@ -85,7 +94,8 @@ loop-again c =
     let start = entry d in
     let a = start .args in
     let here = head d .loop in
-    let t = tier-paired (a .case .now) (a .s) (here .done + 1) (a .tier) (d .pair-of .result) (d .pair-of .ensures) (omega (arith, d .before .before .before .row-count .ensures)) (start .pre .1 .1 .1 (here .done + 1)) in
+    let t = tier-paired (a .case .now) (a .s) (here .done + 1) (a .tier) (d .pair-of .result) (d .pair-of .ensures)
+    (omega (arith, d .before .before .before .row-count .ensures)) (start .pre .1 .1 .1 (here .done + 1)) in
     more (c .before .before .before) (c .one-if .result) (c .one-if .ensures .0 ∙ rw (t, c .before .student-tier .ensures))
 
 loop-less-2 : tie.Need-loop-less-2 Inv-loop μ-loop
