@@ -55,7 +55,13 @@ above-in (x ∷ xs) k ys a = above-in xs k ys (a .1)
 
 -- the numbers of the causes are 1 to 11
 eleven-above : Above (1 ∷ 2 ∷ 3 ∷ 4 ∷ 5 ∷ 6 ∷ 7 ∷ 8 ∷ 9 ∷ 10 ∷ 11 ∷ [])
-eleven-above = (omega arith, (omega arith, (omega arith, (omega arith, (omega arith, (omega arith, (omega arith, (omega arith, (omega arith, (omega arith, (omega arith, tt)))))))))))
+eleven-above = (
+  omega arith,
+  (
+    omega arith,
+    (omega arith, (omega arith, (omega arith, (omega arith, (omega arith, (omega arith, (omega arith, (omega arith, (omega arith, tt))))))))),
+  ),
+)
 
 -- a cause's number is above 0
 cause-above : (case book : List ℕ) (room : Room) (k i : ℕ) → Refused case book room k i → 0 < k
@@ -131,18 +137,22 @@ module _ (case book places visits seats index : List ℕ) (states : List Student
     ready-here : (j : ℕ) → 0 < stand j .run .hand
         → Ready M B (stand j .visits) (stand j .seats) (getD (stand j .states) (stand j .run .hand - 1) zeroState) (stand j .run)
         × (stand j .run .hand ≤ length (stand j .states))
-    ready-here j = run-ready M (wf case book room valid) B (distinct case book room valid) few visits fits (length seats) (length states) (long .seats) (long .states) j
+    ready-here j = run-ready M (wf case book room valid) B (distinct case book room valid) few visits fits (length seats) (length states)
+        (long .seats) (long .states) j
 
     ends-here : Ends M B visits (stand (fuel M B))
-    ends-here = run-is-rule M (wf case book room valid) B (distinct case book room valid) few visits fits (length seats) (length states) (long .seats) (long .states)
+    ends-here = run-is-rule M (wf case book room valid) B (distinct case book room valid) few visits fits (length seats) (length states) (long .seats)
+        (long .states)
 
   -- ---- the run can be taken
   pub turn-ready : (j : ℕ) → 0 < hand (after j)
-      → StepReady case book index₁ (after j .0) (after j .1 .0) (getD (after j .1 .1 .0) (hand (after j) - 1) zeroState) (after j .1 .1 .1) (p .students) (p .workshops)
+      → StepReady case book index₁ (after j .0) (after j .1 .0) (getD (after j .1 .1 .0) (hand (after j) - 1) zeroState) (after j .1 .1 .1)
+      (p .students) (p .workshops)
   turn-ready j = by-refusal (refusal case book room) refl
     where
       by-refusal : (o : Option (ℕ × ℕ)) → refusal case book room ≡ o → 0 < hand (after j)
-          → StepReady case book index₁ (after j .0) (after j .1 .0) (getD (after j .1 .1 .0) (hand (after j) - 1) zeroState) (after j .1 .1 .1) (p .students) (p .workshops)
+          → StepReady case book index₁ (after j .0) (after j .1 .0) (getD (after j .1 .1 .0) (hand (after j) - 1) zeroState) (after j .1 .1 .1)
+          (p .students) (p .workshops)
       by-refusal (some (k, i)) e pos = absurd (omega (arith, ap hand (idle k i e j), ap (λ r. r .hand) (halted k i e .run)))
       by-refusal none e pos = record {
         clean = started e .clean;
@@ -155,7 +165,8 @@ module _ (case book places visits seats index : List ℕ) (states : List Student
     where
       by-refusal : (o : Option (ℕ × ℕ)) → refusal case book room ≡ o → 0 < hand (after j) → hand (after j) ≤ length (after j .1 .1 .0)
       by-refusal (some (k, i)) e pos = absurd (omega (arith, ap hand (idle k i e j), ap (λ r. r .hand) (halted k i e .run)))
-      by-refusal none e pos = subst (λ (σ : Kept). hand σ ≤ length (σ .1 .1 .0)) (sym (begins e j)) (ready-here e j (subst (λ (σ : Kept). 0 < hand σ) (begins e j) pos) .1)
+      by-refusal none e pos = subst (λ (σ : Kept). hand σ ≤ length (σ .1 .1 .0)) (sym (begins e j))
+          (ready-here e j (subst (λ (σ : Kept). 0 < hand σ) (begins e j) pos) .1)
 
   pub run-ends : hand (after (fuel M B)) ≡ 0
   run-ends = by-refusal (refusal case book room) refl
@@ -169,7 +180,8 @@ module _ (case book places visits seats index : List ℕ) (states : List Student
     -- what the run has left
     left : (e : refusal case book room ≡ none) → Ends M B visits (record { visits = visits₂; seats = seats₂; states = states₂; run = r })
     left e =
-        subst (λ (σ : Kept). Ends M B visits (record { visits = σ .0; seats = σ .1 .0; states = σ .1 .1 .0; run = σ .1 .1 .1 })) (sym (ran ∙ begins e (fuel M B))) (ends-here e)
+        subst (λ (σ : Kept). Ends M B visits (record { visits = σ .0; seats = σ .1 .0; states = σ .1 .1 .0; run = σ .1 .1 .1 }))
+        (sym (ran ∙ begins e (fuel M B))) (ends-here e)
 
     -- the answer, the places and the visits are those of a
     record Left (a : Outcome) : Type 0 where
@@ -201,7 +213,8 @@ module _ (case book places visits seats index : List ℕ) (states : List Student
       going : eqb (p .cause) 0 ≡ true
       going = eq-eqb (p .cause) 0 (started e .cause)
 
-      when-stopped : (s w : ℕ) (vs : List Interview) → Lacking M visits s w vs (record { visits = visits₂; seats = seats₂; states = states₂; run = r }) → Left (next s w vs)
+      when-stopped : (s w : ℕ) (vs : List Interview) → Lacking M visits s w vs
+          (record { visits = visits₂; seats = seats₂; states = states₂; run = r }) → Left (next s w vs)
       unfolding answerEnd toPlace answerFor placesAfter visitsAfter
       when-stopped s w vs l =
           let y : eqb (r .workshop) 0 ≡ false = ne-eqb (r .workshop) 0 (λ q. omega (arith, l .workshop, l .real)) in

@@ -158,7 +158,8 @@ module _ (case table : List ℕ) (T : Tabled case table) (s : ℕ) where
           let e : marketIn case .paired s (r .0) ≡ true = sym (T .set s (r .0) f g) ∙ r .3 in
           let q : pairPlace case s (r .0) ≡ firstOf table s + k = T .place s (r .0) e ∙ ap (λ (x : ℕ). firstOf table s + x) (r .4) in
           let t : (firstOf table s + k < rowCount case) × (isPair s (r .0) (rowAt case (firstOf table s + k)) ≡ true) = rw q at (pair-there case s (r .0) e) in
-          let y : (rowAt case (firstOf table s + k) .kind ≡ 3) × (rowAt case (firstOf table s + k) .first ≡ s) × (rowAt case (firstOf table s + k) .second ≡ r .0) =
+          let y : (rowAt case (firstOf table s + k) .kind ≡ 3) × (rowAt case (firstOf table s + k) .first ≡ s) ×
+          (rowAt case (firstOf table s + k) .second ≡ r .0) =
           pair-says s (r .0) (rowAt case (firstOf table s + k)) (t .1) in
           (t .0, y .0, y .1)
 

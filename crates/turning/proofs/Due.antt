@@ -66,7 +66,8 @@ module _ (case : List ℕ) (s w t p : ℕ) (e : p ≡ pairPlace case s w) where
     -- the record has the workshop's number
     pub pair-second : rowAt case p .second ≡ w
     pair-second =
-        pair-says s w (rowAt case p) (first-passes (λ i. isPair s w (rowAt case i)) (rowCount case) p (some-by (λ i. isPair s w (rowAt case i)) (rowCount case) p e l)) .2
+        pair-says s w (rowAt case p) (first-passes (λ i. isPair s w (rowAt case i)) (rowCount case) p
+        (some-by (λ i. isPair s w (rowAt case i)) (rowCount case) p e l)) .2
 
 -- the workshop's tier, from the pair's record
 pub tier-at : (case : List ℕ) (s w p t : ℕ) → PairAt case s w → p ≡ pairPlace case s w → t ≡ rowAt case p .fourth → t ≡ marketIn case .workshopTier w s

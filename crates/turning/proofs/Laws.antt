@@ -25,7 +25,8 @@ module _ (stage : ℕ → ℕ) (s t first : ℕ) (a : 1 ≤ t) (e : first ≡ ne
   unfolding nextIn
   step b q = go t a e q
     where
-      go : (t : ℕ) → 1 ≤ t → first ≡ nextIn stage s (t - 1) → (comesAfter stage s t && (eqb first 0 || ltb (stage t) (stage first))) ≡ b → nextIn stage s (t + 1 - 1) ≡ cond b t first
+      go : (t : ℕ) → 1 ≤ t → first ≡ nextIn stage s (t - 1) → (comesAfter stage s t && (eqb first 0 || ltb (stage t) (stage first))) ≡ b
+          → nextIn stage s (t + 1 - 1) ≡ cond b t first
       go zero a e q = absurd (omega arith)
       go (suc k) a e q =
           let d : suc k + 1 - 1 ≡ suc k = omega arith in
@@ -67,7 +68,8 @@ module _ (stage : ℕ → ℕ) (s t : ℕ) (a : 1 ≤ s) (b : s < t) (e : stage 
       ⊎-elim
       (λ (q : better k ≡ true).
       let n : nextIn stage s (suc k) ≡ suc k = next-on k true q in
-      ⊎-elim (λ (u : stage s < stage (suc k)). inr (rw n u)) (λ u. absurd (other (suc k) (u .1) l (sym (u .0)))) (after-says (suc k) (and-left (comesAfter stage s (suc k)) _ q)))
+      ⊎-elim (λ (u : stage s < stage (suc k)). inr (rw n u)) (λ u. absurd (other (suc k) (u .1) l (sym (u .0))))
+      (after-says (suc k) (and-left (comesAfter stage s (suc k)) _ q)))
       (λ (q : better k ≡ false). rw (next-on k false q) (later k (omega arith)))
       (bool-cases (better k))
 
@@ -99,7 +101,8 @@ module _ (stage : ℕ → ℕ) (s t : ℕ) (a : 1 ≤ s) (b : s < t) (e : stage 
       worse n h (inr c) (inr z) = omega (arith, ltb-true (stage (suc n)) (stage (nextIn stage s n)) z, ap stage h, e)
 
 -- a student of another stage is passed
-pub other-on : (stage : ℕ → ℕ) (s t : ℕ) → ((k : ℕ) → s < k → k < t → stage k ≡ stage s → ⊥) → (stage t ≡ stage s → ⊥) → (k : ℕ) → s < k → k < t + 1 → stage k ≡ stage s → ⊥
+pub other-on : (stage : ℕ → ℕ) (s t : ℕ) → ((k : ℕ) → s < k → k < t → stage k ≡ stage s → ⊥) → (stage t ≡ stage s → ⊥) → (k : ℕ) → s < k → k < t + 1
+    → stage k ≡ stage s → ⊥
 other-on stage s t f g k a b e = ⊎-elim (λ (q : k < t). f k a q e) (λ (q : t ≤ k). let d : t ≡ k = omega arith in g (ap stage d ∙ e)) (less? k t)
 
 -- ---- the best of a set: the lowest is compared with the best so far, and taken out
@@ -120,7 +123,8 @@ module _ (M : Market) (B : Results) (s start set : ℕ) where
   unfolding best pick
   same-on b b′ w rest rest′ low f e = rw (members-low rest rest′ w low f, e)
 
-  pub best-start : (top : ℤ) → set < 2 ^ 64 → biased top ≡ B .studentScore s start → ((w : ℕ) → member set w ≡ true → Booked M B s w) → Best M B s start set start top set
+  pub best-start : (top : ℤ) → set < 2 ^ 64 → biased top ≡ B .studentScore s start → ((w : ℕ) → member set w ≡ true → Booked M B s w)
+      → Best M B s start set start top set
   best-start top h e k = record { small = h; score = e; same = refl; known = k }
 
   module _ (c rest rest′ w : ℕ) (top score : ℤ) (b : Best M B s start set c top rest) (low : Low rest w)

@@ -50,11 +50,14 @@ module _ (case : List ℕ) (s t : ℕ) (pairs starts : List ℕ) where
       more : n + x ≡ count (inTier (marketIn case) s t) (suc k)
       more = let f′ : x ≡ one (inTier (marketIn case) s t (suc k)) = rw (add-one k) at f in omega (arith, l .many)
 
-      pair′ : (v : ℕ) → v < suc k → inTier (marketIn case) s t (suc v) ≡ true → getD (set pairs n p) (count (inTier (marketIn case) s t) v) 0 ≡ pairPlace case s (suc v)
+      pair′ : (v : ℕ) → v < suc k → inTier (marketIn case) s t (suc v) ≡ true → getD (set pairs n p)
+          (count (inTier (marketIn case) s t) v) 0 ≡ pairPlace case s (suc v)
       pair′ = rw (l .many) (placed (inTier (marketIn case) s t) (pairPlace case s) k p pairs (l .pair) (omega (arith, l .many)) (rw (add-one k) at d))
 
-      start′ : (v : ℕ) → v < suc k → inTier (marketIn case) s t (suc v) ≡ true → getD (set starts n q) (count (inTier (marketIn case) s t) v) 0 ≡ seatsBefore (marketIn case) (suc v)
-      start′ = rw (l .many) (placed (inTier (marketIn case) s t) (seatsBefore (marketIn case)) k q starts (l .start) (omega (arith, l .many)) (rw (add-one k) at e))
+      start′ : (v : ℕ) → v < suc k → inTier (marketIn case) s t (suc v) ≡ true → getD (set starts n q)
+          (count (inTier (marketIn case) s t) v) 0 ≡ seatsBefore (marketIn case) (suc v)
+      start′ = rw (l .many) (placed (inTier (marketIn case) s t) (seatsBefore (marketIn case)) k q starts (l .start) (omega (arith, l .many))
+          (rw (add-one k) at e))
 
 -- after the first k workshops: n are listed, and `from` is where the next one's seats start
 pub record Listing (case : List ℕ) (s t m : ℕ) (oldPairs oldStarts pairs starts : List ℕ) (n from k : ℕ) : Type 0 where
@@ -93,7 +96,8 @@ module _ (case : List ℕ) (s t m : ℕ) (oldPairs oldStarts : List ℕ) where
     listing-more l a b p q x d e f g =
         record {
           within = omega arith;
-          listed = list-more case s t pairs starts k n (i .listed) (omega (arith, i .samePairs, listing-few)) (omega (arith, i .sameStarts, listing-few)) p from x d (i .seats) g;
+          listed = list-more case s t pairs starts k n (i .listed) (omega (arith, i .samePairs, listing-few))
+              (omega (arith, i .sameStarts, listing-few)) p from x d (i .seats) g;
           seats = omega (arith, i .seats, before-on (marketIn case) (k + 1) (omega arith));
           small = omega (arith, i .small);
           samePairs = length-set pairs n p ∙ i .samePairs;
@@ -215,7 +219,8 @@ module _ (case : List ℕ) (B : Results) (seats : List ℕ) (s t set held m n : 
         pub coming-within : getD pairs k 0 < rowCount case
         coming-within = omega (arith, coming .pair, found (suc (ahead .at)) (tier-pair (marketIn case) B seats s t (suc (ahead .at)) (coming .tier)) .within)
 
-        pub coming-as : (w : ℕ) → w ≡ rowAt case (getD pairs k 0) .second → Coming case B seats s t set held m old visits total openings k w (getD pairs k 0) (getD starts k 0)
+        pub coming-as : (w : ℕ) → w ≡ rowAt case (getD pairs k 0) .second → Coming case B seats s t set held m old visits total openings k w
+            (getD pairs k 0) (getD starts k 0)
         coming-as w e = rw (e ∙ pair-second case s (suc (ahead .at)) t (getD pairs k 0) (coming .pair) coming-within) coming
 
     -- the workshop has been dealt with

@@ -21,7 +21,8 @@ use Rattle.turning.proofs.Visits.{put-more, put-none, put-length, flat-
 pub count-to : (p : ℕ → Bool) (i n : ℕ) → i ≤ n → count p i ≤ count p n
 unfolding count
 count-to p i zero h = let e : i ≡ 0 = omega arith in rw e (omega arith)
-count-to p i (suc n) h = ⊎-elim (λ (l : i < suc n). omega (arith, count-to p i n (omega arith))) (λ (l : suc n ≤ i). let e : i ≡ suc n = omega arith in rw e (omega arith)) (less? i (suc n))
+count-to p i (suc n) h = ⊎-elim (λ (l : i < suc n). omega (arith, count-to p i n (omega arith)))
+    (λ (l : suc n ≤ i). let e : i ≡ suc n = omega arith in rw e (omega arith)) (less? i (suc n))
 
 module _ (M : Market) (B : Results) (seats : List ℕ) (s t set : ℕ) where
   abbrev pub soFar : ℕ → RoundSoFar
@@ -48,7 +49,8 @@ module _ (M : Market) (B : Results) (seats : List ℕ) (s t set : ℕ) where
       (λ (m : B .met s (suc k) ≡ false). rw (d, z, m) (omega arith)) (bool-cases (B .met s (suc k))))
       (λ (z : eqb (soFar k .missing) 0 ≡ false). rw (d, z) (omega arith)) (bool-cases (eqb (soFar k .missing) 0)))
       (λ (d : dueAt M B seats s t (suc k) ≡ false).
-      ⊎-elim (λ (z : eqb (soFar k .missing) 0 ≡ true). rw (d, z) (omega arith)) (λ (z : eqb (soFar k .missing) 0 ≡ false). rw (d, z) (omega arith)) (bool-cases (eqb (soFar k .missing) 0)))
+      ⊎-elim (λ (z : eqb (soFar k .missing) 0 ≡ true). rw (d, z) (omega arith)) (λ (z : eqb (soFar k .missing) 0 ≡ false). rw (d, z) (omega arith))
+      (bool-cases (eqb (soFar k .missing) 0)))
       (bool-cases (dueAt M B seats s t (suc k)))
 
   few : (k : ℕ) → length (soFar k .interviews) ≤ count (dueAt M B seats s t) k
@@ -70,7 +72,12 @@ module _ (M : Market) (B : Results) (seats : List ℕ) (s t set : ℕ) where
     -- it is, and its interview is held
     taken : B .met s (suc k) ≡ true
         → soFar (suc k)
-        ≡ record { interviews = soFar k .interviews ++ ((s, suc k) ∷ []); openings = cond (unopened M B s (suc k)) (soFar k .openings) (withMember (soFar k .openings) (suc k)); missing = 0 }
+        ≡ record {
+          interviews = soFar k .interviews ++ ((s, suc k) ∷ []);
+          openings = cond (unopened M B s (suc k)) (soFar k .openings)
+              (withMember (soFar k .openings) (suc k));
+          missing = 0;
+        }
     unfolding roundAt
     taken m = come ∙ rw m
 
@@ -106,7 +113,8 @@ module _ (M : Market) (B : Results) (seats : List ℕ) (s t set held : ℕ) (old
     module _ (room : 2 * (held + count (dueAt M B seats s t) n) ≤ length old) where
       pub round-length : k ≤ n → length visits ≡ length old
       round-length l =
-          let a : length (flat (roundTo M B seats s t set k .interviews)) ≡ 2 * length (roundTo M B seats s t set k .interviews) = flat-length (roundTo M B seats s t set k .interviews) in
+          let a : length (flat (roundTo M B seats s t set k .interviews)) ≡ 2 * length (roundTo M B seats s t set k .interviews) = flat-length
+          (roundTo M B seats s t set k .interviews) in
           ap length (r .written)
           ∙ put-length (flat (roundTo M B seats s t set k .interviews)) old (2 * held)
           (omega (arith, few M B seats s t set k, count-to (dueAt M B seats s t) k n l))
@@ -135,7 +143,8 @@ module _ (M : Market) (B : Results) (seats : List ℕ) (s t set held : ℕ) (old
               rw (a, r .written, flat-snoc vs s w) (put-more (flat vs) (s ∷ w ∷ []) old (2 * held) (omega (arith, round-room, round-length (omega arith))))
 
           pub round-held : B .met s w ≡ true
-              → Rounding M B seats s t set held old (putAt (2 * total) (s ∷ w ∷ []) visits) (total + 1) (cond (unopened M B s w) openings (withMember openings w)) w
+              → Rounding M B seats s t set held old (putAt (2 * total) (s ∷ w ∷ []) visits) (total + 1)
+              (cond (unopened M B s w) openings (withMember openings w)) w
           round-held m =
               let vs : List Interview = roundTo M B seats s t set k .interviews in
               let q : roundTo M B seats s t set w
@@ -148,13 +157,16 @@ module _ (M : Market) (B : Results) (seats : List ℕ) (s t set held : ℕ) (old
               record { all = rw q (omega (arith, r .all, length-append vs ((s, w) ∷ []))); sets = rw (q, r .sets); on = rw q; written = rw q more }
 
           -- it is missing, and the round stops
-          pub round-missing : B .met s w ≡ false → Answers (record { count = total; openings = openings; missing = w }) visits held (roundTo M B seats s t set n) old
+          pub round-missing : B .met s w ≡ false → Answers (record { count = total; openings = openings; missing = w }) visits held
+              (roundTo M B seats s t set n) old
           round-missing m = rw whole (same, r .written)
             where
-              q : roundTo M B seats s t set (suc k) ≡ record { interviews = roundTo M B seats s t set k .interviews; openings = roundTo M B seats s t set k .openings; missing = suc k }
+              q : roundTo M B seats s t set (suc k) ≡ record
+                  { interviews = roundTo M B seats s t set k .interviews; openings = roundTo M B seats s t set k .openings; missing = suc k }
               q = lacking M B seats s t set k (r .on) due-next (rw e at m)
 
-              whole : roundTo M B seats s t set n ≡ record { interviews = roundTo M B seats s t set k .interviews; openings = roundTo M B seats s t set k .openings; missing = suc k }
+              whole : roundTo M B seats s t set n ≡ record
+                  { interviews = roundTo M B seats s t set k .interviews; openings = roundTo M B seats s t set k .openings; missing = suc k }
               whole = stays M B seats s t set (suc k) n l (λ z. let y : suc k ≡ 0 = rw q at z in omega arith) ∙ q
 
               same : _≡_ {A = Round} (record { count = total; openings = openings; missing = w })

@@ -132,7 +132,8 @@ module _ (M : Market) (B : Results) (visits seats : List ℕ) (k : StudentState)
     unfolding turnOf
     turn-opens h = rw (← e, ← q, h)
 
-    pub turn-applies : (eqb (t .openings) 0 && not o) ≡ false → turnOf M B visits seats k r ≡ applyTo M B visits seats t r (favouriteIn M B (r .hand) o (t .openings))
+    pub turn-applies : (eqb (t .openings) 0 && not o) ≡ false → turnOf M B visits seats k r ≡ applyTo M B visits seats t r
+        (favouriteIn M B (r .hand) o (t .openings))
     unfolding turnOf
     turn-applies h = rw (← e, ← q, h)
 
@@ -165,7 +166,8 @@ module _ (M : Market) (B : Results) (r : Run) (o : Round) (s : RoundSoFar) (e : 
 best-of : (M : Market) (B : Results) (s : ℕ) (P : ℕ → Type 0) (x : ℕ) (xs : List ℕ) → P x → ((y : ℕ) → Mem y xs → P y) → P (best M B s x xs)
 unfolding best
 best-of M B s P x xs p f =
-    picked (λ y z. ltb (B .studentScore s z) (B .studentScore s y)) (λ y z. Unit {0}) P (λ y. tt) (λ u v w a b. tt) (λ u v a b e. tt) (λ u v a b e. tt) x xs p f .chosen
+    picked (λ y z. ltb (B .studentScore s z) (B .studentScore s y)) (λ y z. Unit {0}) P (λ y. tt) (λ u v w a b. tt) (λ u v a b e. tt)
+    (λ u v a b e. tt) x xs p f .chosen
 
 module _ (M : Market) (B : Results) (s set : ℕ) (P : ℕ → Type 0) (z : P 0) (f : (w : ℕ) → member set w ≡ true → P w) where
   listed : (y : ℕ) → Mem y (members set) → P y

@@ -40,4 +40,5 @@ inTier M s t w = M .paired s w && eqb (M .studentTier s w) t
 pub record TierListed (case : List ℕ) (s t m n : ℕ) (pairs starts : List ℕ) : Type 0 where
   pub many : n ≡ count (inTier (marketIn case) s t) m
   pub pair : (v : ℕ) → v < m → inTier (marketIn case) s t (suc v) ≡ true → getD pairs (count (inTier (marketIn case) s t) v) 0 ≡ pairPlace case s (suc v)
-  pub start : (v : ℕ) → v < m → inTier (marketIn case) s t (suc v) ≡ true → getD starts (count (inTier (marketIn case) s t) v) 0 ≡ seatsBefore (marketIn case) (suc v)
+  pub start : (v : ℕ) → v < m → inTier (marketIn case) s t (suc v) ≡ true → getD starts (count (inTier (marketIn case) s t) v) 0 ≡ seatsBefore
+      (marketIn case) (suc v)

@@ -14,7 +14,8 @@ use Rattle.seating.proofs.seat.Tie as tie
 
 abbrev Inv-loop : tie.InvT-loop
 Inv-loop part₀ case book index students workshops w x hand₀ tier₀ score₀ i₀ part hand tier score i =
-    Pushing (marketIn case) (resultsIn book) w x part₀ part i hand × Booked (marketIn case) (resultsIn book) hand w × Stands (marketIn case) (resultsIn book) w hand tier (toZ w16 score)
+    Pushing (marketIn case) (resultsIn book) w x part₀ part i hand × Booked (marketIn case) (resultsIn book) hand w × Stands (marketIn case)
+    (resultsIn book) w hand tier (toZ w16 score)
 
 abbrev μ-loop : tie.MeasureT-loop
 μ-loop part₀ case book index students workshops w x hand₀ tier₀ score₀ i₀ part hand tier score i = length part₀ - i
@@ -28,7 +29,8 @@ seated c =
     let a = start .args in
     let M = marketIn (a .case .now) in
     let B = resultsIn (a .book .now) in
-    known-there M B (a .w) (a .x) (a .part .now) (here .part) (here .i) (here .hand) (here .inv .0) (omega arith) (λ (y : ℕ). Booked M B y (a .w)) (start .pre .1 .1) (c .if1 .left)
+    known-there M B (a .w) (a .x) (a .part .now) (here .part) (here .i) (here .hand) (here .inv .0) (omega arith) (λ (y : ℕ). Booked M B y (a .w))
+    (start .pre .1 .1) (c .if1 .left)
 
 stands : (c : tie.After-struct-told2 Inv-loop μ-loop) → (let a = c .before .before .before .before .before .before .before .before .before .before
     .before .before .args in let here = c .before .before .before .before .before .loop in let y = c .before .standing-of2 .result in Stands
@@ -121,8 +123,10 @@ loop-again-2 c =
     let a = c .before .before .before .before .before .before .before .before .before .before .before .before .before .before .args in
     let M = marketIn (a .case .now) in
     let B = resultsIn (a .book .now) in
-    let before = before-by M B (a .w) (here .hand) (getD (here .part) (here .i) 0) _ _ _ _ (here .inv .2) (stands (c .before .before)) _ (c .before .ranks-before .ensures) in (
-      push-after M B (a .w) (a .x) (a .part .now) (here .part) (here .i) (here .hand) (here .inv .0) (omega arith) (c .before .before .before .before .if1 .left) (before ∙ c .if2 .left),
+    let before = before-by M B (a .w) (here .hand) (getD (here .part) (here .i) 0) _ _ _ _ (here .inv .2) (stands (c .before .before)) _
+    (c .before .ranks-before .ensures) in (
+      push-after M B (a .w) (a .x) (a .part .now) (here .part) (here .i) (here .hand) (here .inv .0) (omega arith)
+          (c .before .before .before .before .if1 .left) (before ∙ c .if2 .left),
       here .inv .1,
       here .inv .2,
     )

@@ -42,8 +42,14 @@ seat-requires c κs =
     let M = marketIn (a .case .now) in
     let B = resultsIn (a .book .now) in
     let s = c .before .before .start-of in
-    let e = c .before .end-of in
-    (start .pre .0, (start .pre .1 .0, known-lent M (a .seats .now) (a .w) (s .result) (e .result) (s .ensures .0) (e .ensures .0) (λ (y : ℕ). Booked M B y (a .w)) (start .pre .1 .1 .1)))
+    let e = c .before .end-of in (
+      start .pre .0,
+      (
+        start .pre .1 .0,
+        known-lent M (a .seats .now) (a .w) (s .result) (e .result) (s .ensures .0) (e .ensures .0)
+            (λ (y : ℕ). Booked M B y (a .w)) (start .pre .1 .1 .1),
+      ),
+    )
 
 same-length : tie.Need-same-length
 same-length c = search needs

@@ -27,7 +27,13 @@ loop-less : tie.Need-loop-less Inv-loop μ-loop
 loop-less c = omega arith
 
 loop-again : tie.Need-loop-again Inv-loop μ-loop
-loop-again c = (omega arith, omega arith, omega arith, omega (arith, before-on (marketIn (c .before .before .before .before .args .case .now)) (c .before .before .loop .v) (omega arith)))
+loop-again c = (
+  omega arith,
+  omega arith,
+  omega arith,
+  omega
+      (arith, before-on (marketIn (c .before .before .before .before .args .case .now)) (c .before .before .loop .v) (omega arith)),
+)
 
 returns : tie.Need-returns Inv-loop μ-loop
 returns c =

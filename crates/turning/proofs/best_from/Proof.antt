@@ -11,7 +11,8 @@ use Rattle.turning.proofs.best_from.Statement.{statement}
 use Rattle.turning.proofs.best_from.Tie as tie
 
 abbrev Inv-loop : tie.InvT-loop
-Inv-loop case book index students workshops s start set best₀ top₀ rest₀ best top rest = Best (marketIn case) (resultsIn book) s start set best (toZ w16 top) rest
+Inv-loop case book index students workshops s start set best₀ top₀ rest₀ best top rest = Best (marketIn case) (resultsIn book) s start set best
+    (toZ w16 top) rest
 
 abbrev μ-loop : tie.MeasureT-loop
 μ-loop case book index students workshops s start set best₀ top₀ rest₀ best top rest = rest
@@ -53,7 +54,8 @@ loop-again c =
     let w = c .before .before .before .before .lowest in
     let x = c .before .before .before .score-of2 in
     let r = c .before .before .without-lowest in
-    let e : biased (toZ w16 (ofZ w16 (x .result))) ≡ resultsIn (a .book .now) .studentScore (a .s) (w .result) = rw (toZ-ofZ w16 (x .result) (record { sfits = x .ok })) (x .ensures) in
+    let e : biased (toZ w16 (ofZ w16 (x .result))) ≡ resultsIn (a .book .now) .studentScore (a .s) (w .result) = rw
+    (toZ-ofZ w16 (x .result) (record { sfits = x .ok })) (x .ensures) in
     best-higher (marketIn (a .case .now)) (resultsIn (a .book .now)) (a .s) (a .start) (a .set) (here .best) (here .rest) (r .result) (w .result)
     (toZ w16 (here .top)) (toZ w16 (ofZ w16 (x .result))) (here .inv) (w .ensures) (r .ensures .0 (w .result) (w .ensures)) (omega arith) e
     (sym (c .before .above .ensures) ∙ c .if1 .taken)
@@ -68,7 +70,8 @@ loop-again-2 c =
     let w = c .before .before .before .before .lowest in
     let x = c .before .before .before .score-of2 in
     let r = c .before .before .without-lowest in
-    let e : biased (toZ w16 (ofZ w16 (x .result))) ≡ resultsIn (a .book .now) .studentScore (a .s) (w .result) = rw (toZ-ofZ w16 (x .result) (record { sfits = x .ok })) (x .ensures) in
+    let e : biased (toZ w16 (ofZ w16 (x .result))) ≡ resultsIn (a .book .now) .studentScore (a .s) (w .result) = rw
+    (toZ-ofZ w16 (x .result) (record { sfits = x .ok })) (x .ensures) in
     best-kept (marketIn (a .case .now)) (resultsIn (a .book .now)) (a .s) (a .start) (a .set) (here .best) (here .rest) (r .result) (w .result)
     (toZ w16 (here .top)) (toZ w16 (ofZ w16 (x .result))) (here .inv) (w .ensures) (r .ensures .0 (w .result) (w .ensures)) (omega arith) e
     (sym (c .before .above .ensures) ∙ c .if1 .left)

@@ -27,7 +27,8 @@ returns-2 c = let a = c .before .before .before .before .before .before .args in
     (count-empty (a .set) (omega arith) (omega (arith, c .before .count .ensures))))
 
 lowest-requires : tie.Need-lowest-requires
-lowest-requires c κs = let a = c .before .before .before .before .before .before .args in positive (a .set) (λ z. c .if2 .left (c .before .count .ensures ∙ empty-count (a .set) z))
+lowest-requires c κs = let a = c .before .before .before .before .before .before .args in positive (a .set)
+    (λ z. c .if2 .left (c .before .count .ensures ∙ empty-count (a .set) z))
 
 without-bit-requires : tie.Need-without-bit-requires
 without-bit-requires c κs = search needs

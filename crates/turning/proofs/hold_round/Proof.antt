@@ -1,4 +1,5 @@
--- `turning::hold_round` meets its contract. The invariant is `Going`: how far the list of the tier's workshops has been gone over, and what the round so far has given.
+-- `turning::hold_round` meets its contract. The invariant is `Going`: how far the list of the tier's workshops has been gone over, and what the round
+-- so far has given.
 use Prim.Native.Nat.{ℕ, _+_, _-_, _*_, _≤_, _<_}
 use mathlib.Core.Path.{_≡_, refl, sym, _∙_}
 use mathlib.Core.Bool.{true, false}
@@ -81,7 +82,8 @@ pair-at c =
     (p, entry (c .before) .pre .0 .pair (a .s) (c .second-at .result) p)
 
 -- the workshop's number is that of one of the workshops
-bounds : (c : tie.After-second-at Inv-loop μ-loop) → (1 ≤ c .second-at .result) × (c .second-at .result ≤ entry (c .before) .args .workshops) × (entry (c .before) .args .workshops ≤ 64)
+bounds : (c : tie.After-second-at Inv-loop μ-loop) → (1 ≤ c .second-at .result) × (c .second-at .result ≤ entry (c .before) .args .workshops) ×
+    (entry (c .before) .args .workshops ≤ 64)
 bounds c = let x = comes c in (omega (arith, x .number), omega (arith, x .number, x .below), entry (c .before) .pre .0 .found .manyWorkshops)
 
 -- whether the workshop is to be interviewed
@@ -99,7 +101,8 @@ due : (c : tie.Else1 Inv-loop μ-loop) → (let d = c .before .before .before .b
 due c =
     let d = c .before .before .before .before in
     let a = entry (d .before) .args in
-    tier-due (marketIn (a .case .now)) (resultsIn (a .book .now)) (a .seats .now) (a .s) (a .tier) (d .second-at .result) (comes d .tier) false (sym (shut (c .before)) ∙ c .if1 .left)
+    tier-due (marketIn (a .case .now)) (resultsIn (a .book .now)) (a .seats .now) (a .s) (a .tier) (d .second-at .result) (comes d .tier) false
+    (sym (shut (c .before)) ∙ c .if1 .left)
 
 -- its interview is in the book, where the index says
 booked : (c : tie.Else2 Inv-loop μ-loop) → (let d = c .before .before .before .before .before .before in let a = entry (d .before) .args in Booked
@@ -194,7 +197,8 @@ loop-again c =
     let a = start .args in
     let here = d .before .before .loop in
     let x = comes d in
-    let e = tier-due (marketIn (a .case .now)) (resultsIn (a .book .now)) (a .seats .now) (a .s) (a .tier) (d .second-at .result) (x .tier) true (sym (shut (c .before)) ∙ c .if1 .taken) in
+    let e = tier-due (marketIn (a .case .now)) (resultsIn (a .book .now)) (a .seats .now) (a .s) (a .tier) (d .second-at .result) (x .tier) true
+    (sym (shut (c .before)) ∙ c .if1 .taken) in
     let r = round-skip (marketIn (a .case .now)) (resultsIn (a .book .now)) (a .seats .now) (a .s) (a .tier) (a .set) (a .held) (a .visits .now)
     (here .visits) (here .count) (here .openings) (x .at) (a .workshops) (x .so) (start .pre .1 .1 .1) (x .below) (d .second-at .result) (x .number)
     e in
@@ -203,7 +207,11 @@ loop-again c =
     (here .count) (here .openings) (here .k) (here .inv) (d .second-at .result) _ _ _ _ _ x r
 
 add-entry-of : tie.Need-add-entry-of Inv-loop μ-loop
-add-entry-of c = omega (arith, c .before .before .before .before .before .before .before .before .before .before .before .before .before .before .before .before .before .pre .0)
+add-entry-of c = omega (
+  arith,
+  c .before .before .before .before .before .before .before .before .before .before .before .before .before .before
+      .before .before .before .pre .0,
+)
 
 entry-of-requires : tie.Need-entry-of-requires Inv-loop μ-loop
 entry-of-requires c κs =
@@ -226,7 +234,8 @@ returns c =
     let a = start .args in
     let here = d .before .before .loop in
     let x = comes d in
-    let q = unmet-by (start .pre .0) (a .s) (d .second-at .result) (pair-at d .0) _ (c .before .entry-of .result) (x .pair) (c .before .entry-of .ensures) (c .if2 .taken) in
+    let q = unmet-by (start .pre .0) (a .s) (d .second-at .result) (pair-at d .0) _ (c .before .entry-of .result) (x .pair)
+    (c .before .entry-of .ensures) (c .if2 .taken) in
     let r = round-missing (marketIn (a .case .now)) (resultsIn (a .book .now)) (a .seats .now) (a .s) (a .tier) (a .set) (a .held) (a .visits .now)
     (here .visits) (here .count) (here .openings) (x .at) (a .workshops) (x .so) (start .pre .1 .1 .1) (x .below) (d .second-at .result) (x .number)
     (due (c .before .before)) q in

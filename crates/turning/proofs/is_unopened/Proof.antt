@@ -29,7 +29,8 @@ returns c = λ s p q.
     let x = c .before .workshop-score in
     let f = toZ-ofZ w16 (x .result) (record { sfits = x .ok }) in
     let e : c .negative .result ≡ ltb (biased (x .result)) outsideScore = c .negative .ensures ∙ rw f in
-    let t = sym p ∙ sym (c .before .before .before .before .workshop-tier .ensures) ∙ c .before .before .if1 .taken ∙ c .before .before .before .workshop-outside .ensures in
+    let t = sym p ∙ sym (c .before .before .before .before .workshop-tier .ensures) ∙ c .before .before .if1 .taken
+    ∙ c .before .before .before .workshop-outside .ensures in
     rw (e, x .ensures, q, eq-eqb _ _ t)
 
 returns-2 : tie.Need-returns-2

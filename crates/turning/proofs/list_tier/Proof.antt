@@ -13,7 +13,8 @@ use Rattle.turning.proofs.list_tier.Statement.{statement}
 use Rattle.turning.proofs.list_tier.Tie as tie
 
 abbrev Inv-loop : tie.InvT-loop
-Inv-loop case students workshops s tier pairs₀ starts₀ rows n₀ from₀ done₀ pairs starts n from done = Listing case s tier workshops pairs₀ starts₀ pairs starts n from done
+Inv-loop case students workshops s tier pairs₀ starts₀ rows n₀ from₀ done₀ pairs starts n from done = Listing case s tier workshops pairs₀ starts₀
+    pairs starts n from done
 
 abbrev μ-loop : tie.MeasureT-loop
 μ-loop case students workshops s tier pairs₀ starts₀ rows n₀ from₀ done₀ pairs starts n from done = workshops - done
@@ -25,7 +26,8 @@ entry c = c .before .before .before .before .before .before .before
 abbrev head : tie.After-pair-of Inv-loop μ-loop → tie.At-loop Inv-loop μ-loop
 head c = c .before .before
 
-few : (c : tie.After-pair-of Inv-loop μ-loop) → (head c .loop .n ≤ head c .loop .done) × (head c .loop .done < entry c .args .workshops) × (entry c .args .workshops ≤ 64)
+few : (c : tie.After-pair-of Inv-loop μ-loop) → (head c .loop .n ≤ head c .loop .done) × (head c .loop .done < entry c .args .workshops) ×
+    (entry c .args .workshops ≤ 64)
 few c =
     let here = head c .loop in
     let a = entry c .args in (
@@ -106,7 +108,8 @@ loop-again-2 c =
     let d = c .before .before in
     let a = entry d .args in
     let here = head d .loop in
-    let t = tier-unpaired (a .case .now) (a .s) (here .done + 1) (a .tier) (d .pair-of .result) (d .pair-of .ensures) (omega (arith, d .before .before .before .row-count .ensures)) in
+    let t = tier-unpaired (a .case .now) (a .s) (here .done + 1) (a .tier) (d .pair-of .result) (d .pair-of .ensures)
+    (omega (arith, d .before .before .before .row-count .ensures)) in
     let z : here .n + 0 ≡ here .n = omega arith in
     rw z at (more (c .before) 0 (sym (ap one t)))
 
@@ -120,7 +123,8 @@ returns : tie.Need-returns Inv-loop μ-loop
 returns c =
     let here = c .before .loop in
     let a = c .before .before .before .before .before .before .args in
-    listing-end (a .case .now) (a .s) (a .tier) (a .workshops) (a .pairs .now) (a .starts .now) (here .pairs) (here .starts) (here .n) (here .from) (here .done) (here .inv) (omega arith)
+    listing-end (a .case .now) (a .s) (a .tier) (a .workshops) (a .pairs .now) (a .starts .now) (here .pairs) (here .starts) (here .n) (here .from)
+    (here .done) (here .inv) (omega arith)
 
 pub list-tier-spec : {M : Type 1} → statement M
 list-tier-spec =

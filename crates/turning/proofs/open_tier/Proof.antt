@@ -32,7 +32,8 @@ returns : tie.Need-returns
 returns c =
     let start = c .before .before .before .before .before .before .before .before .before .before .before in
     let a = start .args in
-    let o = roundTo (marketIn (a .case .now)) (resultsIn (a .book .now)) (a .seats .now) (a .run .hand) (a .state .reached + 1) (a .state .openings) (a .workshops) in (
+    let o = roundTo (marketIn (a .case .now)) (resultsIn (a .book .now)) (a .seats .now) (a .run .hand) (a .state .reached + 1) (a .state .openings)
+    (a .workshops) in (
       open-turned (marketIn (a .case .now)) (resultsIn (a .book .now)) (a .visits .now) (a .seats .now) (a .state) (a .run) (a .workshops)
           (a .state .reached + 1) (start .pre .0 .workshops) (add-one (a .state .reached)) (c .before .before .before .hold-round .result)
           (c .after-round .result) (c .before .before .before .hold-round .ensures .0) (c .after-round .ensures (marketIn (a .case .now))

@@ -10,7 +10,8 @@ use Rattle.format.specs.Engine.{marketIn, resultsIn}
 use Rattle.api.specs.declared.StudentState.{StudentState}
 use Rattle.model.specs.Turn.{favouriteIn, Left, openTier, applyTo, turnOf}
 use Rattle.model.specs.Ready.{Booked}
-use Rattle.turning.proofs.Turns.{ready-seats, seats-at, may-open, room-to, open-booked, turn-opens, turn-applies, open-seats, apply-visits, best-known, count-test}
+use Rattle.turning.proofs.Turns.{ready-seats, seats-at, may-open, room-to, open-booked, turn-opens, turn-applies, open-seats, apply-visits}
+use Rattle.turning.proofs.Turns.{best-known, count-test}
 use borrow.Author.Needs.{needs}
 use Rattle.turning.proofs.turn.Statement.{statement}
 use Rattle.turning.proofs.turn.Tie as tie
@@ -39,7 +40,8 @@ left c = turnOf (market c) (results c) (entry c .args .visits .now) (entry c .ar
 -- which way the turn goes
 opens : (c : tie.Then1)
     → left (c .before)
-    ≡ openTier (market (c .before)) (results (c .before)) (entry (c .before) .args .visits .now) (entry (c .before) .args .seats .now) (told (c .before)) (entry (c .before) .args .run)
+    ≡ openTier (market (c .before)) (results (c .before)) (entry (c .before) .args .visits .now) (entry (c .before) .args .seats .now)
+    (told (c .before)) (entry (c .before) .args .run)
 opens c =
     let d = c .before in
     let a = entry d .args in
@@ -49,7 +51,8 @@ opens c =
 
 applies : (c : tie.Else1)
     → left (c .before)
-    ≡ applyTo (market (c .before)) (results (c .before)) (entry (c .before) .args .visits .now) (entry (c .before) .args .seats .now) (told (c .before)) (entry (c .before) .args .run)
+    ≡ applyTo (market (c .before)) (results (c .before)) (entry (c .before) .args .visits .now) (entry (c .before) .args .seats .now)
+    (told (c .before)) (entry (c .before) .args .run)
     (favouriteIn (market (c .before)) (results (c .before)) (entry (c .before) .args .run .hand) (outside (c .before)) (told (c .before) .openings))
 applies c =
     let d = c .before in
