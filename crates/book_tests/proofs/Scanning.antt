@@ -21,7 +21,7 @@ use Rattle.records.proofs.Laws.{pair-any}
 use Rattle.case_tests.specs.Checked.{CleanCase, pairCount}
 use Rattle.book_tests.specs.declared.Scan.{Scan}
 use Rattle.book_tests.specs.Index.{badAny, pairsFrom, Filled}
-use Rattle.book_tests.specs.Scans.{badBy, failsBy, Fills, Scanned, stoppedAt, movedOn}
+use Rattle.book_tests.specs.Scans.{badBy, failsBy, Fills, Scanned, Advanced, stoppedAt, movedOn}
 use Rattle.book_tests.proofs.Laws.{entry-is, leb-not}
 use Rattle.book_tests.proofs.Indexing.{Placed, placed-of, pairs-few, fill-start, fill-length, fill-few, fill-repeat, fill-on}
 
@@ -151,3 +151,10 @@ module _ {cause : ℕ} {case book : List ℕ} {lent : ℕ} where
           rw e
           (scan-move l (fills-any cause case book (s .next) f ∙ none-fails (badAny (rows case) (entries book)) (s .next + 1) (on .fine) (s .next) (omega arith))
           (fill-length case n m clean book lent room (s .next + 1) (set index (p - pairsFrom case) (s .next + 1)) on) (λ _. on))
+
+-- ---- a record has been read
+pub stopped-on : {s : Scan} → 0 < s .left → Advanced s (stoppedAt s)
+stopped-on l = record { fewer = l; on = λ m. absurd (omega (arith, m)) }
+
+pub moved-on : {s : Scan} → 0 < s .left → Advanced s (movedOn s)
+moved-on {s} l = record { fewer = omega (arith, l); on = λ m. refl }
