@@ -67,9 +67,11 @@ module _ (case book : List ℕ) (whole : length book % 8 ≡ 0) (pair score at :
     fault-repeat m =
         let scored = none-by (badScores (rows case) (entries book)) (entryCount book) score s m in
         book-10 case book (whole-none _ whole) paired scored at
-        (some-third (badPair (rows case) (entries book)) (badScores (rows case) (entries book)) (badRepeat (rows case) (entries book)) (entryCount book) at any paired scored)
+        (some-third (badPair (rows case) (entries book)) (badScores (rows case) (entries book)) (badRepeat (rows case) (entries book))
+        (entryCount book) at any paired scored)
 
 -- a refusal, and the index with it
-pub refused-with : (case book : List ℕ) (o : Option (ℕ × ℕ)) (k i lent : ℕ) (r : Checked) (index : List ℕ) → o ≡ some (k, i) → r ≡ Refused k i → index ≡ replicate lent 0
+pub refused-with : (case book : List ℕ) (o : Option (ℕ × ℕ)) (k i lent : ℕ) (r : Checked) (index : List ℕ) → o ≡ some (k, i) → r ≡ Refused k i
+    → index ≡ replicate lent 0
     → (r ≡ checkedOf o case) × (index ≡ indexAfter o case book lent)
 refused-with case book o k i lent r index e a b = (a ∙ sym (refused-as case o k i e), rw e b)

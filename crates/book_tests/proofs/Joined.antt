@@ -39,7 +39,8 @@ module _ (a b d : ℕ → Bool) where
   pub some-third : (n i : ℕ) → firstBad joined n ≡ some i → firstBad a n ≡ none → firstBad b n ≡ none → firstBad d n ≡ some i
   some-third n i e p q =
       let l = first-below joined n i e in
-      scan-found d i n (scan-none d i (λ k m. all-fail k (first-fails joined n i e k m) .2)) (third (first-passes joined n i e) (none-fails a n p i l) (none-fails b n q i l)) l
+      scan-found d i n (scan-none d i (λ k m. all-fail k (first-fails joined n i e k m) .2))
+      (third (first-passes joined n i e) (none-fails a n p i l) (none-fails b n q i l)) l
     where
       third : joined i ≡ true → a i ≡ false → b i ≡ false → d i ≡ true
       third t f g = ⊎-elim (λ u. never u f) (λ u. ⊎-elim (λ v. never v g) (λ v. v) (or-true (b i) (d i) u)) (or-true (a i) (b i || d i) t)

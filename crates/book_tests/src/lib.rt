@@ -1,6 +1,7 @@
 // Causes 8 to 10, and the index: for each pair record the number of its book record, from 1.
 use case_tests::Checked;
 use case_tests::refused;
+use reader::BookReader;
 use records::Entry;
 ghost use mathlib.Core.Path.{_≡_};
 ghost use mathlib.Core.Bool.{_||_};
@@ -15,7 +16,7 @@ ghost use Rattle.format.specs.Refusals.{badScore};
 ghost use Rattle.records.specs.Records.{entryOf, pairPlace, PairsFound};
 ghost use Rattle.case_tests.specs.Checked.{checkedOf, CleanCase, pairCount};
 ghost use Rattle.book_tests.specs.Index.{badAny, bookRefusal, indexAfter, lentIndex};
-ghost use Rattle.book_tests.specs.Scans.{badBy, failsBy, Fills, Scanned, stoppedAt, movedOn};
+ghost use Rattle.book_tests.specs.Scans.{badBy, failsBy, Fills, Scanned, ScanReady, RecordReady, Advanced, stoppedAt, movedOn};
 
 // ---- one record
 
@@ -90,10 +91,8 @@ fn step(
     s: Scan,
     index: &mut [u16],
 ) -> Scan
-    requires { ⌜ CleanCase (now case) students workshops ⌝ }
-    requires { ⌜ (0 < s .left) × (s .next + s .left < 2 ^ 64) × (pairCount (now case) ≤ length (now index)) ⌝ }
-    requires { ⌜ ((book : List ℕ) × Scanned cause (now case) book (length (now index)) s (now index) × (entryOf e ≡ entryAt book (s .next))) ⌝ }
-    ensures { λ r. ⌜ (r .left < s .left)
+    requires { ⌜ RecordReady cause (now case) students workshops e s (now index) ⌝ }
+    ensures { λ r. ⌜ Advanced s r
         × ((book : List ℕ) → Scanned cause (now (case .entry)) book (length (now (index .entry))) s (now (index .entry)) → entryOf e ≡ entryAt book (s .next)
         → Scanned cause (now (case .entry)) book (length (now (index .entry))) r (now (index .exit))) ⌝ }
 {
@@ -113,6 +112,32 @@ fn step(
     moved(s)
 }
 
+// Reads record after record and tests it, until none is left to read. One reader goes over the book; the function that keeps it is walked by hand.
+fn scan_on(
+    cause: u16,
+    case: &[u8],
+    book: &[u8],
+    students: usize,
+    workshops: usize,
+    index: &mut [u16],
+    start: Scan,
+) -> Scan
+    requires { ⌜ ScanReady cause (now case) (now book) students workshops start (now index) ⌝ }
+    ensures { λ r. ⌜ (Scanned cause (now (case .entry)) (now (book .entry)) (length (now (index .entry))) r (now (index .exit))) × (r .left ≡ 0) ⌝ }
+{
+    let mut reader = BookReader {
+        book,
+        next: start.next,
+    };
+    let mut s = start;
+    while s.left > 0 {
+        let e = reader::take(&mut reader);
+        let after = step(cause, case, students, workshops, e, s, &mut *index);
+        s = after;
+    }
+    s
+}
+
 // The first record that the cause finds, or how many there are: 8, 9, and else all of 8 to 10, which fills the index.
 fn scan_for(
     cause: u16,
@@ -128,15 +153,12 @@ fn scan_for(
     ensures { λ r. ⌜ r ≡ orEnd (entryCount (now (book .entry))) (firstBad (badBy cause (now (case .entry)) (now (book .entry))) (entryCount (now (book .entry)))) ⌝ }
     ensures { λ r. ⌜ (Fills cause → now (index .exit) ≡ lentIndex (now (case .entry)) (now (book .entry)) r (length (now (index .entry)))) ⌝ }
 {
-    let mut s = Scan {
+    let start = Scan {
         next: 0,
         left: records::entry_count(book.len()),
     };
-    while s.left > 0 {
-        let e = reader::entry_of(book, s.next);
-        s = step(cause, case, students, workshops, e, s, &mut *index);
-    }
-    s.next
+    let end = scan_on(cause, case, book, students, workshops, &mut *index, start);
+    end.next
 }
 
 // ---- causes 8 to 10

@@ -1,3 +1,4 @@
 mod States
 mod Zeros
 mod Runs
+mod Placing

@@ -1,5 +1,5 @@
-// A book reader: the lent bytes together with the number of the next record. `take` and `entry_of` are walked by hand; what a record is stands in
-// `records::entry_at`, and whoever calls `entry_of` is covered.
+// A book reader: the lent bytes together with the number of the next record. `take` is walked by hand, and so is a function that keeps a reader
+// (`book_tests::scan_on`); what a record is stands in `records::entry_at`.
 use records::Entry;
 ghost use mathlib.Core.Path.{_≡_};
 ghost use Prim.Native.Nat.{_+_, _<_};
@@ -21,13 +21,4 @@ pub fn take<'s, 'a>(r: &'s mut BookReader<'a>) -> Entry
     let o = records::entry_at(r.book, at);
     r.next = at + 1;
     o
-}
-
-// Record i of the book, read by a reader.
-pub fn entry_of(book: &[u8], i: usize) -> Entry
-    requires { ⌜ i < entryCount (now book) ⌝ }
-    ensures { λ o. ⌜ entryOf o ≡ entryAt (now (book .entry)) i ⌝ }
-{
-    let mut r = BookReader { book, next: i };
-    take(&mut r)
 }

@@ -14,7 +14,8 @@ use Rattle.case_tests.proofs.Cases.{pairs-found, few}
 use Rattle.book_tests.specs.Index.{pairsFrom}
 use Rattle.book_tests.specs.Scans.{badBy, Scanned}
 use Rattle.book_tests.proofs.Indexing.{Placed}
-use Rattle.book_tests.proofs.Scanning.{bad-record, good-record, good-parts, comes, scan-stop, scan-move, number-few, spot-inside, step-stop, step-fill}
+use Rattle.book_tests.proofs.Scanning.{bad-record, good-record, good-parts, comes, scan-stop, scan-move, stopped-on, moved-on, number-few}
+use Rattle.book_tests.proofs.Scanning.{spot-inside, step-stop, step-fill}
 use Rattle.book_tests.proofs.Scanning.{located as located-by}
 use borrow.Author.Needs.{needs}
 use Rattle.book_tests.proofs.step.Statement.{statement}
@@ -36,16 +37,21 @@ Of d book =
     Scanned (a .cause) (a .case .now) book (length (a .index .now)) (a .s) (a .index .now) × (entryOf (a .e) ≡ entryAt book (a .s .next))
 
 -- what the test by the record alone says
-bad : (d : tie.After-fails) (book : List ℕ) → Of d book → d .fails .result ≡ true → badBy (entry d .args .cause) (entry d .args .case .now) book (entry d .args .s .next) ≡ true
+bad : (d : tie.After-fails) (book : List ℕ) → Of d book → d .fails .result ≡ true → badBy (entry d .args .cause) (entry d .args .case .now) book
+    (entry d .args .s .next) ≡ true
 bad d book o =
     let a = entry d .args in
-    bad-record (a .case .now) book (a .s .next) (comes (o .0) (entry d .pre .1 .0 .0)) (a .e) (o .1) (a .cause) (rows-of d) (place-at d) (d .before .before .row-count .ensures) (d .before .before .before .place-of .ensures) (d .before .is-unscored .result) (d .fails .result) (d .before .is-unscored .ensures) (d .fails .ensures)
+    bad-record (a .case .now) book (a .s .next) (comes (o .0) (entry d .pre .more)) (a .e) (o .1) (a .cause) (rows-of d) (place-at d)
+    (d .before .before .row-count .ensures) (d .before .before .before .place-of .ensures) (d .before .is-unscored .result) (d .fails .result)
+    (d .before .is-unscored .ensures) (d .fails .ensures)
 
 good : (d : tie.After-fails) (book : List ℕ) → Of d book → d .fails .result ≡ false → (eqb (entry d .args .cause) 8 || eqb (entry d .args .cause) 9) ≡ true
     → badBy (entry d .args .cause) (entry d .args .case .now) book (entry d .args .s .next) ≡ false
 good d book o =
     let a = entry d .args in
-    good-record (a .case .now) book (a .s .next) (comes (o .0) (entry d .pre .1 .0 .0)) (a .e) (o .1) (a .cause) (rows-of d) (place-at d) (d .before .before .row-count .ensures) (d .before .before .before .place-of .ensures) (d .before .is-unscored .result) (d .fails .result) (d .before .is-unscored .ensures) (d .fails .ensures)
+    good-record (a .case .now) book (a .s .next) (comes (o .0) (entry d .pre .more)) (a .e) (o .1) (a .cause) (rows-of d) (place-at d)
+    (d .before .before .row-count .ensures) (d .before .before .before .place-of .ensures) (d .before .is-unscored .result) (d .fails .result)
+    (d .before .is-unscored .ensures) (d .fails .ensures)
 
 -- where the scan fills the index: the record's parts pass, and its pair has a place
 abbrev here : tie.Else2 → tie.After-fails
@@ -57,33 +63,41 @@ parts : (c : tie.Else2) (book : List ℕ) → Of (here c) book
 parts c book o =
     let d = here c in
     let a = entry d .args in
-    good-parts (a .case .now) book (a .s .next) (comes (o .0) (entry d .pre .1 .0 .0)) (a .e) (o .1) (a .cause) (rows-of d) (place-at d) (d .before .before .row-count .ensures) (d .before .before .before .place-of .ensures) (d .before .is-unscored .result) (d .fails .result) (d .before .is-unscored .ensures) (d .fails .ensures) (c .before .if1 .left) (c .if2 .left)
+    good-parts (a .case .now) book (a .s .next) (comes (o .0) (entry d .pre .more)) (a .e) (o .1) (a .cause) (rows-of d) (place-at d)
+    (d .before .before .row-count .ensures) (d .before .before .before .place-of .ensures) (d .before .is-unscored .result) (d .fails .result)
+    (d .before .is-unscored .ensures) (d .fails .ensures) (c .before .if1 .left) (c .if2 .left)
 
 located : (c : tie.Else2) (book : List ℕ) → Of (here c) book
-    → Placed (entry (here c) .args .case .now) (entryAt book (entry (here c) .args .s .next) .student) (entryAt book (entry (here c) .args .s .next) .workshop) (place-at (here c))
+    → Placed (entry (here c) .args .case .now) (entryAt book (entry (here c) .args .s .next) .student)
+    (entryAt book (entry (here c) .args .s .next) .workshop) (place-at (here c))
 located c book o =
     let d = here c in
     let a = entry d .args in
-    located-by (a .case .now) book (a .s .next) (comes (o .0) (entry d .pre .1 .0 .0)) (a .e) (o .1) (a .cause) (rows-of d) (place-at d) (d .before .before .row-count .ensures) (d .before .before .before .place-of .ensures) (d .before .is-unscored .result) (d .fails .result) (d .before .is-unscored .ensures) (d .fails .ensures) (entry d .pre .0) (c .before .if1 .left) (c .if2 .left)
+    located-by (a .case .now) book (a .s .next) (comes (o .0) (entry d .pre .more)) (a .e) (o .1) (a .cause) (rows-of d) (place-at d)
+    (d .before .before .row-count .ensures) (d .before .before .before .place-of .ensures) (d .before .is-unscored .result) (d .fails .result)
+    (d .before .is-unscored .ensures) (d .fails .ensures) (entry d .pre .clean) (c .before .if1 .left) (c .if2 .left)
 
 first-pair : (c : tie.Else2) → entry (here c) .args .students + entry (here c) .args .workshops ≡ pairsFrom (entry (here c) .args .case .now)
-first-pair c = let p = entry (here c) .pre .0 in omega (arith, p .students, p .workshops)
+first-pair c = let p = entry (here c) .pre .clean in omega (arith, p .students, p .workshops)
 
 few-here : (c : tie.Else2) → entry (here c) .args .s .next ≤ 32768
 few-here c =
     let start = entry (here c) in
-    let o = start .pre .1 .1 in
-    number-few (o .1) (start .pre .0) (start .pre .1 .0 .2) (start .pre .1 .0 .0) (c .if2 .left) (place-at (here c)) (located c (o .0) (o .1, o .2))
+    let o = start .pre in
+    number-few (o .scanned) (start .pre .clean) (start .pre .room) (start .pre .more) (c .if2 .left) (place-at (here c))
+    (located c (o .book) (o .scanned, o .read))
 
 spot : (c : tie.Else2)
-    → (let a = entry (here c) .args in let from = a .students + a .workshops in (from ≤ place-at (here c)) × (place-at (here c) - from < 32768) × (place-at (here c) - from < length (a .index .now)))
+    → (let a = entry (here c) .args in let from = a .students + a .workshops in (from ≤ place-at (here c)) × (place-at (here c) - from < 32768) ×
+    (place-at (here c) - from < length (a .index .now)))
 spot c =
     let start = entry (here c) in
-    let o = start .pre .1 .1 in
-    spot-inside (o .1) (start .pre .0) (start .pre .1 .0 .2) (start .pre .1 .0 .0) (c .if2 .left) (place-at (here c)) (located c (o .0) (o .1, o .2)) _ (first-pair c)
+    let o = start .pre in
+    spot-inside (o .scanned) (start .pre .clean) (start .pre .room) (start .pre .more) (c .if2 .left) (place-at (here c))
+    (located c (o .book) (o .scanned, o .read)) _ (first-pair c)
 
 place-of-requires : tie.Need-place-of-requires
-place-of-requires c κs = pairs-found _ _ _ (c .before .before .pre .0) (λ k. omega (arith, c .before .shared-slice-known .given k))
+place-of-requires c κs = pairs-found _ _ _ (c .before .before .pre .clean) (λ k. omega (arith, c .before .shared-slice-known .given k))
 
 row-count-requires : tie.Need-row-count-requires
 row-count-requires c κs = search needs
@@ -100,8 +114,8 @@ stopped-requires c κs = search needs
 returns : tie.Need-returns
 returns c =
     let start = c .before .before .before .before .before .before .before .before in (
-      rw (c .stopped .ensures) (start .pre .1 .0 .0),
-      λ book h q. rw (c .stopped .ensures) (scan-stop h (start .pre .1 .0 .0) (bad (c .before .before) book (h, q) (c .before .if1 .taken))),
+      rw (c .stopped .ensures) (stopped-on (start .pre .more)),
+      λ book h q. rw (c .stopped .ensures) (scan-stop h (start .pre .more) (bad (c .before .before) book (h, q) (c .before .if1 .taken))),
     )
 
 moved-requires : tie.Need-moved-requires
@@ -110,12 +124,14 @@ moved-requires c κs = search needs
 returns-2 : tie.Need-returns-2
 returns-2 c =
     let start = c .before .before .before .before .before .before .before .before .before in (
-      rw (c .moved .ensures) (omega (arith, start .pre .1 .0 .0)),
-      λ book h q. rw (c .moved .ensures) (scan-move h (start .pre .1 .0 .0) (good (c .before .before .before) book (h, q) (c .before .before .if1 .left) (c .before .if2 .taken)) (h .long) (λ f. never (c .before .if2 .taken) f)),
+      rw (c .moved .ensures) (moved-on (start .pre .more)),
+      λ book h q. rw (c .moved .ensures)
+          (scan-move h (start .pre .more) (good (c .before .before .before) book (h, q) (c .before .before .if1 .left) (c .before .if2 .taken))
+          (h .long) (λ f. never (c .before .if2 .taken) f)),
     )
 
 add-k : tie.Need-add-k
-add-k c = let start = entry (here c) in omega (arith, few (start .args .case .now) (start .args .students) (start .args .workshops) (start .pre .0))
+add-k c = let start = entry (here c) in omega (arith, few (start .args .case .now) (start .args .students) (start .args .workshops) (start .pre .clean))
 
 sub-k : tie.Need-sub-k
 sub-k c = spot c .0
@@ -133,8 +149,10 @@ returns-3 : tie.Need-returns-3
 returns-3 c =
     let d = c .before .before .before in
     let start = entry (here d) in (
-      rw (c .stopped2 .ensures) (start .pre .1 .0 .0),
-      λ book h q. rw (c .stopped2 .ensures) (step-stop h (start .pre .0) (start .pre .1 .0 .2) (start .pre .1 .0 .0) (d .if2 .left) (place-at (here d)) (located d book (h, q)) _ (first-pair d) (c .before .if3 .taken)),
+      rw (c .stopped2 .ensures) (stopped-on (start .pre .more)),
+      λ book h q. rw (c .stopped2 .ensures)
+          (step-stop h (start .pre .clean) (start .pre .room) (start .pre .more) (d .if2 .left) (place-at (here d)) (located d book (h, q)) _
+          (first-pair d) (c .before .if3 .taken)),
     )
 
 add-index : tie.Need-add-index
@@ -159,8 +177,10 @@ returns-4 : tie.Need-returns-4
 returns-4 c =
     let d = c .before .before .before .before in
     let start = entry (here d) in (
-      rw (c .moved2 .ensures) (omega (arith, start .pre .1 .0 .0)),
-      λ book h q. rw (c .moved2 .ensures) (step-fill h (start .pre .0) (start .pre .1 .0 .2) (start .pre .1 .0 .0) (d .if2 .left) (place-at (here d)) (located d book (h, q)) _ (first-pair d) (parts d book (h, q)) (c .before .before .if3 .left)),
+      rw (c .moved2 .ensures) (moved-on (start .pre .more)),
+      λ book h q. rw (c .moved2 .ensures)
+          (step-fill h (start .pre .clean) (start .pre .room) (start .pre .more) (d .if2 .left) (place-at (here d)) (located d book (h, q)) _
+          (first-pair d) (parts d book (h, q)) (c .before .before .if3 .left)),
     )
 
 pub step-spec : {M : Type 1} → statement M
