@@ -1,14 +1,14 @@
 // Fields, records and scores of the case and the book, read from their bytes, and the lookup of a pair's record.
 ghost use mathlib.Core.Path.{_≡_};
-ghost use mathlib.Core.Bool.{not, cond};
+ghost use mathlib.Core.Bool.{not, cond, _&&_};
 ghost use Prim.Native.Nat.{ℕ, _+_, _*_, _/_, _%_, _^_, _≤_, _<_};
 ghost use lib.ListN.{length, replicate};
-ghost use lib.Dec.{ltb};
+ghost use lib.Dec.{ltb, leb, eqb};
 ghost use Rattle.base.specs.Lists.{one};
 ghost use Rattle.base.specs.Words.{word, signed, biased};
 ghost use Rattle.format.specs.Layout.{rowAt, entryAt, rowCount, entryCount, outsideScore};
 ghost use Rattle.format.specs.Refusals.{badScore};
-ghost use Rattle.records.specs.Records.{rowOf, entryOf, pairKey, PairsSorted, PairsFound, pairPlace, isKnown};
+ghost use Rattle.records.specs.Records.{rowOf, entryOf, pairKey, PairsSorted, PairsFound, pairPlace};
 
 // A record of the case, as the layout has it.
 pub struct Row {
@@ -337,15 +337,19 @@ fn find_pair(case: &[u8], rows: usize, students: usize, workshops: usize, s: u16
     rows
 }
 
-// Among `rows` records all pairs of the students and workshops have one, and s and w are among these.
-fn is_known(rows: usize, students: usize, workshops: usize, s: usize, w: usize) -> bool
+// Among `rows` records all pairs of the students and workshops have one.
+fn is_full(rows: usize, students: usize, workshops: usize) -> bool
     requires { ⌜ (students ≤ 512) × (workshops ≤ 64) ⌝ }
-    ensures { λ r. ⌜ r ≡ isKnown rows students workshops s w ⌝ }
+    ensures { λ r. ⌜ r ≡ eqb rows (students + workshops + students * workshops) ⌝ }
 {
-    if rows == students + workshops + students * workshops {
-        return ((1 <= s) & (s <= students)) & ((1 <= w) & (w <= workshops));
-    }
-    false
+    rows == students + workshops + students * workshops
+}
+
+// s and w are among the students and workshops.
+fn is_named(students: usize, workshops: usize, s: usize, w: usize) -> bool
+    ensures { λ r. ⌜ r ≡ ((leb 1 s && leb s students) && (leb 1 w && leb w workshops)) ⌝ }
+{
+    ((1 <= s) & (s <= students)) & ((1 <= w) & (w <= workshops))
 }
 
 // The place of the pair's record, or how many records there are. Where all pairs have a record it is known; else it is searched.
@@ -355,8 +359,11 @@ pub fn pair_of(case: &[u8], students: usize, workshops: usize, s: usize, w: usiz
     ensures { λ r. ⌜ r ≡ pairPlace (now (case .entry)) s w ⌝ }
 {
     let rows = row_count(case.len());
-    if is_known(rows, students, workshops, s, w) {
-        return students + s * workshops + w - 1;
+    if is_full(rows, students, workshops) {
+        if is_named(students, workshops, s, w) {
+            return students + s * workshops + w - 1;
+        }
+        return find_pair(case, rows, students, workshops, s as u16, w as u16);
     }
     find_pair(case, rows, students, workshops, s as u16, w as u16)
 }
