@@ -1,18 +1,30 @@
 /* The placing engine for programs in C, C++, Rust, Python and others: link target/staticlib/libengine.a (`rt staticlib engine`).
  *
- * lgs_place takes a case and a book of visit results (document 01; docs/GUIDE.md has both byte by byte) and answers with the next visit, with the
- * finished placement, or with a refusal. It asks nothing of its caller but that each pointer has as many entries as the length after it says:
- * whatever the bytes, the lengths and the contents at entry, it reads and writes only these, and it returns. No pointer is null, also where its
- * length is 0, and no two of the buffers overlap.
+ * lgs_place takes a case and a book of visit results (docs/FORMAT.md has both byte by byte) and answers with the next visit, with the
+ * finished placement, or with a refusal. Whatever the bytes, the lengths and the contents at entry, it reads and writes only what is lent, and it
+ * returns. include/example.c is a complete caller. Python and others that load a library at run time get one from the archive, which is position
+ * independent: gcc -shared -o liblgs.so -Wl,--whole-archive target/staticlib/libengine.a -Wl,--no-whole-archive
  *
- * What is enough, for n students, m workshops and p pairs; shorter buffers are refused (number 6):
- *   places   n entries        out: the workshop of each student, or 0
- *   visits   2 * p entries    out: student, workshop of each visit, in the order visited
- *   seats    the sum of all quotas
- *   index    p entries
- *   states   n entries
- * A placement fills the first n places and the used head of the visits; a next visit leaves the places; a refusal leaves both. Entries past
- * these stay as they were. Seats, index and states are scratch: they may hold anything at entry, and are zero over their whole length on return.
+ * The buffers, counted in entries. Shorter ones are refused (LGS_SHORT_BUFFER). The last column always suffices, whatever the case.
+ *
+ *            needed for n students and p pairs             always enough
+ *   places   n                                             512
+ *   visits   2 * p                                         2 * (case_length / 16)
+ *   seats    the sum of all quotas                         32768
+ *   index    p                                             case_length / 16
+ *   states   n                                             512
+ *
+ * What is asked of the caller:
+ *   - Each pointer has as many entries as the length after it says, and each entry was written before, with any value (calloc does it).
+ *   - No pointer is null, also where its length is 0: lend the address of something, as for the empty book of a first call.
+ *   - Pointers are aligned as their type: 1 byte for case and book, 2 for uint16_t, 8 for the states.
+ *   - What is written (places, visits, seats, index, states) overlaps nothing else that is lent. Case and book may overlap each other.
+ *   - No other thread writes to what is lent, or reads what is written, before the call returns.
+ * Calls are reentrant: nothing is kept from call to call, so threads with buffers of their own may call at the same time.
+ *
+ * What is left in the buffers: a placement fills the first n places and the used head of the visits (student, workshop of each visit, in the order
+ * visited); a next visit fills the head of the visits and leaves the places; a refusal leaves both. Entries past these stay as they were. Seats, index
+ * and states are scratch: they may hold anything at entry, and are zero over their whole length on return.
  */
 #ifndef LGS_PLACE_H
 #define LGS_PLACE_H
@@ -24,17 +36,37 @@
 extern "C" {
 #endif
 
+/* Buffers of these lengths suffice for every case. */
+enum { LGS_MOST_PLACES = 512, LGS_MOST_STATES = 512, LGS_MOST_SEATS = 32768 };
+
 typedef struct {
     uint32_t reached;
     uint32_t held;
     uint64_t openings;
 } lgs_student_state;
 
+/* The kinds of answers. */
 enum { LGS_PLACED = 0, LGS_NEXT = 1, LGS_REFUSED = 2 };
+
+/* The refusals. Those without a record have place 0. */
+enum {
+    LGS_CASE_LENGTH = 1,    /* case length no multiple of 16 */
+    LGS_CASE_FORM = 2,      /* kind not 1 to 3, or a byte that should be zero; place: the first such record of the case */
+    LGS_CASE_ORDER = 3,     /* kinds fall, a number out of sequence, pairs not rising, or a pair names nobody; place: as before */
+    LGS_CASE_COUNTS = 4,    /* no student, over 512, no workshop, over 64 */
+    LGS_CASE_RANGE = 5,     /* stage, quota, group or line group out of range; place: the first such record of the case */
+    LGS_SHORT_BUFFER = 6,   /* a lent buffer shorter than needed */
+    LGS_BOOK_LENGTH = 7,    /* book length no multiple of 8 */
+    LGS_BOOK_PAIR = 8,      /* a visit without its pair; place: the first such record of the book */
+    LGS_BOOK_MARK = 9,      /* mark 0 or outside -1000 to 1000; place: as before */
+    LGS_BOOK_REPEATED = 10, /* a pair that is in the book already; place: the first later record */
+    LGS_BOOK_TIE = 11       /* one person gave an equal mark earlier in the same group; place: the first later record */
+};
 
 /* kind LGS_PLACED: visits is the visit count.
  * kind LGS_NEXT: first is the student and second the workshop of the next visit, visits the count of visits already done.
- * kind LGS_REFUSED: first is the number, 1 to 11, and second the place of the record, from 0. */
+ * kind LGS_REFUSED: first is the refusal, LGS_CASE_LENGTH to LGS_BOOK_TIE, and second its place: the number of the record, from 0.
+ * Values that are not named are 0. */
 typedef struct {
     uint64_t kind;
     uint64_t first;

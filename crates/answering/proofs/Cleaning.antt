@@ -21,7 +21,8 @@ use Rattle.format.specs.Refusals.{Room, needed, badForm, badOrder, badCounts, b
 use Rattle.format.specs.Causes.{whole}
 use Rattle.format.specs.Promises.{Valid}
 use Rattle.format.specs.Engine.{marketIn, resultsIn}
-use Rattle.format.proofs.Positions.{places, pair-says, pair-names, stage-at, student-outside-at, quota-at, workshop-outside-at, student-tier-at, workshop-tier-at}
+use Rattle.format.proofs.Positions.{places, pair-says, pair-names, stage-at, student-outside-at, quota-at, workshop-outside-at, student-tier-at}
+use Rattle.format.proofs.Positions.{workshop-tier-at}
 use Rattle.format.proofs.Causes.{passed, room-passes}
 use Rattle.format.proofs.Reading.{Passed, entry-found, entry-at, interview-says}
 use Rattle.records.specs.Records.{pairPlace}
@@ -67,7 +68,8 @@ module _ (case book : List ℕ) (c : CleanCase case (marketIn case .students) (m
       (p .from, omega (arith, p .within, lent-length case n m c book (entryCount book) lent room))
 
   -- what the index has for a pair
-  index-has : (s w : ℕ) → marketIn case .paired s w ≡ true → indexAt case index n m s w ≡ fromOne (firstBad (λ k. isInterview s w (entryAt book k)) (entryCount book))
+  index-has : (s w : ℕ) → marketIn case .paired s w ≡ true → indexAt case index n m s w ≡ fromOne
+      (firstBad (λ k. isInterview s w (entryAt book k)) (entryCount book))
   unfolding marketOf
   index-has s w e = index-at case n m c book (entryCount book) lent s w (pairPlace case s w) (placed-by case n m c s w e)
 

@@ -3,40 +3,38 @@
 -- Where nothing is refused the run on the buffers is the staged rule (model: Running); a refusal takes no turn.
 use Prim.Native.Nat.{ℕ, zero, suc, _+_, _*_, _-_, _≤_, _<_}
 use mathlib.Core.Path.{_≡_, refl, sym, ap, _∙_, subst}
-use mathlib.Core.Logic.{⊎-elim}
-use mathlib.Core.Bool.{Bool, true, false, cond}
-use mathlib.Core.List.{List, [], _∷_, map}
+use mathlib.Core.Bool.{true, false}
+use mathlib.Core.List.{List, [], _∷_, _++_, map}
 use mathlib.Core.Option.{Option, some, none}
 use native.Mathlib.Omega.{arith}
-use lib.Dec.{eqb, ltb}
-use lib.ListN.{length, getD, replicate, length-replicate, length-take}
-use borrow.Author.Tests.{eq-eqb, ne-eqb, ltb-false}
-use native.Mathlib.Nat.{min-le-left}
-use Rattle.base.specs.Lists.{total, upto, tally}
-use Rattle.base.proofs.Tests.{or-false, is-false, less?}
+use lib.Dec.{eqb}
+use lib.ListN.{length, getD, replicate}
+use borrow.Author.Tests.{eq-eqb, ne-eqb}
+use Rattle.base.specs.Lists.{upto}
+use Rattle.base.proofs.Members.{map-append}
 use Rattle.lgs.specs.Market.{Market, Results}
-use Rattle.lgs.specs.Rule.{Interview, stopped, finished, fuel, lazyGaleShapley}
+use Rattle.lgs.specs.Rule.{Interview, fuel}
 use Rattle.lgs.specs.Promises.{pairsIn}
-use Rattle.format.specs.Layout.{rows, ofKind, marketOf}
-use Rattle.format.specs.Refusals.{Room, refusal, needed, badRoom}
+use Rattle.format.specs.Layout.{rows, marketOf}
+use Rattle.format.specs.Refusals.{Room, refusal}
 use Rattle.format.specs.Engine.{placed, next, refused, engine, marketIn, resultsIn, Outcome, outcomeOf, outcomeUnless}
-use Rattle.format.specs.Buffers.{flat, withHead, placesAfter, visitsAfter, scratchAfter}
-use Rattle.format.specs.Promises.{Valid, Refused, Cause, caseLength, form, order, counts, range, short, bookLength, pair, score, repeated, tie}
-use Rattle.format.proofs.Causes.{refusal-none, refusal-some}
+use Rattle.format.specs.Buffers.{withHead, placesAfter, visitsAfter}
+use Rattle.format.specs.Causes.{Cause}
+use Rattle.format.specs.Promises.{Valid, Refused}
+use Rattle.format.proofs.Causes.{refusal-none, refusal-some, eleven}
 use Rattle.format.proofs.Runs.{wf, distinct, engine-valid}
 use Rattle.format.proofs.PairCount.{pairs-within}
 use Rattle.format.proofs.Promises.{promised}
 use Rattle.api.specs.declared.StudentState.{StudentState}
 use Rattle.model.specs.declared.Run.{Run}
-use Rattle.model.specs.Store.{part, seatsFrom}
 use Rattle.model.specs.Turn.{beginRun, runOf}
-use Rattle.api.specs.Answered.{zeroState, roomOf, lent, Answered}
+use Rattle.api.specs.Answered.{zeroState, lent, Answered}
 use Rattle.model.specs.Ready.{Ready}
 use Rattle.model.proofs.Shows.{Lacking, Stand}
 use Rattle.model.proofs.Running.{stands, Ends, stops, finishes, Finished, ends-hand, run-ready, run-is-rule}
-use Rattle.lookup.specs.Clean.{Clean}
 use Rattle.api.specs.declared.Answer.{Answer as Brief}
-use Rattle.api.specs.Answers.{answerFor}
+use Rattle.api.specs.Answers.{answerFor, valuesOf}
+use Rattle.api.proofs.Text.{values-same}
 use Rattle.answering.specs.declared.Prepared.{Prepared}
 use Rattle.answering.specs.Finish.{toPlace, heldAt, placesHeld, CanRead, answerEnd}
 use Rattle.answering.specs.Steps.{StepReady, Halted, Started, Found, Prepares}
@@ -46,19 +44,33 @@ use Rattle.answering.proofs.Cleaning.{Enough, enough}
 abbrev pub Kept : Type 0
 Kept = List ℕ × (List ℕ × (List StudentState × Run))
 
+-- all numbers of a list are above 0
+abbrev Above : List ℕ → Type 0
+Above [] = Unit {0}
+Above (n ∷ ns) = (0 < n) × Above ns
+
+above-in : (xs : List ℕ) (k : ℕ) (ys : List ℕ) → Above (xs ++ (k ∷ ys)) → 0 < k
+above-in [] k ys a = a .0
+above-in (x ∷ xs) k ys a = above-in xs k ys (a .1)
+
+-- the numbers of the causes are 1 to 11
+eleven-above : Above (1 ∷ 2 ∷ 3 ∷ 4 ∷ 5 ∷ 6 ∷ 7 ∷ 8 ∷ 9 ∷ 10 ∷ 11 ∷ [])
+eleven-above = (
+  omega arith,
+  (
+    omega arith,
+    (omega arith, (omega arith, (omega arith, (omega arith, (omega arith, (omega arith, (omega arith, (omega arith, (omega arith, tt))))))))),
+  ),
+)
+
 -- a cause's number is above 0
-cause-above : (case book : List ℕ) (room : Room) (k i : ℕ) → Cause case book room k i → 0 < k
-cause-above case book room k i (caseLength e) = omega arith
-cause-above case book room k i (form j f) = omega arith
-cause-above case book room k i (order j f) = omega arith
-cause-above case book room k i (counts e) = omega arith
-cause-above case book room k i (range j f) = omega arith
-cause-above case book room k i (short e) = omega arith
-cause-above case book room k i (bookLength e) = omega arith
-cause-above case book room k i (pair j f) = omega arith
-cause-above case book room k i (score j f) = omega arith
-cause-above case book room k i (repeated j f) = omega arith
-cause-above case book room k i (tie j f) = omega arith
+cause-above : (case book : List ℕ) (room : Room) (k i : ℕ) → Refused case book room k i → 0 < k
+cause-above case book room k i f =
+    above-in (map number (f .before)) k (map number (f .after))
+    (subst Above (sym (eleven case book room) ∙ (ap (map number) (f .table) ∙ map-append number (f .before) ((k, f .test) ∷ f .after))) eleven-above)
+  where
+    number : Cause → ℕ
+    number c = c .0
 
 module _ (case book places visits seats index : List ℕ) (states : List StudentState) (p : Prepared) (seats₁ index₁ : List ℕ)
     (prepared : Prepares case book (length places) (length visits) (length states) seats index p seats₁ index₁) where
@@ -87,7 +99,7 @@ module _ (case book places visits seats index : List ℕ) (states : List Student
     halted = subst (λ (o : Option (ℕ × ℕ)). Found case book index₁ p o) e (prepared .found)
 
     refused-above : 0 < k
-    refused-above = cause-above case book room k i (refusal-some case book room k i e .cause)
+    refused-above = cause-above case book room k i (refusal-some case book room k i e)
 
     idle : (j : ℕ) → after j ≡ (visits, (seats₁, (zeros, p .run)))
     unfolding runOf
@@ -110,7 +122,7 @@ module _ (case book places visits seats index : List ℕ) (states : List Student
     long = enough case book room valid
 
     few : M .workshops ≤ 64
-    few = omega (arith, started .clean .manyWorkshops, started .clean .workshops)
+    few = omega (arith, started .clean .found .manyWorkshops, started .clean .workshops)
 
     fits : 2 * pairsIn M (M .paired) ≤ length visits
     unfolding marketOf
@@ -125,18 +137,22 @@ module _ (case book places visits seats index : List ℕ) (states : List Student
     ready-here : (j : ℕ) → 0 < stand j .run .hand
         → Ready M B (stand j .visits) (stand j .seats) (getD (stand j .states) (stand j .run .hand - 1) zeroState) (stand j .run)
         × (stand j .run .hand ≤ length (stand j .states))
-    ready-here j = run-ready M (wf case book room valid) B (distinct case book room valid) few visits fits (length seats) (length states) (long .seats) (long .states) j
+    ready-here j = run-ready M (wf case book room valid) B (distinct case book room valid) few visits fits (length seats) (length states)
+        (long .seats) (long .states) j
 
     ends-here : Ends M B visits (stand (fuel M B))
-    ends-here = run-is-rule M (wf case book room valid) B (distinct case book room valid) few visits fits (length seats) (length states) (long .seats) (long .states)
+    ends-here = run-is-rule M (wf case book room valid) B (distinct case book room valid) few visits fits (length seats) (length states) (long .seats)
+        (long .states)
 
   -- ---- the run can be taken
   pub turn-ready : (j : ℕ) → 0 < hand (after j)
-      → StepReady case book index₁ (after j .0) (after j .1 .0) (getD (after j .1 .1 .0) (hand (after j) - 1) zeroState) (after j .1 .1 .1) (p .students) (p .workshops)
+      → StepReady case book index₁ (after j .0) (after j .1 .0) (getD (after j .1 .1 .0) (hand (after j) - 1) zeroState) (after j .1 .1 .1)
+      (p .students) (p .workshops)
   turn-ready j = by-refusal (refusal case book room) refl
     where
       by-refusal : (o : Option (ℕ × ℕ)) → refusal case book room ≡ o → 0 < hand (after j)
-          → StepReady case book index₁ (after j .0) (after j .1 .0) (getD (after j .1 .1 .0) (hand (after j) - 1) zeroState) (after j .1 .1 .1) (p .students) (p .workshops)
+          → StepReady case book index₁ (after j .0) (after j .1 .0) (getD (after j .1 .1 .0) (hand (after j) - 1) zeroState) (after j .1 .1 .1)
+          (p .students) (p .workshops)
       by-refusal (some (k, i)) e pos = absurd (omega (arith, ap hand (idle k i e j), ap (λ r. r .hand) (halted k i e .run)))
       by-refusal none e pos = record {
         clean = started e .clean;
@@ -149,7 +165,8 @@ module _ (case book places visits seats index : List ℕ) (states : List Student
     where
       by-refusal : (o : Option (ℕ × ℕ)) → refusal case book room ≡ o → 0 < hand (after j) → hand (after j) ≤ length (after j .1 .1 .0)
       by-refusal (some (k, i)) e pos = absurd (omega (arith, ap hand (idle k i e j), ap (λ r. r .hand) (halted k i e .run)))
-      by-refusal none e pos = subst (λ (σ : Kept). hand σ ≤ length (σ .1 .1 .0)) (sym (begins e j)) (ready-here e j (subst (λ (σ : Kept). 0 < hand σ) (begins e j) pos) .1)
+      by-refusal none e pos = subst (λ (σ : Kept). hand σ ≤ length (σ .1 .1 .0)) (sym (begins e j))
+          (ready-here e j (subst (λ (σ : Kept). 0 < hand σ) (begins e j) pos) .1)
 
   pub run-ends : hand (after (fuel M B)) ≡ 0
   run-ends = by-refusal (refusal case book room) refl
@@ -163,7 +180,8 @@ module _ (case book places visits seats index : List ℕ) (states : List Student
     -- what the run has left
     left : (e : refusal case book room ≡ none) → Ends M B visits (record { visits = visits₂; seats = seats₂; states = states₂; run = r })
     left e =
-        subst (λ (σ : Kept). Ends M B visits (record { visits = σ .0; seats = σ .1 .0; states = σ .1 .1 .0; run = σ .1 .1 .1 })) (sym (ran ∙ begins e (fuel M B))) (ends-here e)
+        subst (λ (σ : Kept). Ends M B visits (record { visits = σ .0; seats = σ .1 .0; states = σ .1 .1 .0; run = σ .1 .1 .1 }))
+        (sym (ran ∙ begins e (fuel M B))) (ends-here e)
 
     -- the answer, the places and the visits are those of a
     record Left (a : Outcome) : Type 0 where
@@ -195,7 +213,8 @@ module _ (case book places visits seats index : List ℕ) (states : List Student
       going : eqb (p .cause) 0 ≡ true
       going = eq-eqb (p .cause) 0 (started e .cause)
 
-      when-stopped : (s w : ℕ) (vs : List Interview) → Lacking M visits s w vs (record { visits = visits₂; seats = seats₂; states = states₂; run = r }) → Left (next s w vs)
+      when-stopped : (s w : ℕ) (vs : List Interview) → Lacking M visits s w vs
+          (record { visits = visits₂; seats = seats₂; states = states₂; run = r }) → Left (next s w vs)
       unfolding answerEnd toPlace answerFor placesAfter visitsAfter
       when-stopped s w vs l =
           let y : eqb (r .workshop) 0 ≡ false = ne-eqb (r .workshop) 0 (λ q. omega (arith, l .workshop, l .real)) in
@@ -254,6 +273,7 @@ module _ (case book places visits seats index : List ℕ) (states : List Student
     answered a seats₃ index₃ places₃ ea ep es ei =
         record {
           answer = ea ∙ outcome .answer;
+          values = ap valuesOf (ea ∙ outcome .answer) ∙ values-same (engine case book room);
           inPlaces = ep ∙ outcome .inPlaces;
           inVisits = outcome .inVisits;
           inSeats = es;

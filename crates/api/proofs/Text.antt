@@ -39,7 +39,8 @@ interviews-back vs rest =
     ext-getD (0, 0) (tabulate f (length vs)) vs (tabulate-length f (length vs))
     (λ i l.
     let h : i < length vs = rw (tabulate-length f (length vs)) at l in
-    tabulate-at f (length vs) i (0, 0) h ∙ (ap (λ (a : ℕ). (a, f i .1)) (flat-first vs rest i h) ∙ ap (λ (b : ℕ). (getD vs i (0, 0) .0, b)) (flat-second vs rest i h)))
+    tabulate-at f (length vs) i (0, 0) h ∙
+    (ap (λ (a : ℕ). (a, f i .1)) (flat-first vs rest i h) ∙ ap (λ (b : ℕ). (getD vs i (0, 0) .0, b)) (flat-second vs rest i h)))
 
 -- an answer whose places are those of n students
 abbrev pub PlacesOf : ℕ → Outcome → Type 0

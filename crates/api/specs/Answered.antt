@@ -6,11 +6,11 @@ use mathlib.Core.List.{List}
 use lib.ListN.{length}
 use Rattle.format.specs.Refusals.{Room}
 use Rattle.format.specs.Engine.{engine}
-use Rattle.format.specs.Buffers.{placesAfter, visitsAfter, scratchAfter}
+use Rattle.format.specs.Buffers.{placesAfter, visitsAfter, scratchAfter, values}
 use Rattle.format.specs.Promises.{Promised}
 use Rattle.api.specs.declared.StudentState.{StudentState}
 use Rattle.api.specs.declared.Answer.{Answer}
-use Rattle.api.specs.Answers.{answerFor}
+use Rattle.api.specs.Answers.{answerFor, valuesOf}
 
 abbrev pub zeroState : StudentState
 zeroState = record { reached = 0; held = 0; openings = 0 }
@@ -32,6 +32,8 @@ module _ (case book places visits seats index : List ℕ) (states : List Student
   -- the buffers at entry are places to states, and those with a prime stand at exit
   pub record Answered (a : Answer) (places′ visits′ seats′ index′ : List ℕ) (states′ : List StudentState) : Type 0 where
     pub answer : a ≡ answerIn
+    -- document 01's number and values
+    pub values : valuesOf a ≡ values (engine case book lent)
     pub inPlaces : places′ ≡ placesAfter (engine case book lent) places
     pub inVisits : visits′ ≡ visitsAfter (engine case book lent) visits
     pub inSeats : seats′ ≡ scratchAfter 0 seats

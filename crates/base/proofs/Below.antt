@@ -23,7 +23,8 @@ pub count-grows : (p : ℕ → Bool) (i n : ℕ) → i ≤ n → countBelow p i 
 unfolding countBelow
 count-grows p i zero l = let e : i ≡ 0 = omega arith in rw e (omega arith)
 count-grows p i (suc n) l =
-    ⊎-elim (λ (q : i < suc n). omega (arith, count-grows p i n (omega arith))) (λ (q : suc n ≤ i). let e : i ≡ suc n = omega arith in rw e (omega arith)) (less? i (suc n))
+    ⊎-elim (λ (q : i < suc n). omega (arith, count-grows p i n (omega arith)))
+    (λ (q : suc n ≤ i). let e : i ≡ suc n = omega arith in rw e (omega arith)) (less? i (suc n))
 
 pub any-on : (p : ℕ → Bool) (i : ℕ) → anyBelow p (i + 1) ≡ (anyBelow p i || p i)
 unfolding anyBelow
@@ -96,7 +97,8 @@ module _ {A : Type 0} (f : ℕ → A) where
   unfolding tabulate
   in-tabulate zero i l = absurd (omega arith)
   in-tabulate (suc n) i l =
-      ⊎-elim (λ (q : i < n). in-left (f n ∷ []) (in-tabulate n i q)) (λ (q : n ≤ i). let e : i ≡ n = omega arith in rw e (in-right (tabulate f n) (here refl))) (less? i n)
+      ⊎-elim (λ (q : i < n). in-left (f n ∷ []) (in-tabulate n i q))
+      (λ (q : n ≤ i). let e : i ≡ n = omega arith in rw e (in-right (tabulate f n) (here refl))) (less? i n)
 
   module _ (p : A → Bool) where
     tally-snoc : (xs : List A) (y : A) → tally p (xs ++ (y ∷ [])) ≡ tally p xs + one (p y)

@@ -50,7 +50,8 @@ module _ {A : Type 0} (size : ℕ) (encode : A → List ℕ) (decode : List ℕ 
   coded-length (x ∷ xs) =
       omega (arith, length-append (encode x) (flatMap encode xs), sized x, coded-length xs, mul-suc size (length xs))
 
-  pub coded-at : (xs : List A) → ((x : A) → Mem x xs → (bs : List ℕ) → decode (encode x ++ bs) 0 ≡ x) → (i : ℕ) → i < length xs → decode (flatMap encode xs) i ≡ getD xs i none
+  pub coded-at : (xs : List A) → ((x : A) → Mem x xs → (bs : List ℕ) → decode (encode x ++ bs) 0 ≡ x) → (i : ℕ) → i < length xs → decode
+      (flatMap encode xs) i ≡ getD xs i none
   unfolding flatMap
   coded-at [] first i l = absurd (omega arith)
   coded-at (x ∷ xs) first zero l = first x (here refl) (flatMap encode xs)

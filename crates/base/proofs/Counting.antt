@@ -41,7 +41,12 @@ module _ (H N : ℕ → Bool) where
       let f′ : H (suc n) ≡ false = rw q at f in
       rw (e′, f′) (omega (arith, count-mono n (λ h l u. sub h l (omega arith)))))
       (λ (less : x < suc n).
-      omega (arith, one-mono (H (suc n)) (N (suc n)) (sub (suc n) (omega arith) (omega arith)), count-less n x (λ h l u. sub h l (omega arith)) l (omega arith) e f))
+      omega (
+        arith,
+        one-mono (H (suc n)) (N (suc n)) (sub (suc n) (omega arith) (omega arith)),
+        count-less n x (λ h l u. sub h l (omega arith)) l
+            (omega arith) e f,
+      ))
       (eq-or-lt-of-le u)
 
   -- where N is no larger than H and has an x that H has not, H has one that N has not

@@ -5,7 +5,8 @@ use mathlib.Core.Logic.{_⊎_, inl, inr, ⊎-elim}
 use mathlib.Core.Bool.{Bool, true, false, cond, _||_, or-assoc}
 use mathlib.Core.List.{List, [], _∷_, _++_, map}
 use mathlib.Core.List.{List·Memᴰ as Mem, List·Memᴰ·head as here, List·Memᴰ·tail as later, List·Memᴰ·not-nil as not-nil, List·Memᴰ·cases-cons as cases-cons}
-use mathlib.Core.List.{Memᴰ·append-left as in-left, Memᴰ·append-right as in-right, List·Memᴰ·append-cases as append-cases, List·Memᴰ·eq-of-singleton as eq-of-singleton, Memᴰ·cast as same-in}
+use mathlib.Core.List.{Memᴰ·append-left as in-left, Memᴰ·append-right as in-right, List·Memᴰ·append-cases as append-cases}
+use mathlib.Core.List.{List·Memᴰ·eq-of-singleton as eq-of-singleton, Memᴰ·cast as same-in}
 use native.Mathlib.Omega.{arith}
 use borrow.Author.Tests.{eq-eqb, ne-eqb}
 use lib.ListN.{length, getD, length-append, length-map, List·getD-append}
@@ -24,7 +25,8 @@ pub upto-in : (n x : ℕ) → Mem x (upto n) → (1 ≤ x) × (x ≤ n)
 unfolding upto
 upto-in zero x m = absurd (not-nil m)
 upto-in (suc n) x m =
-    ⊎-elim (λ m′. let r : (1 ≤ x) × (x ≤ n) = upto-in n x m′ in omega arith) (λ m′. let e : x ≡ suc n = eq-of-singleton m′ in omega arith) (append-cases (upto n) m)
+    ⊎-elim (λ m′. let r : (1 ≤ x) × (x ≤ n) = upto-in n x m′ in omega arith) (λ m′. let e : x ≡ suc n = eq-of-singleton m′ in omega arith)
+    (append-cases (upto n) m)
 
 pub consIf-in : (b : Bool) (x y : ℕ) (xs : List ℕ) → Mem y (consIf b x xs) → ((b ≡ true) × (y ≡ x)) ⊎ Mem y xs
 consIf-in true x y xs m = ⊎-elim (λ e. inl (refl, e)) inr (cases-cons m)
@@ -49,7 +51,8 @@ module _ (p : ℕ → Bool) where
   unfolding keep
   keep-in [] x m = absurd (not-nil m)
   keep-in (y ∷ xs) x m =
-      ⊎-elim (λ r. (rw (r .1) (r .0), here (r .1))) (λ m′. let r : (p x ≡ true) × Mem x xs = keep-in xs x m′ in (r .0, later (r .1))) (consIf-in (p y) y x (keep p xs) m)
+      ⊎-elim (λ r. (rw (r .1) (r .0), here (r .1))) (λ m′. let r : (p x ≡ true) × Mem x xs = keep-in xs x m′ in (r .0, later (r .1)))
+      (consIf-in (p y) y x (keep p xs) m)
 
 -- z, of which P holds, is before x and all of ys
 pub record Picked (R : ℕ → ℕ → Type 0) (P : ℕ → Type 0) (x : ℕ) (ys : List ℕ) (z : ℕ) : Type 0 where
@@ -146,7 +149,8 @@ upto-length (suc n) = omega (arith, upto-length n, length-append (upto n) (suc n
 pub map-upto-at : (f : ℕ → ℕ) (n k : ℕ) → k < n → getD (map f (upto n)) k 0 ≡ f (suc k)
 unfolding upto
 map-upto-at f zero k l = absurd (omega arith)
-map-upto-at f (suc n) k l = ap (λ xs. getD xs k 0) (map-append f (upto n) (suc n ∷ [])) ∙ ⊎-elim last (λ less. before less (map-upto-at f n k)) (eq-or-lt-of-le l)
+map-upto-at f (suc n) k l = ap (λ xs. getD xs k 0) (map-append f (upto n) (suc n ∷ [])) ∙ ⊎-elim last (λ less. before less (map-upto-at f n k))
+    (eq-or-lt-of-le l)
   where
     size : length (map f (upto n)) ≡ n
     size = length-map (upto n) f ∙ upto-length n

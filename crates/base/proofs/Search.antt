@@ -57,7 +57,8 @@ scan-same p q (suc n) f = rw (scan-same p q n (λ k l. f k (omega arith)), f n (
 pub climb : (key : ℕ → ℕ) (n : ℕ) → NotFalling key n → (i j : ℕ) → i ≤ j → j < n → key i ≤ key j
 climb key n r i zero l h = let e : i ≡ 0 = omega arith in rw e (omega arith)
 climb key n r i (suc j) l h =
-    ⊎-elim (λ (q : i < suc j). omega (arith, climb key n r i j (omega arith) (omega arith), r .step j h)) (λ (q : suc j ≤ i). let e : i ≡ suc j = omega arith in rw e (omega arith)) (less? i (suc j))
+    ⊎-elim (λ (q : i < suc j). omega (arith, climb key n r i j (omega arith) (omega arith), r .step j h))
+    (λ (q : suc j ≤ i). let e : i ≡ suc j = omega arith in rw e (omega arith)) (less? i (suc j))
 
 -- below lo every key is below x, and from hi on none is
 pub record Halved (key : ℕ → ℕ) (n x lo hi : ℕ) : Type 0 where
@@ -164,7 +165,8 @@ module _ (p : ℕ → Bool) (n : ℕ) where
   end-some l = ⊎-elim (λ (q : firstBad p n ≡ none). let m : n < n = rw q at l in absurd (omega arith)) (λ q. rw (q .1)) (option-cases (firstBad p n))
 
   pub end-none : n ≤ orEnd n (firstBad p n) → firstBad p n ≡ none
-  end-none l = ⊎-elim (λ (q : firstBad p n ≡ none). q) (λ q. let m : n ≤ q .0 = rw (q .1) at l in absurd (omega (arith, first-below p n (q .0) (q .1)))) (option-cases (firstBad p n))
+  end-none l = ⊎-elim (λ (q : firstBad p n ≡ none). q)
+      (λ q. let m : n ≤ q .0 = rw (q .1) at l in absurd (omega (arith, first-below p n (q .0) (q .1)))) (option-cases (firstBad p n))
 
   -- the same of a result r of the code
   pub some-by : (r : ℕ) → r ≡ orEnd n (firstBad p n) → r < n → firstBad p n ≡ some r
@@ -177,5 +179,6 @@ module _ (p : ℕ → Bool) (n : ℕ) where
   pub end-any : anyBelow p n ≡ ltb (orEnd n (firstBad p n)) n
   end-any =
       ⊎-elim (λ (q : firstBad p n ≡ none). any-none p n (none-fails p n q) ∙ sym (rw q (le-ltb n n (omega arith))))
-      (λ q. any-found p (q .0) n (first-below p n (q .0) (q .1)) (first-passes p n (q .0) (q .1)) ∙ sym (rw (q .1) (lt-ltb (q .0) n (first-below p n (q .0) (q .1)))))
+      (λ q. any-found p (q .0) n (first-below p n (q .0) (q .1)) (first-passes p n (q .0) (q .1)) ∙ sym
+      (rw (q .1) (lt-ltb (q .0) n (first-below p n (q .0) (q .1)))))
       (option-cases (firstBad p n))

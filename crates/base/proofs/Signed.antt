@@ -15,10 +15,12 @@ use Rattle.base.specs.Words.{biased}
 use Rattle.base.proofs.Tests.{bool-cases, less?, eq?}
 
 pub same-test : (a b c d : ℕ) → (a < b → c < d) → (c < d → a < b) → ltb a b ≡ ltb c d
-same-test a b c d f g = ⊎-elim (λ l. lt-ltb a b l ∙ sym (lt-ltb c d (f l))) (λ le. le-ltb a b le ∙ sym (⊎-elim (λ l. absurd (omega (arith, g l))) (λ q. le-ltb c d q) (less? c d))) (less? a b)
+same-test a b c d f g = ⊎-elim (λ l. lt-ltb a b l ∙ sym (lt-ltb c d (f l)))
+    (λ le. le-ltb a b le ∙ sym (⊎-elim (λ l. absurd (omega (arith, g l))) (λ q. le-ltb c d q) (less? c d))) (less? a b)
 
 pub same-eq : (a b c d : ℕ) → (a ≡ b → c ≡ d) → (c ≡ d → a ≡ b) → eqb a b ≡ eqb c d
-same-eq a b c d f g = ⊎-elim (λ (e : a ≡ b). eq-eqb a b e ∙ sym (eq-eqb c d (f e))) (λ (n : a ≡ b → ⊥). ne-eqb a b n ∙ sym (ne-eqb c d (λ (q : c ≡ d). n (g q)))) (eq? a b)
+same-eq a b c d f g = ⊎-elim (λ (e : a ≡ b). eq-eqb a b e ∙ sym (eq-eqb c d (f e)))
+    (λ (n : a ≡ b → ⊥). ne-eqb a b n ∙ sym (ne-eqb c d (λ (q : c ≡ d). n (g q)))) (eq? a b)
 
 pub biased-less : (a b : ℤ) → mag a < 32768 → mag b < 32768 → ltZ a b ≡ ltb (biased a) (biased b)
 unfolding biased

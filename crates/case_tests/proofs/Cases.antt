@@ -73,7 +73,8 @@ module _ (case : List ℕ) (n m : ℕ) (c : CleanCase case n m) where
   pub few : ((1 ≤ n) × (n ≤ 512)) × ((1 ≤ m) × (m ≤ 64))
   unfolding badCounts marketOf
   few =
-      let r : (notWithin 1 512 (marketIn case .students) ≡ false) × (notWithin 1 64 (marketIn case .workshops) ≡ false) = or-false (notWithin 1 512 (marketIn case .students)) _ (c .counts) in
+      let r : (notWithin 1 512 (marketIn case .students) ≡ false) × (notWithin 1 64 (marketIn case .workshops) ≡ false) = or-false
+      (notWithin 1 512 (marketIn case .students)) _ (c .counts) in
       let s : (1 ≤ marketIn case .students) × (marketIn case .students ≤ 512) = within 1 512 (marketIn case .students) (r .0) in
       let t : (1 ≤ marketIn case .workshops) × (marketIn case .workshops ≤ 64) = within 1 64 (marketIn case .workshops) (r .1) in
       ((omega (arith, c .students), omega (arith, c .students)), (omega (arith, c .workshops), omega (arith, c .workshops)))
@@ -91,7 +92,8 @@ pub refused-as : (case : List ℕ) (o : Option (ℕ × ℕ)) (k i : ℕ) → o �
 unfolding checkedOf
 refused-as case o k i e = rw e
 
-pub clean-as : (case : List ℕ) (o : Option (ℕ × ℕ)) (n m p : ℕ) → o ≡ none → n ≡ marketIn case .students → m ≡ marketIn case .workshops → p ≡ pairCount case → checkedOf o case ≡ Counts n m p
+pub clean-as : (case : List ℕ) (o : Option (ℕ × ℕ)) (n m p : ℕ) → o ≡ none → n ≡ marketIn case .students → m ≡ marketIn case .workshops
+    → p ≡ pairCount case → checkedOf o case ≡ Counts n m p
 unfolding checkedOf
 clean-as case o n m p e a b d = rw (e, a, b, d)
 
@@ -111,7 +113,8 @@ module _ (case : List ℕ) (n m : ℕ) (c : Counted case (rowCount case) n m) wh
 
   pub all-pairs : (n + m ≤ rowCount case) × (rowCount case - n - m ≡ pairCount case)
   all-pairs =
-      let s : Sorted case (rowCount case) (marketIn case .students) (marketIn case .workshops) (pairCount case) = places case (clean-all case (c .form) (c .order)) in
+      let s : Sorted case (rowCount case) (marketIn case .students) (marketIn case .workshops) (pairCount case) = places case
+      (clean-all case (c .form) (c .order)) in
       (omega (arith, s .whole, all-students, all-workshops), omega (arith, s .whole, all-students, all-workshops))
 
 -- what is refused is not clean
@@ -140,7 +143,8 @@ module _ (case : List ℕ) where
   as-refused none k i e = let z : _≡_ {A = ℕ} 0 1 = cc in absurd (omega arith)
   as-refused (some r) k i e = let a : r .0 ≡ k = cc in let b : r .1 ≡ i = cc in rw (← a, ← b)
 
-  pub as-clean : (o : Option (ℕ × ℕ)) (n m p : ℕ) → Counts n m p ≡ checkedOf o case → (o ≡ none) × (n ≡ marketIn case .students) × (m ≡ marketIn case .workshops) × (p ≡ pairCount case)
+  pub as-clean : (o : Option (ℕ × ℕ)) (n m p : ℕ) → Counts n m p ≡ checkedOf o case → (o ≡ none) × (n ≡ marketIn case .students) ×
+      (m ≡ marketIn case .workshops) × (p ≡ pairCount case)
   unfolding checkedOf
   as-clean none n m p e = (refl, cc, cc, cc)
   as-clean (some r) n m p e = let z : _≡_ {A = ℕ} 0 1 = cc in absurd (omega arith)
@@ -149,7 +153,15 @@ module _ (case : List ℕ) where
   unfolding caseCauses
   none-clean e =
       let r : AllNone (caseCauses case) = all-none (caseCauses case) e in
-      record { form = r .1 .0; order = r .1 .1 .0; counts = flag (badCounts (rows case)) (r .1 .1 .1 .0); range = r .1 .1 .1 .1 .0; students = refl; workshops = refl }
+      record {
+        form = r .1 .0;
+        order = r .1 .1 .0;
+        counts = flag (badCounts (rows case))
+            (r .1 .1 .1 .0);
+        range = r .1 .1 .1 .1 .0;
+        students = refl;
+        workshops = refl;
+      }
     where
       flag : (b : Bool) → someIf b 0 ≡ none → b ≡ false
       flag true e = let z : _≡_ {A = ℕ} 0 1 = cc in absurd (omega arith)

@@ -63,7 +63,8 @@ module _ (case : List ℕ) where
             is-within 1 m (rowAt case i .second) (p .workshop .0) (p .workshop .1),
           )
           (⊎-elim
-          (λ (e : rowAt case (i - 1) .kind ≡ 3). rw (eq-eqb (rowAt case (i - 1) .kind) 3 e, later (rowAt case (i - 1)) (rowAt case i) last (p .kind) (p .later) (p .fits) e (k after)))
+          (λ (e : rowAt case (i - 1) .kind ≡ 3). rw
+          (eq-eqb (rowAt case (i - 1) .kind) 3 e, later (rowAt case (i - 1)) (rowAt case i) last (p .kind) (p .later) (p .fits) e (k after)))
           (λ (e : rowAt case (i - 1) .kind ≡ 3 → ⊥). rw (ne-eqb (rowAt case (i - 1) .kind) 3 e))
           (eq? (rowAt case (i - 1) .kind) 3))
 

@@ -62,13 +62,15 @@ module _ (M : Market) (B : Results) where
     unfolding runOf
     runs-none = refl
 
-    pub runs-on : (k : ℕ) → 0 < hand-of (runOf M B k visits seats states r) → runOf M B (suc k) visits seats states r ≡ turnOn M B (runOf M B k visits seats states r)
+    pub runs-on : (k : ℕ) → 0 < hand-of (runOf M B k visits seats states r) → runOf M B (suc k) visits seats states r ≡ turnOn M B
+        (runOf M B k visits seats states r)
     runs-on k l = on k (visits, (seats, (states, r))) l
 
     pub runs-out : (k n : ℕ) → hand-of (runOf M B k visits seats states r) ≡ 0 → k ≤ n → runOf M B k visits seats states r ≡ runOf M B n visits seats states r
     runs-out k n h l = out k n (visits, (seats, (states, r))) h l
 
-    less-at : (k n : ℕ) (b : Bool) → ltb k n ≡ b → k ≤ n → hand-of (runOf M B n visits seats states r) ≡ 0 → 0 < hand-of (runOf M B k visits seats states r) → k < n
+    less-at : (k n : ℕ) (b : Bool) → ltb k n ≡ b → k ≤ n → hand-of (runOf M B n visits seats states r) ≡ 0 → 0 < hand-of
+        (runOf M B k visits seats states r) → k < n
     less-at k n true e l h p = ltb-true k n e
     less-at k n false e l h p = none _ h (subst (λ (j : ℕ). 0 < hand-of (runOf M B j visits seats states r)) (omega (arith, l, ltb-false k n e)) p)
 

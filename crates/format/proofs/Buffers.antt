@@ -29,7 +29,12 @@ module _ (new old : List ℕ) where
   past-head : (i : ℕ) → length new ≤ i → getD (withHead new old) i 0 ≡ getD old i 0
   past-head i l =
       let e : i ≡ length new + (i - length new) = omega arith in
-      rw (ap (λ k. getD (withHead new old) k 0) e, getD-append-add new (drop (length new) old) (i - length new) 0, getD-drop (length new) old (i - length new) 0)
+      rw (
+        ap (λ k. getD (withHead new old) k 0) e,
+        getD-append-add new (drop (length new) old) (i - length new) 0,
+        getD-drop (length new) old
+            (i - length new) 0,
+      )
       (ap (λ k. getD old k 0) (sym e))
 
 pub flat-length : (vs : List Interview) → length (flat vs) ≡ 2 * length vs

@@ -97,7 +97,8 @@ module _ (rs : List Row) (none : someDiffer rs ≡ false) where
 -- ---- example K
 
 agrees-k : someDiffer (rows K) ≡ false
-unfolding someDiffer meets differ marketOf rows rowAt word any find tally tabulate K caseWith caseOf flatMap caseBytes rowBytes words studentsK workshopsK pairsK
+unfolding someDiffer meets differ marketOf rows rowAt word any find tally tabulate K caseWith caseOf flatMap caseBytes rowBytes words studentsK
+    workshopsK pairsK
 agrees-k = refl
 
 pub example-k : Example K bookK exact

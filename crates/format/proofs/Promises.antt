@@ -20,7 +20,8 @@ use Rattle.lgs.proofs.Promises.{fits-exists, listed-length}
 use Rattle.format.specs.Layout.{rows, resultsOf, ofKind}
 use Rattle.format.specs.Refusals.{Room, refusal, needed}
 use Rattle.format.specs.Engine.{placed, next, refused, engine, marketIn, resultsIn, Outcome, outcomeOf, ruleOutcome, outcomeUnless}
-use Rattle.format.specs.Promises.{Valid, Refused, withPlaces, withNext, RunEnds, Demand1, FitsBook, interviewsOf, ByRule, Demand2Placed, Demand2Next, Demand2, Demand3, FitExists, OptimalExists, SameListed, UnlistedUnused, HeadsFit, Promised}
+use Rattle.format.specs.Promises.{Valid, Refused, withPlaces, withNext, RunEnds, Demand1, FitsBook, interviewsOf, ByRule, Demand2Placed}
+use Rattle.format.specs.Promises.{Demand2Next, Demand2, Demand3, FitExists, OptimalExists, SameListed, UnlistedUnused, HeadsFit, Promised}
 use Rattle.format.proofs.Causes.{refusal-some, refusal-none, passed}
 use Rattle.format.proofs.Runs.{rule, wf, distinct, ends, engine-valid, Finished, Stopped, when-placed, when-next, placed-promise, next-promise}
 use Rattle.format.proofs.Books.{extends, agree-listed}
@@ -141,7 +142,8 @@ optimal-exists case book room valid O strict tiers =
     (r .0, r .1, λ ν best s. optimal-unique (marketIn case) O strict ν (r .0) best (r .1) s)
 
 module _ (case book book′ : List ℕ) (room : Room) (valid′ : Valid case book′ room) where
-  placed-again : (places : List ℕ) (vs : List Interview) → Finished case book room places vs → SameListed vs book book′ → engine case book′ room ≡ placed places vs
+  placed-again : (places : List ℕ) (vs : List Interview) → Finished case book room places vs → SameListed vs book book′
+      → engine case book′ room ≡ placed places vs
   unfolding outcomeOf
   placed-again places vs f same =
       let P : Placed (marketIn case) (resultsIn book) places vs = placed-promise case book room places vs f in

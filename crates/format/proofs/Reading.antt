@@ -16,7 +16,8 @@ use Rattle.base.proofs.Below.{tabulate-at, any-before, any-fails, find-first, f
 use Rattle.lgs.specs.Profiles.{outsideOr, flip}
 use Rattle.lgs.proofs.Valid.{WellFormed, DistinctScores, Distinct}
 use Rattle.format.specs.Layout.{Entry, rowAt, rowCount, rows, entryAt, entryCount, entries, noEntry, isInterview, marketOf, resultsOf, outsideScore}
-use Rattle.format.specs.Refusals.{notWithin, badForm, badOrder, badCounts, badRange, badStudent, badWorkshop, badTiers, badScore, badPair, badScores, badRepeat}
+use Rattle.format.specs.Refusals.{notWithin, badForm, badOrder, badCounts, badRange, badStudent, badWorkshop, badTiers, badScore, badPair}
+use Rattle.format.specs.Refusals.{badScores, badRepeat}
 use Rattle.format.specs.Refusals.{studentTies, workshopTies, badTie}
 use Rattle.format.specs.Engine.{marketIn, resultsIn}
 use Rattle.format.proofs.Sorted.{within, row-at, Clean}

@@ -1,5 +1,7 @@
 -- What the program prints, as bytes of ASCII (document 01, "What the program prints").
 use Prim.Native.Nat.{ℕ, zero, suc, _+_, _/_, _%_}
+use Prim.Native.Char.{code}
+use Prim.Native.String.{String, [] as []ˢ, _∷_ as _∷ˢ_}
 use mathlib.Core.Path.{_≡_}
 use mathlib.Core.Bool.{cond}
 use mathlib.Core.List.{List, [], _∷_, _++_}
@@ -10,38 +12,42 @@ use Rattle.lgs.specs.Rule.{Interview}
 use Rattle.format.specs.Refusals.{Room}
 use Rattle.format.specs.Engine.{placed, next, refused, engine, Outcome}
 
+-- the bytes of a text of ASCII characters
+abbrev pub ascii : String → List ℕ
+ascii []ˢ = []
+ascii (c ∷ˢ s) = code c ∷ ascii s
+
 -- the decimal digits of n, in at most k places
 unfoldable pub digitsWithin : ℕ → ℕ → List ℕ
 digitsWithin zero n = []
-digitsWithin (suc k) n = cond (ltb n 10) ((48 + n) ∷ []) (digitsWithin k (n / 10) ++ ((48 + n % 10) ∷ []))
+digitsWithin (suc k) n = cond (ltb n 10) ((code "0" + n) ∷ []) (digitsWithin k (n / 10) ++ ((code "0" + n % 10) ∷ []))
 
 -- the number n; n + 1 places hold it
 unfoldable pub decimal : ℕ → List ℕ
 decimal n = digitsWithin (suc n) n
 
--- `place`, `visits`, `visit`, `next`, `refused`, `unread`
 abbrev pub placeWord : List ℕ
-placeWord = 112 ∷ 108 ∷ 97 ∷ 99 ∷ 101 ∷ []
+placeWord = ascii "place"
 
 abbrev pub visitsWord : List ℕ
-visitsWord = 118 ∷ 105 ∷ 115 ∷ 105 ∷ 116 ∷ 115 ∷ []
+visitsWord = ascii "visits"
 
 abbrev pub visitWord : List ℕ
-visitWord = 118 ∷ 105 ∷ 115 ∷ 105 ∷ 116 ∷ []
+visitWord = ascii "visit"
 
 abbrev pub nextWord : List ℕ
-nextWord = 110 ∷ 101 ∷ 120 ∷ 116 ∷ []
+nextWord = ascii "next"
 
 abbrev pub refusedWord : List ℕ
-refusedWord = 114 ∷ 101 ∷ 102 ∷ 117 ∷ 115 ∷ 101 ∷ 100 ∷ []
+refusedWord = ascii "refused"
 
 abbrev pub unreadWord : List ℕ
-unreadWord = 117 ∷ 110 ∷ 114 ∷ 101 ∷ 97 ∷ 100 ∷ []
+unreadWord = ascii "unread"
 
 -- "one item a line": a word, then each number after a space, then a line feed
 unfoldable pub numbers : List ℕ → List ℕ
-numbers [] = 10 ∷ []
-numbers (n ∷ ns) = 32 ∷ (decimal n ++ numbers ns)
+numbers [] = ascii "\n"
+numbers (n ∷ ns) = ascii " " ++ decimal n ++ numbers ns
 
 abbrev pub lineOf : List ℕ → List ℕ → List ℕ
 lineOf word ns = word ++ numbers ns
@@ -56,7 +62,7 @@ unfoldable pub visitLines : List Interview → List ℕ
 visitLines [] = []
 visitLines (v ∷ vs) = lineOf visitWord (v .0 ∷ v .1 ∷ []) ++ visitLines vs
 
--- the line with the count, and then a line for each visit
+-- The line with the count, and then a line for each visit. A line after the visits lines would stand here.
 unfoldable pub visitsText : List Interview → List ℕ
 visitsText vs = lineOf visitsWord (length vs ∷ []) ++ visitLines vs
 

@@ -7,7 +7,8 @@ use lib.ListN.{length, getD, take}
 use lib.Dec.{ltb, eqb}
 use Rattle.base.specs.Lists.{any, tally}
 use Rattle.lgs.specs.Market.{Market, allSeats}
-use Rattle.format.specs.Layout.{Row, Entry, noRow, noEntry, rows, entries, rowCount, entryCount, ofKind, unnamed, isStudent, isWorkshop, isPair, isInterview, marketOf, outsideScore}
+use Rattle.format.specs.Layout.{Row, Entry, noRow, noEntry, rows, entries, rowCount, entryCount, ofKind, unnamed, isStudent, isWorkshop}
+use Rattle.format.specs.Layout.{isPair, isInterview, marketOf, outsideScore}
 use Rattle.format.specs.Causes.{Cause, whole, each, firstCause}
 
 -- the number is not from low to high

@@ -12,7 +12,7 @@ use Rattle.format.specs.Encoding.{words, rowBytes, caseBytes}
 use Rattle.format.specs.Refusals.{Room, badCounts}
 use Rattle.format.specs.Engine.{placed, next, refused, engine, Outcome}
 use Rattle.format.specs.Buffers.{placesAfter, visitsAfter, scratchAfter, values}
-use Rattle.format.specs.Printed.{printed}
+use Rattle.format.specs.Printed.{ascii, printed, unread}
 use Rattle.format.specs.Promises.{Example}
 
 -- ---- bytes from fields
@@ -80,19 +80,6 @@ visitsK = (1, 1) ∷ (1, 2) ∷ (2, 2) ∷ (3, 2) ∷ []
 
 unfoldable pub answerK : Outcome
 answerK = placed (1 ∷ 0 ∷ 2 ∷ []) visitsK
-
--- the lines that the program prints for K
-unfoldable pub printedK : List ℕ
-printedK =
-    112 ∷ 108 ∷ 97 ∷ 99 ∷ 101 ∷ 32 ∷ 49 ∷ 32 ∷ 49 ∷ 10  -- place 1 1
-    ∷ 112 ∷ 108 ∷ 97 ∷ 99 ∷ 101 ∷ 32 ∷ 50 ∷ 32 ∷ 48 ∷ 10  -- place 2 0
-    ∷ 112 ∷ 108 ∷ 97 ∷ 99 ∷ 101 ∷ 32 ∷ 51 ∷ 32 ∷ 50 ∷ 10  -- place 3 2
-    ∷ 118 ∷ 105 ∷ 115 ∷ 105 ∷ 116 ∷ 115 ∷ 32 ∷ 52 ∷ 10  -- visits 4
-    ∷ 118 ∷ 105 ∷ 115 ∷ 105 ∷ 116 ∷ 32 ∷ 49 ∷ 32 ∷ 49 ∷ 10  -- visit 1 1
-    ∷ 118 ∷ 105 ∷ 115 ∷ 105 ∷ 116 ∷ 32 ∷ 49 ∷ 32 ∷ 50 ∷ 10  -- visit 1 2
-    ∷ 118 ∷ 105 ∷ 115 ∷ 105 ∷ 116 ∷ 32 ∷ 50 ∷ 32 ∷ 50 ∷ 10  -- visit 2 2
-    ∷ 118 ∷ 105 ∷ 115 ∷ 105 ∷ 116 ∷ 32 ∷ 51 ∷ 32 ∷ 50 ∷ 10  -- visit 3 2
-    ∷ []
 
 -- a case, a book, and the answer to them
 pub record Sample : Type 0 where
@@ -273,6 +260,20 @@ buffersExpected =
     ∷ (9 ∷ 1 ∷ [])
     ∷ []
 
+-- ---- printed text: of K, of a next visit, of numbers with several digits, and of a file that cannot be read
+
+unfoldable pub texts : List (List ℕ)
+texts = printed answerK ∷ printed nextK ∷ printed (placed (64 ∷ []) ((1, 64) ∷ [])) ∷ printed (refused 11 2047) ∷ unread ∷ []
+
+unfoldable pub textsExpected : List (List ℕ)
+textsExpected =
+    ascii "place 1 1\nplace 2 0\nplace 3 2\nvisits 4\nvisit 1 1\nvisit 1 2\nvisit 2 2\nvisit 3 2\n"
+    ∷ ascii "next 2 2\nvisits 2\nvisit 1 1\nvisit 1 2\n"
+    ∷ ascii "place 1 64\nvisits 1\nvisit 1 64\n"
+    ∷ ascii "refused 11 2047\n"
+    ∷ ascii "unread\n"
+    ∷ []
+
 -- what the engine answers to the samples, and what it should
 unfoldable pub given : List Sample → List Outcome
 given ls = map (λ (l : Sample). engine (l .case) (l .book) ample) ls
@@ -289,7 +290,7 @@ pub record Computed : Type 0 where
   pub exactly : engine K bookK exact ≡ answerK
   pub shortly : map (λ (room : Room). engine K (0 ∷ []) room) shortRooms ≡ map (λ (room : Room). refused 6 0) shortRooms
   pub buffers : buffersAfter ≡ buffersExpected
-  pub text : printed answerK ≡ printedK
+  pub text : texts ≡ textsExpected
 
 -- and K is a run with agreeing stages
 pub record TablesHold : Type 0 where

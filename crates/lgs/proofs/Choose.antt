@@ -68,7 +68,11 @@ module _ (M : Market) (B : Results) (O : Profile) (Vs : ℕ → ℕ → Bool) (E
           none = ⊎-elim (λ e. among 0 (none-in e))
               (λ e. let ne : studentOutside M s ≡ σ .reached s → ⊥ = eqb-false _ _ e in
               let l : σ .reached s < studentOutside M s = omega (arith, I .outside s) in
-              omega (arith, E .full .students .keeps s (best M B s x xs) 0 (best-picked .chosen .known .option) refl (omega (arith, best-picked .chosen .tier))))
+              omega (
+                arith,
+                E .full .students .keeps s (best M B s x xs) 0 (best-picked .chosen .known .option) refl
+                    (omega (arith, best-picked .chosen .tier)),
+              ))
               (bool-cases (eqb (studentOutside M s) (σ .reached s)));
           real = λ l. let k : Open M B σ s (best M B s x xs) = open-parts M B σ s (best M B s x xs) (best-picked .chosen .real l) in (k .interview, k .welcome);
         }

@@ -140,7 +140,8 @@ module _ (M : Market) (B : Results) (O : Profile) (Vs : ℕ → ℕ → Bool) (E
   unfolding close
   close-inv =
       record {
-        seen = λ t w v. let k : Seen M Vs σ t w = I .seen t w v in record { pair = k .pair; seen = k .seen; tier = k .tier; outside = k .outside; seats = k .seats };
+        seen = λ t w v. let k : Seen M Vs σ t w = I .seen t w v in record
+            { pair = k .pair; seen = k .seen; tier = k .tier; outside = k .outside; seats = k .seats };
         swept = λ t w p l. ⊎-elim inl (λ d. inr (close-keeps M B seatedState c t w d)) (I .swept t w p l);
         past = λ t w v l. ⊎-elim (λ d. inl (close-keeps M B seatedState c t w d)) inr (I .past t w v l);
         outside = I .outside;

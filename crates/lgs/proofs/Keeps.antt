@@ -27,7 +27,8 @@ module _ (M : Market) (B : Results) (O : Profile) (Vs : ℕ → ℕ → Bool) (E
   unfolding open?
   leave-keeps σ I s rest wait k =
       record {
-        seen = λ t w v. let z : Seen M Vs σ t w = I .seen t w v in record { pair = z .pair; seen = z .seen; tier = z .tier; outside = z .outside; seats = z .seats };
+        seen = λ t w v. let z : Seen M Vs σ t w = I .seen t w v in record
+            { pair = z .pair; seen = z .seen; tier = z .tier; outside = z .outside; seats = z .seats };
         swept = I .swept;
         past = I .past;
         outside = I .outside;
@@ -60,14 +61,16 @@ module _ (M : Market) (B : Results) (O : Profile) (Vs : ℕ → ℕ → Bool) (E
   pub move-keeps : (σ σ′ : State) → Inv M B O Vs σ → (s : ℕ) (rest : List ℕ) → σ .waiting ≡ s ∷ rest
       → ((t w : ℕ) → interviewed (σ′ .interviews) t w ≡ true → Vs t w ≡ true) → Move M B σ s rest σ′ → Inv M B O Vs σ′
   move-keeps σ σ′ I s rest wait known (interviews empty met e) =
-      rw e (advance-keeps M B O Vs E σ I s rest wait empty (λ w m. known s w (rw e (interviewed-after (σ .interviews) _ s w (interviewed-in s (due M B σ s) w m)))))
+      rw e (advance-keeps M B O Vs E σ I s rest wait empty
+      (λ w m. known s w (rw e (interviewed-after (σ .interviews) _ s w (interviewed-in s (due M B σ s) w m)))))
   move-keeps σ σ′ I s rest wait known (leaves x xs some z e) = rw e (leave-keeps σ I s rest wait (rw z at (best-chosen M B O Vs E σ I s x xs some)))
   move-keeps σ σ′ I s rest wait known (sits x xs c some z fits e) =
       rw e (close-inv M B O Vs E σ I (suc c) (omega arith) _ _
       (seat M B O Vs E σ I s rest wait (suc c) (omega arith) (rw z at (best-chosen M B O Vs E σ I s x xs some)) fits))
   move-keeps σ σ′ I s rest wait known (drops x xs c some z over e) =
       rw e (close-inv M B O Vs E σ I (suc c) (omega arith) _ _
-      (drop M B O Vs E σ I s rest wait (suc c) (omega arith) k (dropped M B σ s rest (suc c)) (lowest-joined M B O Vs E σ I s rest wait (suc c) (omega arith) k)))
+      (drop M B O Vs E σ I s rest wait (suc c) (omega arith) k (dropped M B σ s rest (suc c))
+      (lowest-joined M B O Vs E σ I s rest wait (suc c) (omega arith) k)))
     where
       k : Chosen M B O Vs σ s (suc c)
       k = rw z at (best-chosen M B O Vs E σ I s x xs some)

@@ -91,7 +91,8 @@ module _ (M : Market) (B : Results) (O : Profile) (Vs : ℕ → ℕ → Bool) (E
     lowest-of (x ∷ xs) e k m =
         let p : Picked (λ a b. O .workshopRank c b ≤ O .workshopRank c a) (λ h. τ .held h ≡ c) x xs (pick (below M B τ c) x xs) =
         picked (below M B τ c) (λ a b. O .workshopRank c b ≤ O .workshopRank c a) (λ h. τ .held h ≡ c) (λ a. omega arith) (λ a b d l r. omega arith)
-        (λ a b ha hb t. let l : O .workshopRank c a < O .workshopRank c b = below-rank b a (seen b (came b hb) .pair) (seen a (came a ha) .pair) t in omega arith)
+        (λ a b ha hb t. let l : O .workshopRank c a < O .workshopRank c b = below-rank b a (seen b (came b hb) .pair)
+        (seen a (came a ha) .pair) t in omega arith)
         (λ a b ha hb t. not-below-rank b a (came b hb) (came a ha) t)
         x xs (in-holder x (rw e (here refl))) (λ y m′. in-holder y (rw e (later m′))) in
         record { holder = p .chosen; low = λ h q. ⊎-elim (λ (z : h ≡ x). rw z (p .first)) (p .others h) (cases-cons (rw e at (holder-in h q))) }

@@ -48,7 +48,8 @@ module _ (M : Market) (B : Results) (O O′ : Profile) (Vs : ℕ → ℕ → Boo
         };
       }
 
-module _ (M : Market) (wf : WellFormed M) (B : Results) (distinct : Distinct M B) (p : ℕ → ℕ) (vs : List Interview) (run : lazyGaleShapley M B ≡ finished p vs) where
+module _ (M : Market) (wf : WellFormed M) (B : Results) (distinct : Distinct M B) (p : ℕ → ℕ) (vs : List Interview)
+    (run : lazyGaleShapley M B ≡ finished p vs) where
   met : (t w : ℕ) → interviewed vs t w ≡ true → B .met t w ≡ true
   met = lgs-met M B p vs run
 

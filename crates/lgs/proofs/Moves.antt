@@ -82,7 +82,8 @@ module _ (M : Market) (B : Results) (σ : State) (s : ℕ) (rest : List ℕ) whe
   unfolding apply settle
   by-best σ′ x xs some zero z e = leaves x xs some z (same-state e)
   by-best σ′ x xs some (suc c) z e =
-      ⊎-elim (λ (o : ltb (M .quota (suc c)) (seated M (joinedState (suc c) .held) (suc c)) ≡ true). drops x xs c some z (ltb-true _ _ o) (same-state (rw o at e)))
+      ⊎-elim (λ (o : ltb (M .quota (suc c)) (seated M (joinedState (suc c) .held) (suc c)) ≡ true). drops x xs c some z (ltb-true _ _ o)
+      (same-state (rw o at e)))
       (λ (o : ltb (M .quota (suc c)) (seated M (joinedState (suc c) .held) (suc c)) ≡ false). sits x xs c some z (ltb-false _ _ o) (same-state (rw o at e)))
       (bool-cases (ltb (M .quota (suc c)) (seated M (joinedState (suc c) .held) (suc c))))
 

@@ -182,7 +182,8 @@ module _ (M : Market) (B : Results) (O : Profile) (Vs : ℕ → ℕ → Bool) (E
               close-deletes M B τ c t (omega (arith, S .fits))
               (or-left (ltb (M .workshopTier c (lowestOf M B τ c (holders M B τ c))) (M .workshopTier c t)) _ (lt-ltb _ _ (a _ (l .holder))))
 
-  module _ (agree : ConsistentStages M (M .stage)) (σ : State) (I : Inv M B O Vs σ) (N : Needed M σ) (s : ℕ) (rest : List ℕ) (wait : σ .waiting ≡ s ∷ rest) where
+  module _ (agree : ConsistentStages M (M .stage)) (σ : State) (I : Inv M B O Vs σ) (N : Needed M σ) (s : ℕ) (rest : List ℕ)
+      (wait : σ .waiting ≡ s ∷ rest) where
     -- whoever has had an interview with the workshop that the student applies to is in her tier there or a better one
     module _ (c : ℕ) (pos : 0 < c) (k : Chosen M B O Vs σ s c) where
       no-better : (t : ℕ) → interviewed (σ .interviews) t c ≡ true → M .workshopTier c t ≤ M .workshopTier c s
@@ -224,8 +225,11 @@ module _ (M : Market) (B : Results) (O : Profile) (Vs : ℕ → ℕ → Bool) (E
             reach
             (λ t w u v m.
             ⊎-elim (λ (e : u ≡ x). rw e (omega (arith, N .early t w s v (in-first wait), hand-before))) (λ z. N .early t w u v (rw wait (later z)))
-            (cases-cons m))
-            ((λ t m. N .early x c t (choosers₁ M B O Vs E σ I s rest wait c pos k x (low .holder) .real pos .0) (rw wait (later m))), in-order σ I N s rest wait .1)
+            (cases-cons m)) (
+              (λ t m. N .early x c t (choosers₁ M B O Vs E σ I s rest wait c pos k x (low .holder) .real pos .0) (rw wait (later m))),
+              in-order σ I N s
+                  rest wait .1,
+            )
 
     move-needed : (σ′ : State) → Move M B σ s rest σ′ → Needed M σ′
     move-needed σ′ (interviews empty met e) =

@@ -85,7 +85,8 @@ fits-set n m (v ∷ vs) Us d inside =
     let less : total (λ s. count (without v Us s) m) n < total (λ s. count (Us s) m) n =
     total-less (λ s. count (without v Us s) m) (λ s. count (Us s) m) n (v .0) (r .0 .0) (r .0 .1)
     (λ s. count-mono (without v Us s) (Us s) m (λ w a b e. and-right (not (eqb (v .0) s && eqb (v .1) w)) _ e))
-    (count-less (without v Us (v .0)) (Us (v .0)) m (v .1) (λ w a b e. and-right (not (eqb (v .0) (v .0) && eqb (v .1) w)) _ e) (r .1 .0) (r .1 .1) (r .2) gone) in
+    (count-less (without v Us (v .0)) (Us (v .0)) m (v .1) (λ w a b e. and-right (not (eqb (v .0) (v .0) && eqb (v .1) w)) _ e) (r .1 .0) (r .1 .1)
+    (r .2) gone) in
     omega arith
   where
     gone : without v Us (v .0) (v .1) ≡ false

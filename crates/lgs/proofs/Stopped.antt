@@ -50,7 +50,8 @@ module _ (M : Market) (B : Results) (O : Profile) (E : Setting M B O (B .met)) (
 
       cases : (t d : ℕ) → interviewed vs t d ≡ true → (interviewed (τ .interviews) t d ≡ true) ⊎ ((t ≡ s) × Mem d (h .before))
       cases t d v =
-          ⊎-elim inl (λ n. inr (interviewed-of s (h .before) t d n)) (interviewed-or (τ .interviews) (interviewsWith s (h .before)) t d (rw (h .interviews) at v))
+          ⊎-elim inl (λ n. inr (interviewed-of s (h .before) t d n))
+          (interviewed-or (τ .interviews) (interviewsWith s (h .before)) t d (rw (h .interviews) at v))
 
       -- all that is due follows the interviews held
       all : τ .interviews ++ interviewsWith s (due M B τ s) ≡ vs ++ ((s, w) ∷ interviewsWith s (h .after))

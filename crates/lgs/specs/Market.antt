@@ -61,7 +61,8 @@ module _ (M : Market) where
     pub within : M .workshopTier w s ≤ workshopOutside M w
     pub within′ : M .workshopTier w t ≤ workshopOutside M w
 
-  -- "The stages agree" (a student's stage is `stage s`): of two such students the one in the better tier has the earlier stage, and equal tiers have equal stages.
+  -- "The stages agree" (a student's stage is `stage s`): of two such students the one in the better tier has the earlier stage, and equal tiers have
+  -- equal stages.
   pub record ConsistentStages (stage : ℕ → ℕ) : Type 0 where
     pub earlier : (w s t : ℕ) → Rivals w s t → M .workshopTier w s < M .workshopTier w t → stage s < stage t
     pub together : (w s t : ℕ) → Rivals w s t → M .workshopTier w s ≡ M .workshopTier w t → stage s ≡ stage t

@@ -31,12 +31,14 @@ module _ {case book index : List ℕ} {n m : ℕ} (k : Clean case book index n m
   entry-known p e q r = rw (r, q) (k .met s w (b .met))
 
 -- a pair's interview is held where the index has an entry for it
-module _ {case book index : List ℕ} {n m : ℕ} (k : Clean case book index n m) (s w : ℕ) (b : marketIn case .paired s w ≡ true) (p e : ℕ) (q : p ≡ pairPlace case s w) (r : e ≡ getD index (p - (n + m)) 0) where
+module _ {case book index : List ℕ} {n m : ℕ} (k : Clean case book index n m) (s w : ℕ) (b : marketIn case .paired s w ≡ true) (p e : ℕ)
+    (q : p ≡ pairPlace case s w) (r : e ≡ getD index (p - (n + m)) 0) where
   same-entry : e ≡ indexAt case index n m s w
   same-entry = r ∙ rw q
 
   pub met-by : (e ≡ 0 → ⊥) → resultsIn book .met s w ≡ true
-  met-by z = ⊎-elim (λ (h : resultsIn book .met s w ≡ true). h) (λ (h : resultsIn book .met s w ≡ false). absurd (z (same-entry ∙ k .unmet s w b h))) (bool-cases (resultsIn book .met s w))
+  met-by z = ⊎-elim (λ (h : resultsIn book .met s w ≡ true). h) (λ (h : resultsIn book .met s w ≡ false). absurd (z (same-entry ∙ k .unmet s w b h)))
+      (bool-cases (resultsIn book .met s w))
 
   pub unmet-by : e ≡ 0 → resultsIn book .met s w ≡ false
   unmet-by z = is-false (resultsIn book .met s w) (λ h. let f : EntryAt book s w (indexAt case index n m s w) = k .met s w h in omega (arith, same-entry))

@@ -31,7 +31,8 @@ pub data Far (M : Market) (held : ℕ → ℕ) (s c : ℕ) : Type 0 where
   above : M .quota c ≤ seated M held c → ((h : ℕ) → held h ≡ c → M .workshopTier c h < M .workshopTier c s) → Far M held s c
 
 pub record Evident (M : Market) (B : Results) (σ : State) : Type 0 where
-  pub shut : (s c : ℕ) → M .paired s c ≡ true → M .quota c ≤ seated M (σ .held) c → ((h : ℕ) → σ .held h ≡ c → M .workshopTier c h < M .workshopTier c s) → σ .deleted s c ≡ true
+  pub shut : (s c : ℕ) → M .paired s c ≡ true → M .quota c ≤ seated M (σ .held) c →
+      ((h : ℕ) → σ .held h ≡ c → M .workshopTier c h < M .workshopTier c s) → σ .deleted s c ≡ true
   pub apart : (s c : ℕ) → M .paired s c ≡ true → interviewed (σ .interviews) s c ≡ false → σ .deleted s c ≡ true → Far M (σ .held) s c
 
 module _ (M : Market) (B : Results) (O : Profile) (Vs : ℕ → ℕ → Bool) (E : Setting M B O Vs) (σ : State) (I : Inv M B O Vs σ) (N : Evident M B σ) where
@@ -60,8 +61,10 @@ module _ (M : Market) (B : Results) (O : Profile) (Vs : ℕ → ℕ → Bool) (E
     deletes : (t : ℕ) → M .quota c ≤ seated M held′ c → ((h : ℕ) → held′ h ≡ c → M .workshopTier c h < M .workshopTier c t) → close M B τ c .deleted t c ≡ true
     unfolding below
     deletes t f a =
-        let l : Lowest M B O Vs E σ τ c (λ x v. I .seen x c v) (lowestOf M B τ c (holders M B τ c)) = lowest-holder M B O Vs E σ I c pos held′ waiting′ S (omega (arith, S .seats)) in
-        close-deletes M B τ c t (omega (arith, S .fits)) (or-left (ltb (M .workshopTier c (lowestOf M B τ c (holders M B τ c))) (M .workshopTier c t)) _ (lt-ltb _ _ (a _ (l .holder))))
+        let l : Lowest M B O Vs E σ τ c (λ x v. I .seen x c v)
+        (lowestOf M B τ c (holders M B τ c)) = lowest-holder M B O Vs E σ I c pos held′ waiting′ S (omega (arith, S .seats)) in
+        close-deletes M B τ c t (omega (arith, S .fits))
+        (or-left (ltb (M .workshopTier c (lowestOf M B τ c (holders M B τ c))) (M .workshopTier c t)) _ (lt-ltb _ _ (a _ (l .holder))))
 
     still : (t d : ℕ) → 0 < d → Far M (σ .held) t d → Far M held′ t d
     still t d l (seatless z) = seatless z
@@ -78,10 +81,12 @@ module _ (M : Market) (B : Results) (O : Profile) (Vs : ℕ → ℕ → Bool) (E
     by-tier : (t l : ℕ) → interviewed (σ .interviews) t c ≡ false → below M B τ c t l ≡ true → M .workshopTier c l < M .workshopTier c t
     unfolding below
     by-tier t l v b =
-        ⊎-elim (λ e. ltb-true _ _ e) (λ e. never (and-left (interviewed (σ .interviews) t c) _ (and-right (eqb (M .workshopTier c t) (M .workshopTier c l)) _ e)) v)
+        ⊎-elim (λ e. ltb-true _ _ e) (λ e. never
+        (and-left (interviewed (σ .interviews) t c) _ (and-right (eqb (M .workshopTier c t) (M .workshopTier c l)) _ e)) v)
         (or-true (ltb (M .workshopTier c l) (M .workshopTier c t)) _ b)
 
-    newly : (t : ℕ) → interviewed (σ .interviews) t c ≡ false → seated M held′ c ≡ M .quota c → below M B τ c t (lowestOf M B τ c (holders M B τ c)) ≡ true → Far M held′ t c
+    newly : (t : ℕ) → interviewed (σ .interviews) t c ≡ false → seated M held′ c ≡ M .quota c → below M B τ c t
+        (lowestOf M B τ c (holders M B τ c)) ≡ true → Far M held′ t c
     newly t v f b =
         above (omega arith)
         (λ h e.
@@ -97,7 +102,8 @@ module _ (M : Market) (B : Results) (O : Profile) (Vs : ℕ → ℕ → Bool) (E
         record {
           shut = λ t d p f a.
               ⊎-elim (λ (e : d ≡ c). subst (λ w. close M B τ c .deleted t w ≡ true) (sym e) (deletes t (rw e at f) (rw e at a)))
-              (λ ne. close-keeps M B τ c t d (N .shut t d p (omega (arith, same-seats d ne (E .wf .workshop t d p .0))) (λ h q. a h (back h d ne (E .wf .workshop t d p .0) q))))
+              (λ ne. close-keeps M B τ c t d (N .shut t d p (omega (arith, same-seats d ne (E .wf .workshop t d p .0)))
+              (λ h q. a h (back h d ne (E .wf .workshop t d p .0) q))))
               (eq? d c);
           apart = λ t d p v z.
               ⊎-elim (λ o. still t d (E .wf .workshop t d p .0) (N .apart t d p v o))
@@ -116,7 +122,12 @@ module _ (M : Market) (B : Results) (O : Profile) (Vs : ℕ → ℕ → Bool) (E
           ⊎-elim
           (λ (e : h ≡ s).
           let xs : x ≡ s → ⊥ = λ z. nx (e ∙ sym z) in
-          omega (arith, workshop-no-worse M B O Vs E c h x (option h j) (option x (L .holder)) (L .low h j), a x (sym (update-off (σ .held) s c x xs) ∙ L .holder)))
+          omega (
+            arith,
+            workshop-no-worse M B O Vs E c h x (option h j) (option x (L .holder)) (L .low h j),
+            a x
+                (sym (update-off (σ .held) s c x xs) ∙ L .holder),
+          ))
           (λ off. a h (sym (update-off (σ .held) s c h off) ∙ j))
           (eq? h s)
         where

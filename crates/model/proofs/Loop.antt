@@ -133,11 +133,35 @@ module _ (M : Market) (B : Results) (O : Profile) (E : Setting M B O (B .met)) w
             by-waiting (s ∷ rest) f = by-move s rest (moves M B (D .state) s rest σ′ f)
 
         by-match : (k : ℕ) → D .left ≡ suc k → Matches M B O (D .state) (weightOf M B O m) (on m′) → Sound m′ × (weightOf M B O m′ < weightOf M B O m)
-        by-match k q (waits L less) =
-            (record { state = D .state; inv = D .inv; evident = D .evident; linked = L; once = D .once; left = k; more = omega (arith, D .more); runs = turned (on m′) e k q }, less)
+        by-match k q (waits L less) = (
+          record {
+            state = D .state;
+            inv = D .inv;
+            evident = D .evident;
+            linked = L;
+            once = D .once;
+            left = k;
+            more = omega
+                (arith, D .more);
+            runs = turned (on m′) e k q;
+          },
+          less,
+        )
         by-match k q (moved σ′ st L less) =
-            let n : Inv M B O (B .met) σ′ × Evident M B σ′ = next M B O E (D .state) σ′ (D .inv) (D .evident) st in
-            (record { state = σ′; inv = n .0; evident = n .1; linked = L; once = once-more σ′ st; left = k; more = omega (arith, D .more); runs = turned (on m′) e k q }, less)
+            let n : Inv M B O (B .met) σ′ × Evident M B σ′ = next M B O E (D .state) σ′ (D .inv) (D .evident) st in (
+              record {
+                state = σ′;
+                inv = n .0;
+                evident = n .1;
+                linked = L;
+                once = once-more σ′ st;
+                left = k;
+                more = omega
+                    (arith, D .more);
+                runs = turned (on m′) e k q;
+              },
+              less,
+            )
 
     -- the turn is the last: it gives the rule's answer
     pub sound-lacks : (s w : ℕ) (vs : List Interview) → takeTurn M B m (m .waiting) ≡ lacks s w vs → lazyGaleShapley M B ≡ stopped s w vs

@@ -13,7 +13,8 @@ use borrow.Author.Tests.{eqb-true, eq-eqb, ne-eqb, lt-ltb, le-ltb}
 use Rattle.base.specs.Lists.{update, upto}
 use Rattle.lgs.specs.Market.{Market, Results, studentOutside, seatsOf}
 use Rattle.lgs.specs.Profiles.{Profile, seated, flip}
-use Rattle.lgs.specs.Rule.{State, going, Interview, interviewed, unopened, open?, choices, due, best, advance, interviewAll, close, handOn, settle, apply, turn, step}
+use Rattle.lgs.specs.Rule.{State, going, Interview, interviewed, unopened, open?, choices, due, best, advance, interviewAll, close, handOn, settle}
+use Rattle.lgs.specs.Rule.{apply, turn, step}
 use Rattle.model.specs.Model.{Card, held, told, holding, push, options}
 use Rattle.base.proofs.Tests.{never, bool-cases, and-right, eq?}
 use Rattle.base.proofs.Counting.{count-same}
@@ -57,12 +58,14 @@ module _ (M : Market) (B : Results) (σ : State) (s : ℕ) (rest : List ℕ) whe
   unfolding step turn
   step-applies y ys b e f = rw e (ap (apply M B σ s rest) f)
 
-  pub apply-sits : (c : ℕ) → seated M (update (σ .held) s (suc c)) (suc c) ≤ M .quota (suc c) → apply M B σ s rest (suc c) ≡ going (close M B (joinedState M B σ s rest (suc c)) (suc c))
+  pub apply-sits : (c : ℕ) → seated M (update (σ .held) s (suc c)) (suc c) ≤ M .quota (suc c) → apply M B σ s rest (suc c) ≡ going
+      (close M B (joinedState M B σ s rest (suc c)) (suc c))
   unfolding apply settle
   apply-sits c l = rw (le-ltb (M .quota (suc c)) (seated M (update (σ .held) s (suc c)) (suc c)) l)
 
   pub apply-drops : (c : ℕ) → M .quota (suc c) < seated M (update (σ .held) s (suc c)) (suc c)
-      → apply M B σ s rest (suc c) ≡ going (close M B (handOn M B σ (dropped M B σ s rest (suc c) ∷ rest) (update (update (σ .held) s (suc c)) (dropped M B σ s rest (suc c)) 0)) (suc c))
+      → apply M B σ s rest (suc c) ≡ going
+      (close M B (handOn M B σ (dropped M B σ s rest (suc c) ∷ rest) (update (update (σ .held) s (suc c)) (dropped M B σ s rest (suc c)) 0)) (suc c))
   unfolding apply settle
   apply-drops c l = rw (lt-ltb (M .quota (suc c)) (seated M (update (σ .held) s (suc c)) (suc c)) l)
 
@@ -82,14 +85,19 @@ module _ (M : Market) (B : Results) (O : Profile) (E : Setting M B O (B .met)) (
     unfolding options
     no-bit w b =
         let r : (1 ≤ w) × (w ≤ M .workshops) = E .wf .workshop s w (bit-seen M B O E σ I C S R s w b .pair) in
-        not-nil (subst (λ l. Mem w l) noopt (in-rest (eqb (studentOutside M s) (C s .reached)) 0 w _ (in-keep (C s .bits) (upto (M .workshops)) w b (in-upto (M .workshops) w (r .0) (r .1)))))
+        not-nil (subst (λ l. Mem w l) noopt
+        (in-rest (eqb (studentOutside M s) (C s .reached)) 0 w _ (in-keep (C s .bits) (upto (M .workshops)) w b (in-upto (M .workshops) w (r .0) (r .1)))))
 
     hers : (w : ℕ) → b′ w ≡ true → (interviewed us s w ≡ true) × (unopened M B s w ≡ false) × (ahead .reached s ≤ M .studentTier s w)
     hers w b =
         ⊎-elim (λ k. absurd (no-bit w k))
         (λ r.
-        let d : Due M B O (B .met) E σ I s rest wait empty w = due-in M B O (B .met) E σ I s rest wait empty w (r .0) in
-        (rw eu (interviewed-after (σ .interviews) _ s w (interviewed-in s (due M B σ s) w (r .0))), r .1, omega (arith, d .tier, update-at (σ .reached) s (suc (σ .reached s)) s refl)))
+        let d : Due M B O (B .met) E σ I s rest wait empty w = due-in M B O (B .met) E σ I s rest wait empty w (r .0) in (
+          rw eu (interviewed-after (σ .interviews) _ s w (interviewed-in s (due M B σ s) w (r .0))),
+          r .1,
+          omega
+              (arith, d .tier, update-at (σ .reached) s (suc (σ .reached s)) s refl),
+        ))
         (T .new w b)
 
     has-now : (t w : ℕ) → open? M B ahead t w ≡ true → C′ t .bits w ≡ true
@@ -101,7 +109,8 @@ module _ (M : Market) (B : Results) (O : Profile) (E : Setting M B O (B .met)) (
         (λ (e : t ≡ s). absurd (omega (arith, k .tier, I .seen t w v .tier, update-at (σ .reached) s (suc (σ .reached s)) t e, ap (σ .reached) e)))
         (λ ne.
         rw (theirs t ne)
-        (R .has t w (open-make M B σ t w (record { interview = v; tier = k .tier ∙ update-off (σ .reached) s (suc (σ .reached s)) t ne; kept = k .kept; welcome = k .welcome }))))
+        (R .has t w (open-make M B σ t w
+        (record { interview = v; tier = k .tier ∙ update-off (σ .reached) s (suc (σ .reached s)) t ne; kept = k .kept; welcome = k .welcome }))))
         (eq? t s))
         (λ v.
         let r : (t ≡ s) × Mem w (due M B σ s) = interviewed-of s (due M B σ s) t w v in
@@ -115,7 +124,8 @@ module _ (M : Market) (B : Results) (O : Profile) (E : Setting M B O (B .met)) (
               ⊎-elim (λ (e : t ≡ s). ap (λ k. k .reached) (mine t e) ∙ ap suc (R .reached s) ∙ sym (update-at (σ .reached) s (suc (σ .reached s)) t e))
               (λ ne. ap (λ k. k .reached) (theirs t ne) ∙ R .reached t ∙ sym (update-off (σ .reached) s (suc (σ .reached s)) t ne))
               (eq? t s);
-          held = λ t. ⊎-elim (λ (e : t ≡ s). ap (λ k. k .held) (mine t e) ∙ R .held s ∙ ap (σ .held) (sym e)) (λ ne. ap (λ k. k .held) (theirs t ne) ∙ R .held t) (eq? t s);
+          held = λ t. ⊎-elim (λ (e : t ≡ s). ap (λ k. k .held) (mine t e) ∙ R .held s ∙ ap (σ .held) (sym e))
+              (λ ne. ap (λ k. k .held) (theirs t ne) ∙ R .held t) (eq? t s);
           has = has-now;
           from = λ t w b.
               ⊎-elim
@@ -180,13 +190,15 @@ module _ (M : Market) (B : Results) (O : Profile) (E : Setting M B O (B .met)) (
           from = λ t w b. R .from t w (loses t w b);
           ranked = λ d l. ⊎-elim (λ (e : d ≡ c). rw e ranked′) (λ ne. rw (off d ne) (R .ranked d l)) (eq? d c);
           sits = λ d h l m.
-              ⊎-elim (λ (e : d ≡ c). sits′ h (rw e at m) ∙ sym e) (λ ne. eqb-true _ _ (G .elsewhere h d ne l ∙ eq-eqb _ _ (R .sits d h l (rw (off d ne) at m)))) (eq? d c);
+              ⊎-elim (λ (e : d ≡ c). sits′ h (rw e at m) ∙ sym e)
+              (λ ne. eqb-true _ _ (G .elsewhere h d ne l ∙ eq-eqb _ _ (R .sits d h l (rw (off d ne) at m)))) (eq? d c);
           seat = λ d h l q.
               ⊎-elim (λ (e : d ≡ c). subst (λ z. Mem h (S′ z)) (sym e) (seat′ h (q ∙ e)))
               (λ ne. rw (off d ne) (R .seat d h l (eqb-true _ _ (sym (G .elsewhere h d ne l) ∙ eq-eqb _ _ q)))) (eq? d c);
           size = λ d l.
               ⊎-elim (λ (e : d ≡ c). subst (λ z. length (S′ z) ≡ seated M held′ z) (sym e) size′)
-              (λ ne. ap length (off d ne) ∙ R .size d l ∙ sym (count-same (λ t. eqb (held′ t) d) (λ t. eqb (σ .held t) d) (M .students) (λ t u. G .elsewhere t d ne l))) (eq? d c);
+              (λ ne. ap length (off d ne) ∙ R .size d l ∙ sym
+              (count-same (λ t. eqb (held′ t) d) (λ t. eqb (σ .held t) d) (M .students) (λ t u. G .elsewhere t d ne l))) (eq? d c);
         }
 
   -- she applies to the workshop c, whose bit is set
@@ -242,13 +254,15 @@ module _ (M : Market) (B : Results) (O : Profile) (E : Setting M B O (B .met)) (
 
     joiner-pos : (h : ℕ) → joined h ≡ c → 1 ≤ h
     joiner-pos h e =
-        ⊎-elim (λ (q : h ≡ s). omega (arith, I .range s in-hand .0)) (λ m. E .wf .student h c (holder-seen M B O E σ I C S R c h c-pos (R .sits c h c-pos m) .pair) .0) (joiner h e)
+        ⊎-elim (λ (q : h ≡ s). omega (arith, I .range s in-hand .0))
+        (λ m. E .wf .student h c (holder-seen M B O E σ I C S R c h c-pos (R .sits c h c-pos m) .pair) .0) (joiner h e)
 
     -- her card and those of the others, as she applies
     module _ (C₁ : ℕ → Card) (mine₁ : (t : ℕ) → t ≡ s → C₁ t ≡ holding (C s) c) (theirs₁ : (t : ℕ) → (t ≡ s → ⊥) → C₁ t ≡ C t)
         (S′ : ℕ → List ℕ) (here-zs : S′ c ≡ zs) (off : (d : ℕ) → (d ≡ c → ⊥) → S′ d ≡ S d) where
       reached₁ : (t : ℕ) → C₁ t .reached ≡ C t .reached
-      reached₁ t = ⊎-elim (λ (e : t ≡ s). ap (λ k. k .reached) (mine₁ t e) ∙ ap (λ u. C u .reached) (sym e)) (λ ne. ap (λ k. k .reached) (theirs₁ t ne)) (eq? t s)
+      reached₁ t = ⊎-elim (λ (e : t ≡ s). ap (λ k. k .reached) (mine₁ t e) ∙ ap (λ u. C u .reached) (sym e))
+          (λ ne. ap (λ k. k .reached) (theirs₁ t ne)) (eq? t s)
 
       bits₁ : (t : ℕ) → C₁ t .bits ≡ C t .bits
       bits₁ t = ⊎-elim (λ (e : t ≡ s). ap (λ k. k .bits) (mine₁ t e) ∙ ap (λ u. C u .bits) (sym e)) (λ ne. ap (λ k. k .bits) (theirs₁ t ne)) (eq? t s)
@@ -331,7 +345,8 @@ module _ (M : Market) (B : Results) (O : Profile) (E : Setting M B O (B .met)) (
               left-full = drop-full M B O (B .met) E σ I s rest wait c c-pos k out out-lowest over
 
               gone : close M B (handOn M B σ (out ∷ rest) (update joined out 0)) c .deleted out c ≡ true
-              gone = close-deletes M B (handOn M B σ (out ∷ rest) (update joined out 0)) c out left-full (x-below M B O E σ I s rest wait c c-pos k o out out-lowest over)
+              gone = close-deletes M B (handOn M B σ (out ∷ rest) (update joined out 0)) c out left-full
+                  (x-below M B O E σ I s rest wait c c-pos k o out out-lowest over)
 
               kept-open : open? M B (close M B (handOn M B σ (out ∷ rest) (update joined out 0)) c) out c ≡ true
                   → close M B (handOn M B σ (out ∷ rest) (update joined out 0)) c .deleted out c ≡ false
@@ -340,7 +355,8 @@ module _ (M : Market) (B : Results) (O : Profile) (E : Setting M B O (B .met)) (
           -- a stale bit: she is dropped at once, and nothing else has changed
           module _ (shut : open? M B σ s c ≡ false) (a : (h : ℕ) → σ .held h ≡ c → O .workshopRank c h < O .workshopRank c s) where
             pub out-hand : out ≡ s
-            out-hand = ⊎-elim (λ e. e) (λ m. absurd (omega (arith, a out (R .sits c out c-pos m), out-low s (update-at (σ .held) s c s refl)))) (P .full full .0)
+            out-hand = ⊎-elim (λ e. e) (λ m. absurd (omega (arith, a out (R .sits c out c-pos m), out-low s (update-at (σ .held) s c s refl))))
+                (P .full full .0)
 
             pub stale-tied : Tied M B O σ C′ S′
             stale-tied =
@@ -355,11 +371,13 @@ module _ (M : Market) (B : Results) (O : Profile) (E : Setting M B O (B .met)) (
                   sits = λ d h l m.
                       ⊎-elim (λ (e : d ≡ c). in-zs h (rw here-zs at (rw e at m)) ∙ sym e) (λ ne. R .sits d h l (rw (off d ne) at m)) (eq? d c);
                   seat = λ d h l q.
-                      ⊎-elim (λ (e : d ≡ c). subst (λ z. Mem h (S′ z)) (sym e) (rw here-zs (zs-in h (q ∙ e)))) (λ ne. rw (off d ne) (R .seat d h l q)) (eq? d c);
+                      ⊎-elim (λ (e : d ≡ c). subst (λ z. Mem h (S′ z)) (sym e) (rw here-zs (zs-in h (q ∙ e)))) (λ ne. rw (off d ne) (R .seat d h l q))
+                      (eq? d c);
                   size = λ d l.
                       ⊎-elim
                       (λ (e : d ≡ c).
-                      subst (λ z. length (S′ z) ≡ seated M (σ .held) z) (sym e) (ap length here-zs ∙ omega (arith, P .full full .1, R .size c c-pos, I .within c c-pos)))
+                      subst (λ z. length (S′ z) ≡ seated M (σ .held) z) (sym e)
+                      (ap length here-zs ∙ omega (arith, P .full full .1, R .size c c-pos, I .within c c-pos)))
                       (λ ne. ap length (off d ne) ∙ R .size d l) (eq? d c);
                 }
               where

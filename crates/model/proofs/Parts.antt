@@ -47,7 +47,8 @@ module _ (M : Market) (B : Results) (w : ℕ) where
       push-padded q y ys (omega arith) (λ v m. pos v (later m)) in
       let b : (pushPadded M B w x (padded q ys) .0 ≡ padded q (push M B w q x ys .0)) × (pushPadded M B w x (padded q ys) .1 ≡ push M B w q x ys .1) =
       push-padded q x ys (omega arith) (λ v m. pos v (later m)) in
-      ⊎-elim (λ (e : before M B w x y ≡ true). rw (z, e) (ap (λ l. x ∷ l) (a .0), a .1)) (λ (e : before M B w x y ≡ false). rw (z, e) (ap (λ l. y ∷ l) (b .0), b .1))
+      ⊎-elim (λ (e : before M B w x y ≡ true). rw (z, e) (ap (λ l. x ∷ l) (a .0), a .1))
+      (λ (e : before M B w x y ≡ false). rw (z, e) (ap (λ l. y ∷ l) (b .0), b .1))
       (bool-cases (before M B w x y))
 
 -- each seat of the part is the list's, or zero
@@ -148,7 +149,8 @@ module _ (M : Market) where
       off j d ld ne lj =
           ⊎-elim
           (λ (less : d < c).
-          new-before (seatsBefore M c) (seatsOf M c) flat (padded (seatsOf M c) zs) (part-inside flat (K .long) c l u) p-length (seatsBefore M d + j) (omega (arith, part-within M d c ld less)))
+          new-before (seatsBefore M c) (seatsOf M c) flat (padded (seatsOf M c) zs) (part-inside flat (K .long) c l u) p-length (seatsBefore M d + j)
+          (omega (arith, part-within M d c ld less)))
           (λ (le : c ≤ d).
           new-after (seatsBefore M c) (seatsOf M c) flat (padded (seatsOf M c) zs) (part-inside flat (K .long) c l u) p-length (seatsBefore M d + j)
           (omega (arith, part-within M c d l (⊎-elim (λ (q : c ≡ d). absurd (ne (sym q))) (λ (k : c < d). k) (eq-or-lt-of-le le)))))
@@ -168,7 +170,8 @@ module _ (M : Market) where
             parts = λ w lw uw.
                 ⊎-elim
                 (λ (e : w ≡ c).
-                subst (λ v. part M changed v ≡ padded (seatsOf M v) (update S c zs v)) (sym e) (same ∙ ap (padded (seatsOf M c)) (sym (update-at S c zs c refl))))
+                subst (λ v. part M changed v ≡ padded (seatsOf M v) (update S c zs v)) (sym e)
+                (same ∙ ap (padded (seatsOf M c)) (sym (update-at S c zs c refl))))
                 (λ ne. others w lw uw ne ∙ K .parts w lw uw ∙ ap (padded (seatsOf M w)) (sym (update-off S c zs w ne)))
                 (eq? w c);
           }

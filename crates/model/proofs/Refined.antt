@@ -76,8 +76,11 @@ module _ (M : Market) (B : Results) where
         by-waiting : (l : List ℕ) → σ .waiting ≡ l → step M B σ l ≡ going σ′ → Inv M B O (B .met) σ′ × Evident M B σ′
         by-waiting [] w f = let z : _≡_ {A = ℕ} 0 1 = cc in absurd (omega arith)
         by-waiting (s ∷ rest) w f =
-            let v : Move M B σ s rest σ′ = moves M B σ s rest σ′ f in
-            (move-keeps M B O (B .met) E σ σ′ I s rest w (move-met M B σ s rest σ′ v (λ t d z. I .seen t d z .seen)) v, move-evident M B O (B .met) E σ I N s rest w σ′ v)
+            let v : Move M B σ s rest σ′ = moves M B σ s rest σ′ f in (
+              move-keeps M B O (B .met) E σ σ′ I s rest w (move-met M B σ s rest σ′ v (λ t d z. I .seen t d z .seen)) v,
+              move-evident M B O
+                  (B .met) E σ I N s rest w σ′ v,
+            )
 
     by-match : (k : ℕ) (σ : State) → Inv M B O (B .met) σ → Evident M B σ → (W : ℕ) → W ≤ k
         → ((τ : State) → Inv M B O (B .met) τ → Evident M B τ → (m : Machine) → Linked M B O τ m → weightOf M B O m < k → Agree τ (turns M B k (on m)))
@@ -92,11 +95,13 @@ module _ (M : Market) (B : Results) where
     by-match k σ I N W l more (done p vs) (ends e) = rw (done-stays k p vs) (record { steps = 1; over = rw e tt; same = sym e })
 
     -- with as many turns as the machine weighs, it has ended, and where the rule ends
-    turns-agree : (k : ℕ) (σ : State) → Inv M B O (B .met) σ → Evident M B σ → (m : Machine) → Linked M B O σ m → weightOf M B O m < k → Agree σ (turns M B k (on m))
+    turns-agree : (k : ℕ) (σ : State) → Inv M B O (B .met) σ → Evident M B σ → (m : Machine) → Linked M B O σ m → weightOf M B O m < k → Agree σ
+        (turns M B k (on m))
     unfolding turns
     turns-agree zero σ I N m L l = absurd (omega arith)
     turns-agree (suc k) σ I N m L l =
-        by-match k σ I N (weightOf M B O m) (omega arith) (λ τ J P m′ L′ l′. turns-agree k τ J P m′ L′ l′) (takeTurn M B m (m .waiting)) (turn-matches M B O E σ I N m L)
+        by-match k σ I N (weightOf M B O m) (omega arith) (λ τ J P m′ L′ l′. turns-agree k τ J P m′ L′ l′) (takeTurn M B m (m .waiting))
+        (turn-matches M B O E σ I N m L)
 
     pub begin-linked : Linked M B O (start M B) (begin M B)
     unfolding begin start open? interviewed any
@@ -144,7 +149,8 @@ module _ (M : Market) (B : Results) where
     pub refined : stepOf M B (machine M B) ≡ lazyGaleShapley M B
     unfolding machine lazyGaleShapley
     refined =
-        let a : Agree (start M B) (machine M B) = turns-agree (fuel M B) (start M B) (start-inv M B O (B .met) E) (start-evident M B O (B .met) E) (begin M B) begin-linked begin-weight in
+        let a : Agree (start M B) (machine M B) = turns-agree (fuel M B) (start M B) (start-inv M B O (B .met) E) (start-evident M B O (B .met) E)
+        (begin M B) begin-linked begin-weight in
         a .same ∙ same-end (a .steps) (fuel M B) (going (start M B)) (a .over) lgs-over
 
 -- for every well-formed market and distinct scores

@@ -1,7 +1,7 @@
 -- The run on the buffers ends, and where it ends they show the answer of the staged rule (`run-is-rule`); each turn finds them ready
 -- (`run-ready`). `OnWay` holds at each turn: a sound machine that they show, or the interview that is missing.
 use Prim.Native.Nat.{ℕ, zero, suc, _*_, _≤_, _<_}
-use mathlib.Core.Path.{_≡_, refl, sym, subst, ap, _∙_}
+use mathlib.Core.Path.{_≡_, refl, sym, subst, ap}
 use mathlib.Core.Logic.{⊎-elim}
 use mathlib.Core.List.{List, [], _∷_}
 use native.Mathlib.Omega.{arith}

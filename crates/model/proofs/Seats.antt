@@ -127,7 +127,8 @@ module _ (M : Market) (B : Results) (O : Profile) (Vs : ℕ → ℕ → Bool) (E
       parts = or-false (ltb (M .workshopTier w x) (M .workshopTier w y)) _ e
 
 -- the last of a full list is behind everybody
-pub last-in : (rank : ℕ → ℕ) (q : ℕ) (ys : List ℕ) → Ranked rank ys → length ys ≡ suc q → Mem (getD ys q 0) ys × ((y : ℕ) → Mem y ys → rank y ≤ rank (getD ys q 0))
+pub last-in : (rank : ℕ → ℕ) (q : ℕ) (ys : List ℕ) → Ranked rank ys → length ys ≡ suc q → Mem (getD ys q 0) ys ×
+    ((y : ℕ) → Mem y ys → rank y ≤ rank (getD ys q 0))
 last-in rank q [] r l = absurd (omega arith)
 last-in rank zero (y ∷ []) r l = (here refl, λ z m. ⊎-elim (λ (e : z ≡ y). omega (arith, ap rank e)) (λ k. absurd (not-nil k)) (cases-cons m))
 last-in rank zero (y ∷ x ∷ ys) r l = absurd (omega arith)

@@ -40,7 +40,8 @@ flat-length [] = refl
 flat-length (v ∷ vs) = omega (arith, flat-length vs)
 
 -- interviews written behind those that the head shows
-pub head-more : (vs us : List Interview) (n : ℕ) (old : List ℕ) → n ≡ length vs → putAt (2 * n) (flat us) (withHead (flat vs) old) ≡ withHead (flat (vs ++ us)) old
+pub head-more : (vs us : List Interview) (n : ℕ) (old : List ℕ) → n ≡ length vs → putAt (2 * n) (flat us) (withHead (flat vs) old) ≡ withHead
+    (flat (vs ++ us)) old
 head-more vs us n old e =
     let l : length (flat vs) ≡ 2 * n = flat-length vs ∙ ap (λ k. 2 * k) (sym e) in
     let front : take (2 * n) (withHead (flat vs) old) ≡ flat vs = take-at (flat vs) (drop (length (flat vs)) old) (2 * n) l in
@@ -137,7 +138,8 @@ module _ (M : Market) (B : Results) (old : List ℕ) where
       told-shown =
           ap (λ c. told (m .lost) c) (W .card (x .run .hand) (in-range .0) (in-range .1))
           ∙ ap (λ l. told l (cardOf (stateAt (x .states) (x .run .hand)))) (sym (W .lost))
-          ∙ told-card (x .run .lost) (stateAt (x .states) (x .run .hand)) (omega (arith, W .lost, W .dropper)) (W .small (x .run .hand) (in-range .0) (in-range .1))
+          ∙ told-card (x .run .lost) (stateAt (x .states) (x .run .hand)) (omega (arith, W .lost, W .dropper))
+          (W .small (x .run .hand) (in-range .0) (in-range .1))
 
       -- what is open to her is booked
       pub opening-booked : (d : ℕ) → member (toldState (x .run .lost) (stateAt (x .states) (x .run .hand)) .openings) d ≡ true → Booked M B (x .run .hand) d
@@ -170,7 +172,8 @@ module _ (M : Market) (B : Results) (old : List ℕ) where
 
           seat-booked : (w : ℕ) → 1 ≤ w → w ≤ M .workshops → (i : ℕ) → 0 < getD (part M (x .seats) w) i 0 → Booked M B (getD (part M (x .seats) w) i 0) w
           seat-booked w l u i p =
-              let e : getD (part M (x .seats) w) i 0 ≡ getD (m .seats w) i 0 = ap (λ z. getD z i 0) (W .stored .parts w l u) ∙ padded-at (seatsOf M w) (m .seats w) (S .seats w l) i in
+              let e : getD (part M (x .seats) w) i 0 ≡ getD (m .seats w) i 0 = ap (λ z. getD z i 0) (W .stored .parts w l u) ∙ padded-at (seatsOf M w)
+              (m .seats w) (S .seats w l) i in
               rw e (S .seated w (getD (m .seats w) i 0) l (seat-in (m .seats w) i (rw e at p)))
 
           due-room : 2 * (x .run .count + count (dueAt M B (x .seats) (x .run .hand) (suc (state .reached))) (M .workshops)) ≤ length old

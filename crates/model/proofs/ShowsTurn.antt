@@ -231,7 +231,8 @@ module _ (M : Market) (B : Results) (old : List ℕ) (fits : M .workshops ≤ 64
 
   -- she chooses the best of what is open
   chosen : (y : ℕ) (ys : List ℕ) → options M B (cardOf state) hand ≡ y ∷ ys
-      → Follows M old (after (applyTo M B (x .visits) (x .seats) state (x .run) (best M B hand y ys))) (applies M B m hand rest (cardOf state) (best M B hand y ys))
+      → Follows M old (after (applyTo M B (x .visits) (x .seats) state (x .run) (best M B hand y ys)))
+      (applies M B m hand rest (cardOf state) (best M B hand y ys))
   unfolding options best
   chosen y ys e = by-favourite (best M B hand y ys) (rw (← e) at (top-pick (B .studentScore hand) y ys .0))
     where
@@ -266,7 +267,8 @@ module _ (M : Market) (B : Results) (old : List ℕ) (fits : M .workshops ≤ 64
           (ap (λ b. consIf b 0 (keep (member (state .openings)) (upto (M .workshops)))) (sym no-outside) ∙ e)))
           (eq? (state .openings) 0)
 
-  turn-applies : (y : ℕ) (ys : List ℕ) → options M B (cardOf state) hand ≡ y ∷ ys → turned ≡ applyTo M B (x .visits) (x .seats) state (x .run) (best M B hand y ys)
+  turn-applies : (y : ℕ) (ys : List ℕ) → options M B (cardOf state) hand ≡ y ∷ ys → turned ≡ applyTo M B (x .visits) (x .seats) state (x .run)
+      (best M B hand y ys)
   unfolding turnOf options favouriteIn
   turn-applies y ys e = rw (is-false (eqb (state .openings) 0 && not outside) nothing, same-options ∙ e)
     where

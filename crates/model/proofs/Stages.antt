@@ -42,7 +42,8 @@ module _ (stage : ℕ → ℕ) where
   after-before s t e =
       ⊎-elim (λ z. inl (eqb-true _ _ z))
       (λ r.
-      inr (⊎-elim (λ l. inl (ltb-true _ _ l)) (λ a. inr (eqb-true _ _ (and-left (eqb (stage s) (stage t)) _ a), ltb-true _ _ (and-right (eqb (stage s) (stage t)) _ a)))
+      inr (⊎-elim (λ l. inl (ltb-true _ _ l))
+      (λ a. inr (eqb-true _ _ (and-left (eqb (stage s) (stage t)) _ a), ltb-true _ _ (and-right (eqb (stage s) (stage t)) _ a)))
       (or-true (ltb (stage s) (stage t)) _ r)))
       (or-true (eqb s 0) _ e)
 
@@ -76,7 +77,8 @@ module _ (stage : ℕ → ℕ) where
                 record {
                   range = omega arith;
                   after = a;
-                  first = λ t l u c. ⊎-elim (λ (q : t ≡ suc k). inl q) (λ (less : t < suc k). inr (earlier t l (omega arith) c (or-true (eqb r 0) _ b))) (eq-or-lt-of-le u);
+                  first = λ t l u c. ⊎-elim (λ (q : t ≡ suc k). inl q)
+                      (λ (less : t < suc k). inr (earlier t l (omega arith) c (or-true (eqb r 0) _ b))) (eq-or-lt-of-le u);
                 };
           }
         where
@@ -86,7 +88,8 @@ module _ (stage : ℕ → ℕ) where
               let lt : stage (suc k) < stage r = ltb-true _ _ z in
               ⊎-elim (λ (z : r ≡ 0). absurd (F .none z t l u c))
               (λ nz.
-              ⊎-elim (λ (q : t ≡ r). inl (omega (arith, ap stage q))) (λ b. ⊎-elim (λ (x : stage r < stage t). inl (omega arith)) (λ x. inl (omega (arith, x .0))) b)
+              ⊎-elim (λ (q : t ≡ r). inl (omega (arith, ap stage q)))
+              (λ b. ⊎-elim (λ (x : stage r < stage t). inl (omega arith)) (λ x. inl (omega (arith, x .0))) b)
               (F .some (omega arith) .first t l u c))
               (eq? r 0)
 
@@ -94,13 +97,15 @@ module _ (stage : ℕ → ℕ) where
       older e =
           record {
             none = λ z t l u c.
-                ⊎-elim (λ (q : t ≡ suc k). never (and-make (rw q at c) (or-left (eqb r 0) _ (eq-eqb _ _ z))) e) (λ (less : t < suc k). F .none z t l (omega arith) c) (eq-or-lt-of-le u);
+                ⊎-elim (λ (q : t ≡ suc k). never (and-make (rw q at c) (or-left (eqb r 0) _ (eq-eqb _ _ z))) e)
+                (λ (less : t < suc k). F .none z t l (omega arith) c) (eq-or-lt-of-le u);
             some = λ l.
                 let f : First s k r = F .some l in
                 record {
                   range = omega arith;
                   after = f .after;
-                  first = λ t l′ u c. ⊎-elim (λ (q : t ≡ suc k). inr (last t q c (f .range))) (λ (less : t < suc k). f .first t l′ (omega arith) c) (eq-or-lt-of-le u);
+                  first = λ t l′ u c. ⊎-elim (λ (q : t ≡ suc k). inr (last t q c (f .range))) (λ (less : t < suc k). f .first t l′ (omega arith) c)
+                      (eq-or-lt-of-le u);
                 };
           }
         where
@@ -109,7 +114,8 @@ module _ (stage : ℕ → ℕ) where
               ⊎-elim (λ f. never (rw q at c) f)
               (λ f.
               let ge : stage r ≤ stage (suc k) = ltb-false _ _ (or-false (eqb r 0) _ f .1) in
-              ⊎-elim (λ (x : stage r ≡ stage (suc k)). inr (omega (arith, ap stage q))) (λ (x : stage r < stage (suc k)). inl (omega (arith, ap stage q))) (eq-or-lt-of-le ge))
+              ⊎-elim (λ (x : stage r ≡ stage (suc k)). inr (omega (arith, ap stage q)))
+              (λ (x : stage r < stage (suc k)). inl (omega (arith, ap stage q))) (eq-or-lt-of-le ge))
               (and-false (comesAfter stage s (suc k)) _ e)
 
   found : (s n : ℕ) → Found s n (nextIn stage s n)
@@ -132,7 +138,11 @@ module _ (stage : ℕ → ℕ) where
       (λ (e : ltb (stage s) (stage t) ≡ false).
       let l : stage t ≤ stage s = ltb-false _ _ e in
       let b : Before t s = ⊎-elim (λ (x : stage t ≡ stage s). inr (x, lower t (here refl))) inl (eq-or-lt-of-le l) in
-      rw e (λ y m. ⊎-elim (λ (q : y ≡ s). subst (Before t) (sym q) b) (r .0 y) (insert-in stage s ts y m), insert-rising s ts (λ u m. lower u (later m)) (r .1)))
+      rw e (
+        λ y m. ⊎-elim (λ (q : y ≡ s). subst (Before t) (sym q) b) (r .0 y) (insert-in stage s ts y m),
+        insert-rising s ts
+            (λ u m. lower u (later m)) (r .1),
+      ))
       (bool-cases (ltb (stage s) (stage t)))
 
   staged-rising : (n : ℕ) → Rising (byStage stage n)
@@ -173,7 +183,8 @@ module _ (stage : ℕ → ℕ) where
           ⊎-elim (λ z. absurd (found last n .none z y (mine .0 .0) (mine .0 .1) (mine .1)))
           (λ nz.
           let f : First last n (nextIn stage last n) = found last n .some (pos-of-ne-zero nz) in
-          ⊎-elim (λ e. e) (λ k. ⊎-elim (λ e. sym e) (λ b. no-both (nextIn stage last n) y b (K .rising .0 _ k)) (f .first y (mine .0 .0) (mine .0 .1) (mine .1)))
+          ⊎-elim (λ e. e) (λ k. ⊎-elim (λ e. sym e) (λ b. no-both (nextIn stage last n) y b (K .rising .0 _ k))
+          (f .first y (mine .0 .0) (mine .0 .1) (mine .1)))
           (cases-cons (K .all (nextIn stage last n) (pos-of-ne-zero nz) (f .range) (f .after))))
           (eq? (nextIn stage last n) 0)
 
@@ -187,7 +198,8 @@ module _ (stage : ℕ → ℕ) where
             member = λ t m. (K .member t (later m) .0, before-after y t (K .rising .0 t m));
             all = λ t l u c.
                 ⊎-elim (λ (z : y ≡ 0). absurd (omega (arith, mine .0 .0)))
-                (λ b. ⊎-elim (λ (q : t ≡ y). no-both y t b (subst (Before t) q (subst (λ z. Before z t) (sym q) b))) (λ k. k) (cases-cons (K .all t l u (onward t b))))
+                (λ b. ⊎-elim (λ (q : t ≡ y). no-both y t b (subst (Before t) q (subst (λ z. Before z t) (sym q) b))) (λ k. k)
+                (cases-cons (K .all t l u (onward t b))))
                 (after-before y t c);
           }
 

@@ -62,7 +62,8 @@ module _ (M : Market) (B : Results) (O : Profile) (E : Setting M B O (B .met)) (
 
   holder-tier : (c h l : ℕ) → 0 < c → σ .held h ≡ c → σ .held l ≡ c → O .workshopRank c h ≤ O .workshopRank c l → M .workshopTier c h ≤ M .workshopTier c l
   holder-tier c h l pos eh el le =
-      workshop-no-worse M B O (B .met) E c h l (real (flip (M .paired) c) h (holder-seen c h pos eh .pair)) (real (flip (M .paired) c) l (holder-seen c l pos el .pair)) le
+      workshop-no-worse M B O (B .met) E c h l (real (flip (M .paired) c) h (holder-seen c h pos eh .pair))
+      (real (flip (M .paired) c) l (holder-seen c l pos el .pair)) le
 
   module _ (N : Evident M B σ) (s : ℕ) where
     -- a workshop with seats: the last seat shows whether it is full, and its lowest holder
@@ -72,7 +73,8 @@ module _ (M : Market) (B : Results) (O : Profile) (E : Setting M B O (B .met)) (
 
       full-length : 0 < getD (S w) q 0 → length (S w) ≡ suc q
       full-length l =
-          ⊎-elim (λ (e : length (S w) ≤ q). absurd (omega (arith, List·getD-eq-default (S w) 0 e))) (λ (e : suc q ≤ length (S w)). omega (arith, R .size w pos, I .within w pos))
+          ⊎-elim (λ (e : length (S w) ≤ q). absurd (omega (arith, List·getD-eq-default (S w) 0 e)))
+          (λ (e : suc q ≤ length (S w)). omega (arith, R .size w pos, I .within w pos))
           (⊎-elim (λ (a : length (S w) < suc q). inl (omega arith)) inr (less? (length (S w)) (suc q)))
 
       last : length (S w) ≡ suc q → Mem (getD (S w) q 0) (S w) × ((y : ℕ) → Mem y (S w) → O .workshopRank w y ≤ O .workshopRank w (getD (S w) q 0))
@@ -85,7 +87,8 @@ module _ (M : Market) (B : Results) (O : Profile) (E : Setting M B O (B .met)) (
           (λ h e. omega (arith, holder-tier w h (getD (S w) q 0) pos e (R .sits w _ pos (last n .0)) (last n .1 h (R .seat w h pos e))))
 
       deleted-above : Far M (σ .held) s w
-          → (M .quota w ≡ 0) ⊎ ((workshopOutside M w < M .workshopTier w s) ⊎ ((0 < getD (S w) q 0) × (M .workshopTier w (getD (S w) q 0) < M .workshopTier w s)))
+          → (M .quota w ≡ 0) ⊎ ((workshopOutside M w < M .workshopTier w s) ⊎
+          ((0 < getD (S w) q 0) × (M .workshopTier w (getD (S w) q 0) < M .workshopTier w s)))
       deleted-above (seatless z) = inl z
       deleted-above (beyond l) = inr (inl l)
       deleted-above (above f a) =
@@ -159,7 +162,8 @@ module _ (M : Market) (B : Results) (O : Profile) (E : Setting M B O (B .met)) (
         let v : Seen M (B .met) σ s w = bit-seen w b in
         record { pair = real (M .paired s) w (v .pair); met = real (B .met s) w (v .seen); tier = omega (arith, v .tier, R .from s w b .2) }
 
-    option-cases : (y : ℕ) → Mem y (options M B (C s) s) → ((eqb (studentOutside M s) (σ .reached s) ≡ true) × (y ≡ 0)) ⊎ ((C s .bits y ≡ true) × (Mem y (upto (M .workshops))))
+    option-cases : (y : ℕ) → Mem y (options M B (C s) s) → ((eqb (studentOutside M s) (σ .reached s) ≡ true) × (y ≡ 0)) ⊎
+        ((C s .bits y ≡ true) × (Mem y (upto (M .workshops))))
     unfolding options
     option-cases y m =
         ⊎-elim (λ r. inl (rw (R .reached s) at (r .0), r .1)) (λ k. inr (keep-in (C s .bits) (upto (M .workshops)) y k))
@@ -185,7 +189,8 @@ module _ (M : Market) (B : Results) (O : Profile) (E : Setting M B O (B .met)) (
     option-choice y m =
         ⊎-elim (λ r. inl (in-front (eqb (studentOutside M s) (σ .reached s)) 0 y _ (r .0) (r .1)))
         (λ r.
-        ⊎-elim (λ o. inl (in-rest (eqb (studentOutside M s) (σ .reached s)) 0 y _ (in-keep (open? M B σ s) (upto (M .workshops)) y o (r .1)))) (λ o. inr (r .0, o))
+        ⊎-elim (λ o. inl (in-rest (eqb (studentOutside M s) (σ .reached s)) 0 y _ (in-keep (open? M B σ s) (upto (M .workshops)) y o (r .1))))
+        (λ o. inr (r .0, o))
         (bool-cases (open? M B σ s y)))
         (option-cases y m)
 
@@ -193,12 +198,15 @@ module _ (M : Market) (B : Results) (O : Profile) (E : Setting M B O (B .met)) (
         → Mem (best M B s x xs) (choices M B σ s) → best M B s y ys ≡ best M B s x xs
     unfolding best
     same-best x xs o y ys c m =
-        let f : Mem (best M B s x xs) (x ∷ xs) × ((z : ℕ) → Mem z (x ∷ xs) → B .studentScore s z ≤ B .studentScore s (best M B s x xs)) = top-pick (B .studentScore s) x xs in
-        let b : Mem (best M B s y ys) (y ∷ ys) × ((z : ℕ) → Mem z (y ∷ ys) → B .studentScore s z ≤ B .studentScore s (best M B s y ys)) = top-pick (B .studentScore s) y ys in
+        let f : Mem (best M B s x xs) (x ∷ xs) × ((z : ℕ) → Mem z (x ∷ xs) → B .studentScore s z ≤ B .studentScore s (best M B s x xs)) = top-pick
+        (B .studentScore s) x xs in
+        let b : Mem (best M B s y ys) (y ∷ ys) × ((z : ℕ) → Mem z (y ∷ ys) → B .studentScore s z ≤ B .studentScore s (best M B s y ys)) = top-pick
+        (B .studentScore s) y ys in
         let bo : Mem (best M B s y ys) (options M B (C s) s) = choice-option _ (rw c (b .0)) in
         let ob : Offer (best M B s y ys) = option-offer _ bo in
         let of : Offer (best M B s x xs) = option-offer _ (rw o (f .0)) in
-        E .distinct .students .apart s _ _ (ob .pair) (of .pair) (ob .met) (of .met) (ob .tier ∙ sym (of .tier)) (le-antisymm (f .1 _ (rw o at bo)) (b .1 _ (rw c at m)))
+        E .distinct .students .apart s _ _ (ob .pair) (of .pair) (ob .met) (of .met) (ob .tier ∙ sym (of .tier))
+        (le-antisymm (f .1 _ (rw o at bo)) (b .1 _ (rw c at m)))
 
 -- ---- the interviews of one tier
 module _ (M : Market) (B : Results) (s : ℕ) where
@@ -234,7 +242,8 @@ module _ (M : Market) (B : Results) (s : ℕ) where
       let T′ : Bits ws (setBit v b) b′ = rw d at T in
       record {
         new = λ w e.
-            ⊎-elim (λ f. ⊎-elim (λ q. inr (here (eqb-true _ _ q), rw (eqb-true w v q) d)) inl (or-true (eqb w v) _ f)) (λ r. inr (later (r .0), r .1)) (T′ .new w e);
+            ⊎-elim (λ f. ⊎-elim (λ q. inr (here (eqb-true _ _ q), rw (eqb-true w v q) d)) inl (or-true (eqb w v) _ f)) (λ r. inr (later (r .0), r .1))
+            (T′ .new w e);
         old = λ w e. T′ .old w (or-right (eqb w v) _ e);
         set = λ w m f. ⊎-elim (λ (q : w ≡ v). T′ .old w (or-left (eqb w v) _ (eq-eqb w v q))) (λ k. T′ .set w k f) (cases-cons m);
       })
@@ -250,7 +259,8 @@ module _ (M : Market) (B : Results) (s : ℕ) where
   round-goes (v ∷ ws) vs b σ us b′ e =
       ⊎-elim
       (λ (k : B .met s v ≡ true).
-      let r : (interviewAll M B s ws (withInterviews σ (vs ++ ((s, v) ∷ []))) ≡ going (withInterviews σ us)) × Bits ws (cond (unopened M B s v) b (setBit v b)) b′ =
+      let r : (interviewAll M B s ws (withInterviews σ (vs ++ ((s, v) ∷ []))) ≡ going (withInterviews σ us)) × Bits ws
+      (cond (unopened M B s v) b (setBit v b)) b′ =
       round-goes ws (vs ++ ((s, v) ∷ [])) (cond (unopened M B s v) b (setBit v b)) σ us b′ (rw k at e) in
       (rw k (r .0), bits-on v ws b b′ (r .1)))
       (λ (k : B .met s v ≡ false). absurd (not-rounded (rw k at e)))

@@ -14,8 +14,10 @@ use borrow.Author.Tests.{eq-eqb, ltb-true, lt-ltb, le-ltb}
 use Rattle.base.specs.Lists.{count, total, update}
 use Rattle.lgs.specs.Market.{Market, Results, studentOutside, seatsOf}
 use Rattle.lgs.specs.Profiles.{Profile, seated, flip}
-use Rattle.lgs.specs.Rule.{State, Step, going, stopped, finished, Interview, interviewed, open?, choices, due, best, advance, interviewAll, close, handOn, apply, step}
-use Rattle.model.specs.Model.{Card, Machine, Turn, on, lacks, done, Round, held, missing, told, holding, push, dueNow, options, round, opens, answers, applies, acts, takeTurn}
+use Rattle.lgs.specs.Rule.{State, Step, going, stopped, finished, Interview, interviewed, open?, choices, due, best, advance, interviewAll, close}
+use Rattle.lgs.specs.Rule.{handOn, apply, step}
+use Rattle.model.specs.Model.{Card, Machine, Turn, on, lacks, done, Round, held, missing, told, holding, push, dueNow, options, round, opens}
+use Rattle.model.specs.Model.{answers, applies, acts, takeTurn}
 use Rattle.base.proofs.Tests.{never, bool-cases, and-right, or-true, or-left, or-right, eq?, less?}
 use Rattle.base.proofs.Members.{update-at, update-off}
 use Rattle.base.proofs.Counting.{count-mono, count-less, total-le, total-less}
@@ -50,7 +52,8 @@ module _ (M : Market) (s : ℕ) (k k′ : Card) (er : k′ .reached ≡ k .reach
       omega (
         arith,
         ap (λ r. studentOutside M s - r) er,
-        count-mono (λ w. k′ .bits w || ltb (k′ .reached) (M .studentTier s w)) (λ w. k .bits w || ltb (k .reached) (M .studentTier s w)) (M .workshops) (λ w l u e. still-in w e),
+        count-mono (λ w. k′ .bits w || ltb (k′ .reached) (M .studentTier s w)) (λ w. k .bits w || ltb (k .reached) (M .studentTier s w))
+            (M .workshops) (λ w l u e. still-in w e),
       )
 
   load-less : (c : ℕ) → 1 ≤ c → c ≤ M .workshops → k .bits c ≡ true → k′ .bits c ≡ false → M .studentTier s c ≤ k .reached → load M k′ s < load M k s
@@ -80,7 +83,8 @@ module _ (M : Market) (B : Results) (O : Profile) where
     ends : {p : ℕ → ℕ} {vs : List Interview} → step M B σ (σ .waiting) ≡ finished p vs → Matches σ W (done p vs)
 
 module _ (M : Market) (B : Results) (O : Profile) (E : Setting M B O (B .met)) (σ : State) (I : Inv M B O (B .met) σ) (N : Evident M B σ) (m : Machine)
-    (s : ℕ) (rest : List ℕ) (R : Tied M B O σ (nowAt (s ∷ rest) (m .lost) (m .cards)) (m .seats)) (ev : m .interviews ≡ σ .interviews) (wait : σ .waiting ≡ s ∷ rest) where
+    (s : ℕ) (rest : List ℕ) (R : Tied M B O σ (nowAt (s ∷ rest) (m .lost) (m .cards)) (m .seats)) (ev : m .interviews ≡ σ .interviews)
+    (wait : σ .waiting ≡ s ∷ rest) where
   abbrev C : ℕ → Card
   C = nowAt (s ∷ rest) (m .lost) (m .cards)
 
@@ -110,7 +114,8 @@ module _ (M : Market) (B : Results) (O : Profile) (E : Setting M B O (B .met)) (
     same-round : round M B s (dueNow M B S (C s) s) (m .interviews) (C s .bits) ≡ round M B s (due M B σ s) (σ .interviews) (C s .bits)
     same-round = ap (λ l. round M B s l (m .interviews) (C s .bits)) (due-same M B O E σ I C S R N s) ∙ ap (λ v. round M B s (due M B σ s) v (C s .bits)) ev
 
-    opened-load : (b′ : ℕ → Bool) → Bits M B s (due M B σ s) (C s .bits) b′ → load M (record { reached = suc (C s .reached); held = C s .held; bits = b′ }) s < load M (C s) s
+    opened-load : (b′ : ℕ → Bool) → Bits M B s (due M B σ s) (C s .bits) b′ → load M
+        (record { reached = suc (C s .reached); held = C s .held; bits = b′ }) s < load M (C s) s
     unfolding load
     opened-load b′ T =
         omega (
@@ -119,7 +124,8 @@ module _ (M : Market) (B : Results) (O : Profile) (E : Setting M B O (B .met)) (
           R .reached s,
           count-mono (λ w. b′ w || ltb (suc (C s .reached)) (M .studentTier s w)) (λ w. C s .bits w || ltb (C s .reached) (M .studentTier s w)) (M .workshops)
               (λ w l u e.
-              ⊎-elim (λ b. ⊎-elim (or-left (C s .bits w) _) (λ r. or-right (C s .bits w) _ (fresh w (r .0))) (T .new w b)) (λ g. or-right (C s .bits w) _ (further w g)) (or-true (b′ w) _ e)),
+              ⊎-elim (λ b. ⊎-elim (or-left (C s .bits w) _) (λ r. or-right (C s .bits w) _ (fresh w (r .0))) (T .new w b))
+              (λ g. or-right (C s .bits w) _ (further w g)) (or-true (b′ w) _ e)),
         )
       where
         fresh : (w : ℕ) → Mem w (due M B σ s) → ltb (C s .reached) (M .studentTier s w) ≡ true
@@ -132,11 +138,13 @@ module _ (M : Market) (B : Results) (O : Profile) (E : Setting M B O (B .met)) (
 
     by-round : (x : Round) → round M B s (due M B σ s) (σ .interviews) (C s .bits) ≡ x → Fit (opens M B m s rest (C s) x)
     unfolding opens weight
-    by-round (missing w us) e = halts (stepped (step-interviews M B σ s rest no-choice ∙ round-lacks M B s (due M B σ s) (σ .interviews) (C s .bits) (advance M B σ s) w us e))
+    by-round (missing w us) e = halts
+        (stepped (step-interviews M B σ s rest no-choice ∙ round-lacks M B s (due M B σ s) (σ .interviews) (C s .bits) (advance M B σ s) w us e))
     by-round (held us b′) e =
         let r : (interviewAll M B s (due M B σ s) (advance M B σ s) ≡ going (withInterviews (advance M B σ s) us)) × Bits M B s (due M B σ s) (C s .bits) b′ =
         round-goes M B s (due M B σ s) (σ .interviews) (C s .bits) (advance M B σ s) us b′ e in
-        let eu : us ≡ σ .interviews ++ interviewsWith s (due M B σ s) = ap (λ τ. τ .interviews) (interviewAll-going M B s (due M B σ s) (advance M B σ s) _ (r .0) .0) in
+        let eu : us ≡ σ .interviews ++ interviewsWith s (due M B σ s) = ap (λ τ. τ .interviews)
+        (interviewAll-going M B s (due M B σ s) (advance M B σ s) _ (r .0) .0) in
         moved {m = after} (withInterviews (advance M B σ s) us) (stepped (step-interviews M B σ s rest no-choice ∙ r .0))
         (record {
           tied = opens-tied M B O E σ I N C S R s rest wait no-option no-choice us b′ (r .1) eu (nowAt (s ∷ rest) 0 (update (m .cards) s card)) mine others;
@@ -232,13 +240,15 @@ module _ (M : Market) (B : Results) (O : Profile) (E : Setting M B O (B .met)) (
 
       load₂ : (t : ℕ) → load M (C₂ t) t ≤ load M (C₁ t) t
       load₂ t =
-          ⊎-elim (λ (e : t ≡ out). rw (one t e) (load-le M t (C₁ t) (told c (C₁ t)) refl (λ w b. and-right (not (eqb w c)) _ b))) (λ ne. rw (other t ne) (le-refl _)) (eq? t out)
+          ⊎-elim (λ (e : t ≡ out). rw (one t e) (load-le M t (C₁ t) (told c (C₁ t)) refl (λ w b. and-right (not (eqb w c)) _ b)))
+          (λ ne. rw (other t ne) (le-refl _)) (eq? t out)
 
       bits₁ : (t w : ℕ) → C t .bits w ≡ true → C₁ t .bits w ≡ true
       bits₁ t w b = ⊎-elim (λ (e : t ≡ s). rw (mine₁ t e) (rw e at b)) (λ ne. rw (theirs₁ t ne) b) (eq? t s)
 
       reached₁ : (t : ℕ) → C₁ t .reached ≡ C t .reached
-      reached₁ t = ⊎-elim (λ (e : t ≡ s). ap (λ k. k .reached) (mine₁ t e) ∙ ap (λ u. C u .reached) (sym e)) (λ ne. ap (λ k. k .reached) (theirs₁ t ne)) (eq? t s)
+      reached₁ t = ⊎-elim (λ (e : t ≡ s). ap (λ k. k .reached) (mine₁ t e) ∙ ap (λ u. C u .reached) (sym e))
+          (λ ne. ap (λ k. k .reached) (theirs₁ t ne)) (eq? t s)
 
       -- the dropped student's bit was set
       lighter : C out .bits c ≡ true → total (λ t. load M (C₂ t) t) (M .students) < total (λ t. load M (C t) t) (M .students)
@@ -252,7 +262,8 @@ module _ (M : Market) (B : Results) (O : Profile) (E : Setting M B O (B .met)) (
           total-less (λ t. load M (C₂ t) t) (λ t. load M (C t) t) (M .students) out (sr .0) (sr .1)
           (λ t. omega (arith, load₂ t, load₁ t)) (rw (one out refl) (omega (arith, load₁ out)))
 
-      drops-fit : (k : Chosen M B O (B .met) σ s c) → open? M B σ s c ≡ true → step M B σ (s ∷ rest) ≡ apply M B σ s rest c → Fit (answers M B m s rest (C s) c zs (suc x))
+      drops-fit : (k : Chosen M B O (B .met) σ s c) → open? M B σ s c ≡ true → step M B σ (s ∷ rest) ≡ apply M B σ s rest c → Fit
+          (answers M B m s rest (C s) c zs (suc x))
       unfolding answers close weight
       drops-fit k o st =
           moved {m = after} (close M B (handOn M B σ (out ∷ rest) (update (update (σ .held) s c) out 0)) c)
@@ -278,7 +289,8 @@ module _ (M : Market) (B : Results) (O : Profile) (E : Setting M B O (B .met)) (
 
           same : dropped M B σ s rest c ≡ out
           same =
-              E .full .workshops .strict c _ _ (real (flip (M .paired) c) _ (I .seen _ c (came _ (D .holder)) .pair)) (real (flip (M .paired) c) _ (I .seen _ c (came _ (L .holder)) .pair))
+              E .full .workshops .strict c _ _ (real (flip (M .paired) c) _ (I .seen _ c (came _ (D .holder)) .pair))
+              (real (flip (M .paired) c) _ (I .seen _ c (came _ (L .holder)) .pair))
               (le-antisymm (L .low _ (D .holder)) (D .low _ (L .holder)))
 
           out-bit : C out .bits c ≡ true
@@ -286,10 +298,17 @@ module _ (M : Market) (B : Results) (O : Profile) (E : Setting M B O (B .met)) (
               let ch : Chosen M B O (B .met) σ out c = choosers₁ M B O (B .met) E σ I s rest wait c (omega arith) k out (L .holder) in
               R .has out c
               (open-make M B σ out c
-              (record { interview = came out (L .holder); tier = ch .tier; kept = before-kept M B O E σ I s rest wait c (omega arith) k o out L over; welcome = ch .real (omega arith) .1 }))
+              (record {
+                interview = came out (L .holder);
+                tier = ch .tier;
+                kept = before-kept M B O E σ I s rest wait c
+                    (omega arith) k o out L over;
+                welcome = ch .real (omega arith) .1;
+              }))
 
       -- a stale bit
-      stale-fit : open? M B σ s c ≡ false → ((h : ℕ) → σ .held h ≡ c → O .workshopRank c h < O .workshopRank c s) → Fit (answers M B m s rest (C s) c zs (suc x))
+      stale-fit : open? M B σ s c ≡ false → ((h : ℕ) → σ .held h ≡ c → O .workshopRank c h < O .workshopRank c s) → Fit
+          (answers M B m s rest (C s) c zs (suc x))
       unfolding answers weight
       stale-fit shut a =
           waits {m = after}
@@ -333,7 +352,8 @@ module _ (M : Market) (B : Results) (O : Profile) (E : Setting M B O (B .met)) (
             shut)
             (bool-cases (σ .deleted s c))
 
-        by-out : M .quota c ≤ length (S c) → ((h : ℕ) → σ .held h ≡ c → O .workshopRank c h < O .workshopRank c s) → (z : ℕ) → out ≡ z → Fit (answers M B m s rest (C s) c zs z)
+        by-out : M .quota c ≤ length (S c) → ((h : ℕ) → σ .held h ≡ c → O .workshopRank c h < O .workshopRank c s) → (z : ℕ) → out ≡ z → Fit
+            (answers M B m s rest (C s) c zs z)
         by-out full a zero e = absurd (omega (arith, out-pos M B O E σ I N C S R s rest wait c₀ bit C₁ mine₁ theirs₁ S′ at-c off-c full))
         by-out full a (suc x) e = stale-fit full x e shut a
 
@@ -354,7 +374,8 @@ module _ (M : Market) (B : Results) (O : Profile) (E : Setting M B O (B .met)) (
       after = record { cards = update (m .cards) s (C s); seats = S; interviews = m .interviews; waiting = rest; lost = 0 }
 
       same : (t : ℕ) → nowAt rest 0 (update (m .cards) s (C s)) t ≡ C t
-      same t = now-calm rest (update (m .cards) s (C s)) t ∙ ⊎-elim (λ (e : t ≡ s). update-at (m .cards) s (C s) t e ∙ ap C (sym e)) (λ ne. theirs (C s) t ne) (eq? t s)
+      same t = now-calm rest (update (m .cards) s (C s)) t ∙ ⊎-elim (λ (e : t ≡ s). update-at (m .cards) s (C s) t e ∙ ap C (sym e))
+          (λ ne. theirs (C s) t ne) (eq? t s)
 
   by-favourite : (x : ℕ) (xs : List ℕ) → options M B (C s) s ≡ x ∷ xs → (b : ℕ) → best M B s x xs ≡ b → Fit (applies M B m s rest (C s) b)
   unfolding best applies
@@ -362,7 +383,8 @@ module _ (M : Market) (B : Results) (O : Profile) (E : Setting M B O (B .met)) (
     where
       best-is : (z : ℕ) → best M B s x xs ≡ z → Mem z (choices M B σ s) → (y : ℕ) × (ys : List ℕ) × (choices M B σ s ≡ y ∷ ys) × (best M B s y ys ≡ z)
       best-is z g k =
-          ⊎-elim (λ e. absurd (not-nil (rw e at k))) (λ r. (r .0, r .1, r .2, same-best M B O E σ I C S R s x xs some (r .0) (r .1) (r .2) (rw g k) ∙ g)) (empty? (choices M B σ s))
+          ⊎-elim (λ e. absurd (not-nil (rw e at k)))
+          (λ r. (r .0, r .1, r .2, same-best M B O E σ I C S R s x xs some (r .0) (r .1) (r .2) (rw g k) ∙ g)) (empty? (choices M B σ s))
 
       chosen : (z : ℕ) → best M B s x xs ≡ z → Mem z (choices M B σ s) → Fit (applies M B m s rest (C s) z)
       chosen zero g k =
@@ -371,7 +393,8 @@ module _ (M : Market) (B : Results) (O : Profile) (E : Setting M B O (B .met)) (
       chosen (suc c) g k =
           let r : (y : ℕ) × (ys : List ℕ) × (choices M B σ s ≡ y ∷ ys) × (best M B s y ys ≡ suc c) = best-is (suc c) g k in
           let o : open? M B σ s (suc c) ≡ true = rw (r .3) at (best-open M B O (B .met) E σ I s (r .0) (r .1) (r .2) (rw (r .3) (omega arith))) in
-          open-fit c (R .has s (suc c) o) (rw (r .3) at (best-chosen M B O (B .met) E σ I s (r .0) (r .1) (r .2))) o (step-applies M B σ s rest (r .0) (r .1) (suc c) (r .2) (r .3))
+          open-fit c (R .has s (suc c) o) (rw (r .3) at (best-chosen M B O (B .met) E σ I s (r .0) (r .1) (r .2))) o
+          (step-applies M B σ s rest (r .0) (r .1) (suc c) (r .2) (r .3))
 
       stale : (z : ℕ) → (C s .bits z ≡ true) × (open? M B σ s z ≡ false) → Fit (applies M B m s rest (C s) z)
       stale zero k = absurd (omega (arith, E .wf .workshop s 0 (bit-seen M B O E σ I C S R s 0 (k .0) .pair)))
@@ -387,13 +410,16 @@ module _ (M : Market) (B : Results) (O : Profile) (E : Setting M B O (B .met)) (
   turn-fits = subst (λ k. Fit (acts M B m s rest k (options M B k s))) (now-hand s rest (m .lost) (m .cards) s refl) (by-options (options M B (C s) s) refl)
 
 module _ (M : Market) (B : Results) (O : Profile) (E : Setting M B O (B .met)) where
-  pub turn-matches : (σ : State) → Inv M B O (B .met) σ → Evident M B σ → (m : Machine) → Linked M B O σ m → Matches M B O σ (weightOf M B O m) (takeTurn M B m (m .waiting))
+  pub turn-matches : (σ : State) → Inv M B O (B .met) σ → Evident M B σ → (m : Machine) → Linked M B O σ m → Matches M B O σ (weightOf M B O m)
+      (takeTurn M B m (m .waiting))
   unfolding takeTurn step
   turn-matches σ I N m L = by-waiting (m .waiting) refl
     where
       by-waiting : (l : List ℕ) → m .waiting ≡ l → Matches M B O σ (weight M (nowAt l (m .lost) (m .cards)) l) (takeTurn M B m l)
       by-waiting [] e =
           let T : Tied M B O σ (m .cards) (m .seats) = subst (λ l. Tied M B O σ (nowAt l (m .lost) (m .cards)) (m .seats)) e (L .tied) in
-          ends (ap (step M B σ) (sym (L .waiting) ∙ e) ∙ ap (λ h. finished h (σ .interviews)) (fun-ext (λ t. sym (T .held t))) ∙ ap (finished (λ t. m .cards t .held)) (sym (L .interviews)))
+          ends (ap (step M B σ) (sym (L .waiting) ∙ e) ∙ ap (λ h. finished h (σ .interviews)) (fun-ext (λ t. sym (T .held t))) ∙ ap
+          (finished (λ t. m .cards t .held)) (sym (L .interviews)))
       by-waiting (s ∷ rest) e =
-          turn-fits M B O E σ I N m s rest (subst (λ l. Tied M B O σ (nowAt l (m .lost) (m .cards)) (m .seats)) e (L .tied)) (L .interviews) (sym (L .waiting) ∙ e)
+          turn-fits M B O E σ I N m s rest (subst (λ l. Tied M B O σ (nowAt l (m .lost) (m .cards)) (m .seats)) e (L .tied)) (L .interviews)
+          (sym (L .waiting) ∙ e)

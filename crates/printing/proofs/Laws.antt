@@ -18,13 +18,15 @@ beyond (b ∷ t) at out l = ap (λ (o : List ℕ). sets o (suc at) t) (set-out o
 
 sets-append : (t u : List ℕ) (at : ℕ) (out : List ℕ) → sets (sets out at t) (at + length t) u ≡ sets out at (t ++ u)
 sets-append [] u at out = ap (λ (k : ℕ). sets out k u) (omega arith)
-sets-append (b ∷ t) u at out = ap (λ (k : ℕ). sets (sets (lib.ListN.set out at b) (suc at) t) k u) (omega arith) ∙ sets-append t u (suc at) (lib.ListN.set out at b)
+sets-append (b ∷ t) u at out =
+    ap (λ (k : ℕ). sets (sets (lib.ListN.set out at b) (suc at) t) k u) (omega arith) ∙ sets-append t u (suc at) (lib.ListN.set out at b)
 
 -- nothing is put
 pub put-none : (at : ℕ) (out : List ℕ) → at ≤ length out → Put [] at out out at
 put-none at out l = record { buffer = refl; reach = sym (min-eq-left (omega arith)) ∙ ap (λ (k : ℕ). min k (length out)) (omega arith) }
 
-module _ {t u : List ℕ} {at end end′ : ℕ} {out mid after : List ℕ} (l : at ≤ length out) (p : Put t at out mid end) (q : Put u end mid after end′) where
+module _ {t u : List ℕ} {at end end′ : ℕ} {out mid after : List ℕ} (l : at ≤ length out) (p : Put t at out mid end)
+    (q : Put u end mid after end′) where
   mid-length : length mid ≡ length out
   mid-length = ap length (p .buffer) ∙ length-sets out at t
 
@@ -67,4 +69,5 @@ pub put-fits : (b at : ℕ) (out : List ℕ) → at < length out → Put (b ∷ 
 put-fits b at out l = record { buffer = refl; reach = sym (min-eq-left (omega arith)) }
 
 pub put-past : (b at : ℕ) (out : List ℕ) → at ≤ length out → length out ≤ at → Put (b ∷ []) at out out at
-put-past b at out l m = record { buffer = sym (beyond (b ∷ []) at out m); reach = omega (arith, min-eq-right {n = length out} {m = at + 1} (omega arith)) }
+put-past b at out l m =
+    record { buffer = sym (beyond (b ∷ []) at out m); reach = omega (arith, min-eq-right {n = length out} {m = at + 1} (omega arith)) }

@@ -9,7 +9,8 @@ use borrow.Author.Tests.{lt-ltb, le-ltb}
 use lib.ListN.{length, getD, take, drop, length-append, length-take}
 use lib.Seq.{sets-eq, take-append-seam}
 use Rattle.base.proofs.Tests.{less?}
-use Rattle.format.specs.Printed.{digitsWithin, decimal, numbers, lineOf, placeWord, visitWord, visitsWord, nextWord, refusedWord, placeLines, visitLines, visitsText, Whole}
+use Rattle.format.specs.Printed.{digitsWithin, decimal, numbers, lineOf, placeLines, visitLines, visitsText, Whole}
+use Rattle.format.specs.Printed.{placeWord, visitWord, visitsWord, nextWord, refusedWord}
 use Rattle.api.specs.Text.{interviewsAt, textOf}
 use Rattle.api.specs.declared.Answer.{Answer}
 use Rattle.api.specs.declared.Answer.the-variants.{Placed, Next, Refused}

@@ -43,4 +43,6 @@ places-none k l = refl
 -- the line with the count, and then the lines
 pub visits-text : (l : List ℕ) (n : ℕ) → lineOf visitsWord (n ∷ []) ++ visitLines (interviewsAt n l) ≡ visitsText (interviewsAt n l)
 unfolding visitsText interviewsAt
-visits-text l n = ap (λ (k : ℕ). lineOf visitsWord (k ∷ []) ++ visitLines (tabulate (λ i. (getD l (2 * i) 0, getD l (2 * i + 1) 0)) n)) (sym (tabulate-length (λ i. (getD l (2 * i) 0, getD l (2 * i + 1) 0)) n))
+visits-text l n =
+    let f : ℕ → Interview = λ i. (getD l (2 * i) 0, getD l (2 * i + 1) 0) in
+    ap (λ (k : ℕ). lineOf visitsWord (k ∷ []) ++ visitLines (tabulate f n)) (sym (tabulate-length f n))

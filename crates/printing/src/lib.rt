@@ -3,7 +3,7 @@ ghost use mathlib.Core.Path.{_≡_};
 ghost use mathlib.Core.List.{List, [], _∷_, _++_};
 ghost use Prim.Native.Nat.{ℕ, _+_, _*_, _≤_, _<_};
 ghost use lib.ListN.{length, getD, take};
-ghost use Rattle.format.specs.Printed.{decimal, numbers, lineOf, placeLines, visitLines, visitsText, placeWord, visitWord, visitsWord, nextWord, refusedWord, unread, Whole};
+ghost use Rattle.format.specs.Printed.{ascii, decimal, lineOf, placeLines, visitLines, visitsText, unread, Whole};
 ghost use Rattle.api.specs.Text.{interviewsAt, textOf};
 ghost use Rattle.printing.specs.Text.{Put, TextFits};
 use api::Answer;
@@ -39,20 +39,17 @@ fn put_decimal(out: &mut [u8], at: usize, n: usize) -> usize
     requires { ⌜ at ≤ length (now out) ⌝ }
     ensures { λ r. ⌜ Put (decimal n) at (now (out .entry)) (now (out .exit)) r ⌝ }
 {
-    if n < 10 {
-        put_byte(out, at, 48 + (n % 10) as u8)
-    } else {
-        let end = put_decimal(&mut *out, at, n / 10);
-        put_byte(out, end, 48 + (n % 10) as u8)
-    }
+    let mut digits = [0u8; 20];
+    let k = io::decimal(n as u64, &mut digits);
+    put_word(out, at, &digits[..k])
 }
 
 // A space and a number.
 fn put_number(out: &mut [u8], at: usize, n: usize) -> usize
     requires { ⌜ at ≤ length (now out) ⌝ }
-    ensures { λ r. ⌜ Put (32 ∷ decimal n) at (now (out .entry)) (now (out .exit)) r ⌝ }
+    ensures { λ r. ⌜ Put (ascii " " ++ decimal n) at (now (out .entry)) (now (out .exit)) r ⌝ }
 {
-    let end = put_byte(&mut *out, at, 32);
+    let end = put_byte(&mut *out, at, b' ');
     put_decimal(out, end, n)
 }
 
@@ -63,7 +60,7 @@ fn put_line1(out: &mut [u8], at: usize, word: &[u8], n: usize) -> usize
 {
     let end = put_word(&mut *out, at, word);
     let end = put_number(&mut *out, end, n);
-    put_byte(out, end, 10)
+    put_byte(out, end, b'\n')
 }
 
 // A line with a word and two numbers, at most 43 bytes longer than the word.
@@ -75,7 +72,7 @@ fn put_line2(out: &mut [u8], at: usize, word: &[u8], a: usize, b: usize) -> usiz
     let end = put_word(&mut *out, at, word);
     let end = put_number(&mut *out, end, a);
     let end = put_number(&mut *out, end, b);
-    put_byte(out, end, 10)
+    put_byte(out, end, b'\n')
 }
 
 // A line for each of the first n places.
@@ -92,12 +89,12 @@ fn put_places(out: &mut [u8], at: usize, places: &[u16], n: usize) -> usize
     end
 }
 
-// The line with the count, and a line for each of that many interviews.
-fn put_visits(out: &mut [u8], at: usize, visits: &[u16], count: usize) -> usize
+// A line for each of the first `count` interviews.
+fn put_visit_lines(out: &mut [u8], at: usize, visits: &[u16], count: usize) -> usize
     requires { ⌜ (at ≤ length (now out)) × (2 * count ≤ length (now visits)) ⌝ }
-    ensures { λ r. ⌜ Put (visitsText (interviewsAt count (now (visits .entry)))) at (now (out .entry)) (now (out .exit)) r ⌝ }
+    ensures { λ r. ⌜ Put (visitLines (interviewsAt count (now (visits .entry)))) at (now (out .entry)) (now (out .exit)) r ⌝ }
 {
-    let mut end = put_line1(&mut *out, at, b"visits", count);
+    let mut end = at;
     let mut i = 0;
     while i < count {
         end = put_line2(
@@ -110,6 +107,15 @@ fn put_visits(out: &mut [u8], at: usize, visits: &[u16], count: usize) -> usize
         i += 1;
     }
     end
+}
+
+// The line with the count, and the lines of the interviews. A line after them would be put here, and stand in `visitsText`.
+fn put_visits(out: &mut [u8], at: usize, visits: &[u16], count: usize) -> usize
+    requires { ⌜ (at ≤ length (now out)) × (2 * count ≤ length (now visits)) ⌝ }
+    ensures { λ r. ⌜ Put (visitsText (interviewsAt count (now (visits .entry)))) at (now (out .entry)) (now (out .exit)) r ⌝ }
+{
+    let end = put_line1(&mut *out, at, b"visits", count);
+    put_visit_lines(out, end, visits, count)
 }
 
 fn wide(x: u16) -> usize
@@ -149,5 +155,5 @@ pub fn put_unread(out: &mut [u8]) -> usize
     ensures { λ r. ⌜ (7 ≤ length (now (out .entry)) → Whole unread (now (out .exit)) r) ⌝ }
 {
     let end = put_word(&mut *out, 0, b"unread");
-    put_byte(out, end, 10)
+    put_byte(out, end, b'\n')
 }

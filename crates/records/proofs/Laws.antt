@@ -45,7 +45,8 @@ module _ (a : ℤ) (f : SFits w16 a) where
       let l : 33768 < biased a = ltb-true _ _ (sym test-high ∙ t) in
       rw (ne-eqb (biased a) 32768 (λ q. omega arith), le-ltb (biased a) 31768 (omega arith), lt-ltb 33768 (biased a) l)
 
-  pub score-within : ltZ (toZ w16 (ofZ w16 a)) (negsuc 999) ≡ false → ltZ (pos 1000) (toZ w16 (ofZ w16 a)) ≡ false → not (eqb (ofZ w16 a) 0) ≡ not (badScore (biased a))
+  pub score-within : ltZ (toZ w16 (ofZ w16 a)) (negsuc 999) ≡ false → ltZ (pos 1000) (toZ w16 (ofZ w16 a)) ≡ false → not (eqb (ofZ w16 a) 0) ≡ not
+      (badScore (biased a))
   score-within t u = rw (code-zero a f, sym test-low ∙ t, sym test-high ∙ u) (last (eqb (biased a) 32768))
     where
       last : (b : Bool) → not b ≡ not (b || false)
@@ -76,7 +77,8 @@ second-fits case f i = word-fits case f (16 * i + 4)
 pub pair-by-key : (r : Row) (s w : ℕ) → r .second < 65536 → w < 65536 → isPair s w r ≡ eqb (pairKey r) (s * 65536 + w + 1)
 unfolding pairKey
 pair-by-key r s w h k =
-    ⊎-elim (λ (e : eqb (r .kind) 3 ≡ true). rw (e, add-one (s * 65536 + w), eqb·suc-suc (r .first * 65536 + r .second) (s * 65536 + w)) (sym (code-eq (r .first) (r .second) s w h k)))
+    ⊎-elim (λ (e : eqb (r .kind) 3 ≡ true). rw (e, add-one (s * 65536 + w), eqb·suc-suc (r .first * 65536 + r .second) (s * 65536 + w))
+    (sym (code-eq (r .first) (r .second) s w h k)))
     (λ (e : eqb (r .kind) 3 ≡ false). rw e (sym (ne-eqb 0 (s * 65536 + w + 1) (λ q. omega arith))))
     (bool-cases (eqb (r .kind) 3))
 
@@ -91,7 +93,8 @@ found-at case c s w g l p =
     sym
     (rw
     (scan-found (λ i. isPair s w (rowAt case i)) g (rowCount case)
-    (scan-none (λ i. isPair s w (rowAt case i)) g (λ k m. is-false (isPair s w (rowAt case k)) (λ t. omega (arith, pair-only case c s w k g (omega arith) l t p))))
+    (scan-none (λ i. isPair s w (rowAt case i)) g
+    (λ k m. is-false (isPair s w (rowAt case k)) (λ t. omega (arith, pair-only case c s w k g (omega arith) l t p))))
     p l))
 
 -- the keys of the case's records
@@ -100,7 +103,8 @@ keysOf case i = pairKey (rowAt case i)
 
 module _ (case : List ℕ) (s w x : ℕ) (f : (k : ℕ) → getD case k 0 < 256) (b : w < 65536) (e : x ≡ s * 65536 + w + 1) where
   by-key : firstBad (λ i. isPair s w (rowAt case i)) (rowCount case) ≡ firstBad (is-key (keysOf case) (rowCount case) x) (rowCount case)
-  by-key = scan-same (λ i. isPair s w (rowAt case i)) (is-key (keysOf case) (rowCount case) x) (rowCount case) (λ k l. rw e (pair-by-key (rowAt case k) s w (second-fits case f k) b))
+  by-key = scan-same (λ i. isPair s w (rowAt case i)) (is-key (keysOf case) (rowCount case) x) (rowCount case)
+      (λ k l. rw e (pair-by-key (rowAt case k) s w (second-fits case f k) b))
 
   module _ (lo hi : ℕ) (h : Halved (keysOf case) (rowCount case) x lo hi) where
     pub found : lo < rowCount case → keysOf case lo ≡ x → lo ≡ pairPlace case s w

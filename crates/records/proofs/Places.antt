@@ -51,8 +51,10 @@ module _ (case : List ℕ) (c : Clean case (rowCount case)) where
           let a = names j (omega arith) in
           let b = names (suc j) l in
           ⊎-elim
-          (λ (less : row j .first < row (suc j) .first). key-less m (row j .first - 1) (row j .second - 1) (row (suc j) .first - 1) (row (suc j) .second - 1) (omega (arith, a)) (omega (arith, a)))
-          (λ (same : (row j .first ≡ row (suc j) .first) × (row j .second < row (suc j) .second)). omega (arith, ap (λ x. (x - 1) * m) (same .0), same .1, a, b))
+          (λ (less : row j .first < row (suc j) .first). key-less m (row j .first - 1) (row j .second - 1) (row (suc j) .first - 1)
+          (row (suc j) .second - 1) (omega (arith, a)) (omega (arith, a)))
+          (λ (same : (row j .first ≡ row (suc j) .first) × (row j .second < row (suc j) .second)). omega
+          (arith, ap (λ x. (x - 1) * m) (same .0), same .1, a, b))
           (pairs-rise case c (n + m + j) (n + m + suc j) (omega arith) (omega arith) (inside (suc j) l))
 
   module _ (full : rowCount case ≡ n + m + n * m) where
@@ -70,7 +72,8 @@ module _ (case : List ℕ) (c : Clean case (rowCount case)) where
         let j = (s - 1) * m + (w - 1) in
         let l : j < pairCount case = omega (arith, many, key-less m (s - 1) (w - 1) n 0 (omega arith) (omega arith)) in
         let a = names j l in
-        let e = key-apart m (row j .first - 1) (row j .second - 1) (s - 1) (w - 1) (omega (arith, a)) (omega arith) (no-gap number (pairCount case) numbers-rise numbers-below j l) in
+        let e = key-apart m (row j .first - 1) (row j .second - 1) (s - 1) (w - 1) (omega (arith, a)) (omega arith)
+        (no-gap number (pairCount case) numbers-rise numbers-below j l) in
         let kind : row j .kind ≡ 3 = places case c .pair (n + m + j) (omega arith) (inside j l) in
         let first : row j .first ≡ s = omega (arith, a, e .0) in
         let second : row j .second ≡ w = omega (arith, a, e .1) in

@@ -1,5 +1,5 @@
--- The walk through a workshop's part of the seats, and the sum of the quotas before it.
-use Prim.Native.Nat.{ℕ, zero, suc, _+_, _-_, _≤_, _<_, min}
+-- The walk through a workshop's part of the seats, and the part itself.
+use Prim.Native.Nat.{ℕ, suc, _+_, _-_, _≤_, _<_, min}
 use mathlib.Core.Path.{_≡_, refl, sym, ap, _∙_}
 use mathlib.Core.Logic.{⊎-elim}
 use mathlib.Core.Bool.{Bool, true, false, _&&_, _||_}
@@ -11,12 +11,11 @@ use lib.Seq.{drop-cons, drop-drop, take-suc, take-all, append-snoc, getD-drop, s
 use lib.Dec.{eqb, ltb}
 use lib.IntN.{ℤ}
 use borrow.Author.Tests.{eq-eqb, ne-eqb}
-use Rattle.base.specs.Lists.{total}
 use Rattle.base.specs.Words.{biased}
 use Rattle.base.proofs.Tests.{less?}
-use Rattle.lgs.specs.Market.{Market, Results}
+use Rattle.lgs.specs.Market.{Market, Results, outscored, seatsOf, seatsBefore}
 use Rattle.model.specs.Model.{before}
-use Rattle.model.specs.Store.{pushPadded, seatsFrom, part, lastOf}
+use Rattle.model.specs.Store.{pushPadded, part, lastOf}
 
 pub positive : (y : ℕ) → (y ≡ 0 → ⊥) → 0 < y
 positive y f = ⊎-elim (λ (l : 0 < y). l) (λ (l : y ≤ 0). absurd (f (omega arith))) (less? 0 y)
@@ -26,8 +25,9 @@ pub record Stands (M : Market) (B : Results) (w x t : ℕ) (a : ℤ) : Type 0 wh
   pub tier : t ≡ M .workshopTier w x
   pub score : biased a ≡ B .workshopScore w x
 
-pub before-by : (M : Market) (B : Results) (w x y t u : ℕ) (a b : ℤ) → Stands M B w x t a → Stands M B w y u b → (r : Bool) → r ≡ (ltb t u || (eqb t u && ltb (biased b) (biased a))) → before M B w x y ≡ r
-unfolding before
+pub before-by : (M : Market) (B : Results) (w x y t u : ℕ) (a b : ℤ) → Stands M B w x t a → Stands M B w y u b → (r : Bool) → r ≡
+    (ltb t u || (eqb t u && ltb (biased b) (biased a))) → before M B w x y ≡ r
+unfolding before outscored
 before-by M B w x y t u a b p q r e = sym (e ∙ rw (p .tier, p .score, q .tier, q .score))
 
 -- x walks through the seats l: so far the part has become `part`, and after the first i seats `hand` is the one without a seat
@@ -83,7 +83,8 @@ module _ (M : Market) (B : Results) (w x : ℕ) (l : List ℕ) where
             within = omega arith;
             long = length-set part i hand ∙ p .long;
             rest = drop-set-lt (suc i) part i hand (omega arith) ∙ rest-there;
-            list = p .list ∙ rw (before-seat, ne-eqb (getD part i 0) 0 z, q, take-suc-set part i hand in-part) (sym (append-snoc (take i part) hand (pushPadded M B w (getD part i 0) (drop (suc i) l) .0)));
+            list = p .list ∙ rw (before-seat, ne-eqb (getD part i 0) 0 z, q, take-suc-set part i hand in-part)
+                (sym (append-snoc (take i part) hand (pushPadded M B w (getD part i 0) (drop (suc i) l) .0)));
             out = p .out ∙ rw (before-seat, ne-eqb (getD part i 0) 0 z, q);
           })
 
@@ -95,7 +96,8 @@ module _ (M : Market) (B : Results) (w x : ℕ) (l : List ℕ) where
             within = omega arith;
             long = p .long;
             rest = rest-there;
-            list = p .list ∙ rw (before-seat, ne-eqb (getD part i 0) 0 z, q, take-suc part i 0 in-part) (sym (append-snoc (take i part) (getD part i 0) (pushPadded M B w hand (drop (suc i) l) .0)));
+            list = p .list ∙ rw (before-seat, ne-eqb (getD part i 0) 0 z, q, take-suc part i 0 in-part)
+                (sym (append-snoc (take i part) (getD part i 0) (pushPadded M B w hand (drop (suc i) l) .0)));
             out = p .out ∙ rw (before-seat, ne-eqb (getD part i 0) 0 z, q);
           })
 
@@ -106,42 +108,29 @@ module _ (M : Market) (B : Results) (w x : ℕ) (l : List ℕ) where
         let e : pushPadded M B w hand (drop i l) ≡ ([], hand) = rw (drop-of-length-le l {i = i} h) in
         (sym (p .list ∙ rw (e, append-nil, take-all i part (omega (arith, p .long)))), sym (p .out ∙ rw e))
 
--- ---- where a part starts
-pub total-on : (f : ℕ → ℕ) (v : ℕ) → 1 ≤ v → total f (v + 1 - 1) ≡ total f (v - 1) + f v
-unfolding total
-total-on f zero a = absurd (omega arith)
-total-on f (suc v) a =
-    let e : suc v + 1 - 1 ≡ suc v = omega arith in
-    let d : suc v - 1 ≡ v = omega arith in
-    rw (e, d) (omega arith)
-
--- the part of workshop w ends where the next one starts
-pub part-within : (M : Market) (w n : ℕ) → 1 ≤ w → total (M .quota) w ≤ n → seatsFrom M w + M .quota w ≤ n
-unfolding seatsFrom total
-part-within M zero n a h = absurd (omega arith)
-part-within M (suc w) n a h = let d : suc w - 1 ≡ w = omega arith in rw d (omega arith)
-
-module _ (M : Market) (seats : List ℕ) (w a q : ℕ) (e : a ≡ seatsFrom M w) (f : q ≡ M .quota w) where
-  -- the part that is lent
-  pub part-lent : take (a + q - a) (drop a seats) ≡ part M seats w
+-- ---- a workshop's part of the seats
+module _ (M : Market) (seats : List ℕ) (w a b : ℕ) (e : a ≡ seatsBefore M w) (f : b ≡ a + seatsOf M w) where
+  -- the part that is lent, from a to b
+  pub part-lent : take (b - a) (drop a seats) ≡ part M seats w
   unfolding part
-  part-lent = let d : a + q - a ≡ q = omega arith in rw (d, e, f)
+  part-lent = let d : b - a ≡ seatsOf M w = omega arith in rw (d, e)
 
   pub known-lent : (P : ℕ → Type 0)
-      → ((i : ℕ) → i < M .quota w → 0 < getD (part M seats w) i 0 → P (getD (part M seats w) i 0))
+      → ((i : ℕ) → i < seatsOf M w → 0 < getD (part M seats w) i 0 → P (getD (part M seats w) i 0))
       → (i : ℕ)
-      → i < length (take (a + q - a) (drop a seats))
-      → 0 < getD (take (a + q - a) (drop a seats)) i 0
-      → P (getD (take (a + q - a) (drop a seats)) i 0)
+      → i < length (take (b - a) (drop a seats))
+      → 0 < getD (take (b - a) (drop a seats)) i 0
+      → P (getD (take (b - a) (drop a seats)) i 0)
   known-lent P g i l =
-      let m : i < min (a + q - a) (length (drop a seats)) = rw length-take at l in
+      let m : i < min (b - a) (length (drop a seats)) = rw length-take at l in
       rw part-lent (g i (omega arith))
 
+module _ (M : Market) (seats : List ℕ) (w a q : ℕ) (e : a ≡ seatsBefore M w) (f : q ≡ seatsOf M w) where
   -- who has the last seat
   pub last-none : q ≡ 0 → 0 ≡ lastOf M seats w
   unfolding lastOf
-  last-none z = let d : M .quota w ≡ 0 = omega arith in sym (rw (eq-eqb (M .quota w) 0 d))
+  last-none z = let d : seatsOf M w ≡ 0 = omega arith in sym (rw (eq-eqb (seatsOf M w) 0 d))
 
   pub last-some : (q ≡ 0 → ⊥) → getD seats (a + q - 1) 0 ≡ lastOf M seats w
   unfolding lastOf
-  last-some z = let d : eqb (M .quota w) 0 ≡ false = ne-eqb (M .quota w) 0 (λ h. z (f ∙ h)) in sym (rw (d, e, f))
+  last-some z = let d : eqb (seatsOf M w) 0 ≡ false = ne-eqb (seatsOf M w) 0 (λ h. z (f ∙ h)) in sym (rw (d, e, f))

@@ -1,14 +1,13 @@
 // A workshop's seats: who ranks before whom, who takes a seat and who loses it, and where the workshop's part of the seat slice lies.
 ghost use mathlib.Core.Path.{_≡_};
 ghost use mathlib.Core.Bool.{_&&_, _||_};
-ghost use Prim.Native.Nat.{ℕ, _+_, _≤_, _<_};
+ghost use Prim.Native.Nat.{ℕ, _+_, _*_, _≤_, _<_};
 ghost use lib.ListN.{length, getD};
 ghost use lib.Dec.{eqb, ltb};
-ghost use Rattle.base.specs.Lists.{total};
 ghost use Rattle.base.specs.Words.{biased};
-ghost use Rattle.lgs.specs.Market.{Market};
+ghost use Rattle.lgs.specs.Market.{Market, seatsOf, seatsBefore};
 ghost use Rattle.format.specs.Engine.{marketIn, resultsIn};
-ghost use Rattle.model.specs.Store.{pushPadded, seatsFrom, part, putPart, lastOf};
+ghost use Rattle.model.specs.Store.{pushPadded, part, putPart, lastOf};
 ghost use Rattle.model.specs.Ready.{Booked};
 ghost use Rattle.lookup.specs.Clean.{WorkshopAt, Clean};
 
@@ -61,30 +60,46 @@ fn seat(
     hand
 }
 
-// Where the part of workshop w starts: the seats of the workshops before it.
+// How many seats workshop w has: its quota.
+pub fn seats_of(case: &[u8], students: usize, w: usize) -> usize
+    requires { ⌜ WorkshopAt (now case) students w ⌝ }
+    ensures { λ r. ⌜ (r ≡ seatsOf (marketIn (now (case .entry))) w) × (r ≤ 65535) ⌝ }
+{
+    lookup::quota_of(case, students, w) as usize
+}
+
+// Where the part of workshop w ends, and the next one starts: it starts at `start`.
+pub fn end_of(case: &[u8], students: usize, w: usize, start: usize) -> usize
+    requires { ⌜ (start ≤ 65535 * 64) × WorkshopAt (now case) students w ⌝ }
+    ensures { λ r. ⌜ (r ≡ start + seatsOf (marketIn (now (case .entry))) w) × (r ≤ start + 65535) ⌝ }
+{
+    start + seats_of(case, students, w)
+}
+
+// Where the part of workshop w starts.
 fn start_of(case: &[u8], students: usize, w: usize) -> usize
     requires { ⌜ (1 ≤ w) × (w ≤ 64) ⌝ }
     requires { ⌜ ((v : ℕ) → 1 ≤ v → v ≤ w → WorkshopAt (now case) students v) ⌝ }
-    ensures { λ r. ⌜ r ≡ seatsFrom (marketIn (now (case .entry))) w ⌝ }
+    ensures { λ r. ⌜ (r ≡ seatsBefore (marketIn (now (case .entry))) w) × (r ≤ 65535 * 64) ⌝ }
 {
-    let mut sum = 0;
+    let mut start = 0;
     let mut v = 1;
     while v < w {
-        sum += lookup::quota_of(case, students, v) as usize;
+        start = end_of(case, students, v, start);
         v += 1;
     }
-    sum
+    start
 }
 
-// Who has the last of `quota` seats from `start` on, or 0: nobody where it is free, or where there are no seats.
-pub fn last_of(seats: &[u16], start: usize, quota: usize) -> u16
-    requires { ⌜ start + quota ≤ length (now seats) ⌝ }
-    ensures { λ r. ⌜ ((M : Market) (w : ℕ) → start ≡ seatsFrom M w → quota ≡ M .quota w → r ≡ lastOf M (now (seats .entry)) w) ⌝ }
+// Who has the last of `many` seats from `start` on, or 0: nobody where it is free, or where there are no seats.
+pub fn last_of(seats: &[u16], start: usize, many: usize) -> u16
+    requires { ⌜ start + many ≤ length (now seats) ⌝ }
+    ensures { λ r. ⌜ ((M : Market) (w : ℕ) → start ≡ seatsBefore M w → many ≡ seatsOf M w → r ≡ lastOf M (now (seats .entry)) w) ⌝ }
 {
-    if quota == 0 {
+    if many == 0 {
         return 0;
     }
-    let at = start + quota - 1;
+    let at = start + many - 1;
     seats[at]
 }
 
@@ -101,13 +116,15 @@ pub fn seat_at(
 ) -> u16
     requires { ⌜ Clean (now case) (now book) (now index) students workshops ⌝ }
     requires { ⌜ Booked (marketIn (now case)) (resultsIn (now book)) x w ⌝ }
-    requires { ⌜ total (marketIn (now case) .quota) w ≤ length (now seats) ⌝ }
-    requires { ⌜ ((i : ℕ) → i < marketIn (now case) .quota w → 0 < getD (part (marketIn (now case)) (now seats) w) i 0 → Booked (marketIn (now case)) (resultsIn (now book)) (getD (part (marketIn (now case)) (now seats) w) i 0) w) ⌝ }
-    ensures { λ r. ⌜ now (seats .exit) ≡ putPart (marketIn (now (case .entry))) (now (seats .entry)) w (pushPadded (marketIn (now (case .entry))) (resultsIn (now (book .entry))) w x (part (marketIn (now (case .entry))) (now (seats .entry)) w) .0) ⌝ }
+    requires { ⌜ seatsBefore (marketIn (now case)) w + seatsOf (marketIn (now case)) w ≤ length (now seats) ⌝ }
+    requires { ⌜ ((i : ℕ) → i < seatsOf (marketIn (now case)) w → 0 < getD (part (marketIn (now case)) (now seats) w) i 0
+        → Booked (marketIn (now case)) (resultsIn (now book)) (getD (part (marketIn (now case)) (now seats) w) i 0) w) ⌝ }
+    ensures { λ r. ⌜ now (seats .exit) ≡ putPart (marketIn (now (case .entry))) (now (seats .entry)) w
+        (pushPadded (marketIn (now (case .entry))) (resultsIn (now (book .entry))) w x (part (marketIn (now (case .entry))) (now (seats .entry)) w) .0) ⌝ }
     ensures { λ r. ⌜ r ≡ pushPadded (marketIn (now (case .entry))) (resultsIn (now (book .entry))) w x (part (marketIn (now (case .entry))) (now (seats .entry)) w) .1 ⌝ }
 {
     let a = start_of(case, students, w);
-    let e = a + lookup::quota_of(case, students, w) as usize;
+    let e = end_of(case, students, w, a);
     seat(
         &mut seats[a..e],
         case,

@@ -79,10 +79,12 @@ module _ (case book index : List ℕ) (first : ℕ) (I : Indexed case book index
       number-there =
           ap (λ k. getD index (pairPlace case (cond b x y) (cond b y x) - k) 0) (I .from)
           ∙ ap (λ m. getD m (pairPlace case (cond b x y) (cond b y x) - pairsFrom case) 0) (I .made)
-          ∙ index-at case (marketIn case .students) (marketIn case .workshops) (I .sound) book (entryCount book) (length index) (cond b x y) (cond b y x) (pairPlace case (cond b x y) (cond b y x)) (placed-at (cond b x y) (cond b y x) l)
+          ∙ index-at case (marketIn case .students) (marketIn case .workshops) (I .sound) book (entryCount book) (length index) (cond b x y)
+          (cond b y x) (pairPlace case (cond b x y) (cond b y x)) (placed-at (cond b x y) (cond b y x) l)
 
   pub tier-there : (b : Bool) (x y : ℕ) → pairPlace case (cond b x y) (cond b y x) < rowCount case
-      → tierOf b (marketIn case) x y ≡ cond b (rowAt case (pairPlace case (cond b x y) (cond b y x)) .third) (rowAt case (pairPlace case (cond b x y) (cond b y x)) .fourth)
+      → tierOf b (marketIn case) x y ≡ cond b (rowAt case (pairPlace case (cond b x y) (cond b y x)) .third)
+      (rowAt case (pairPlace case (cond b x y) (cond b y x)) .fourth)
   tier-there true x y l =
       student-tier-at case (clean case (marketIn case .students) (marketIn case .workshops) (I .sound)) x y (pairPlace case x y) l (placed-at x y l .pair)
   tier-there false x y l =

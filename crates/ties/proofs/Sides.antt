@@ -41,8 +41,10 @@ module _ (case book : List ℕ) (i j : ℕ) where
       let u = and-right (eqb (f .student) (e .student)) _ t in
       record {
         person = eqb-true _ _ (and-left (eqb (f .student) (e .student)) _ t);
-        tier = eqb-true _ _ (and-left (eqb (marketIn case .studentTier (e .student) (f .workshop)) (marketIn case .studentTier (e .student) (e .workshop))) _ u);
-        score = eqb-true _ _ (and-right (eqb (marketIn case .studentTier (e .student) (f .workshop)) (marketIn case .studentTier (e .student) (e .workshop))) _ u);
+        tier = eqb-true _ _ (and-left (eqb (marketIn case .studentTier (e .student) (f .workshop))
+            (marketIn case .studentTier (e .student) (e .workshop))) _ u);
+        score = eqb-true _ _ (and-right
+            (eqb (marketIn case .studentTier (e .student) (f .workshop)) (marketIn case .studentTier (e .student) (e .workshop))) _ u);
       }
   ties-say false t =
       let e = entryAt book i in
@@ -50,8 +52,10 @@ module _ (case book : List ℕ) (i j : ℕ) where
       let u = and-right (eqb (f .workshop) (e .workshop)) _ t in
       record {
         person = eqb-true _ _ (and-left (eqb (f .workshop) (e .workshop)) _ t);
-        tier = eqb-true _ _ (and-left (eqb (marketIn case .workshopTier (e .workshop) (f .student)) (marketIn case .workshopTier (e .workshop) (e .student))) _ u);
-        score = eqb-true _ _ (and-right (eqb (marketIn case .workshopTier (e .workshop) (f .student)) (marketIn case .workshopTier (e .workshop) (e .student))) _ u);
+        tier = eqb-true _ _ (and-left (eqb (marketIn case .workshopTier (e .workshop) (f .student))
+            (marketIn case .workshopTier (e .workshop) (e .student))) _ u);
+        score = eqb-true _ _ (and-right
+            (eqb (marketIn case .workshopTier (e .workshop) (f .student)) (marketIn case .workshopTier (e .workshop) (e .student))) _ u);
       }
 
   pub ties-make : (b : Bool) → Tied b case (entryAt book i) (entryAt book j) → sideTies b case book i j ≡ true
@@ -79,11 +83,13 @@ module _ (case book index : List ℕ) (first : ℕ) (I : Indexed case book index
   -- ---- a book record
 
   -- it is the first of its interview
-  own-first : (i : ℕ) → i < entryCount book → firstBad (λ k. isInterview (entryAt book i .student) (entryAt book i .workshop) (entryAt book k)) (entryCount book) ≡ some i
+  own-first : (i : ℕ) → i < entryCount book → firstBad (λ k. isInterview (entryAt book i .student) (entryAt book i .workshop) (entryAt book k))
+      (entryCount book) ≡ some i
   own-first i l =
       let q : ℕ → Bool = λ k. isInterview (entryAt book i .student) (entryAt book i .workshop) (entryAt book k) in
       let r : not (eqb (fromOne (firstBad q i)) 0) ≡ false =
-      sym (repeat-is case (marketIn case .students) (marketIn case .workshops) (I .sound) book i l) ∙ none-fails (badRepeat (rows case) (entries book)) (entryCount book) (I .fresh) i l in
+      sym (repeat-is case (marketIn case .students) (marketIn case .workshops) (I .sound) book i l) ∙ none-fails
+      (badRepeat (rows case) (entries book)) (entryCount book) (I .fresh) i l in
       scan-found q i (entryCount book) (number-none q i (eqb-true _ _ (not-false _ r)))
       (and-make (eq-eqb (entryAt book i .student) (entryAt book i .student) refl) (eq-eqb (entryAt book i .workshop) (entryAt book i .workshop) refl)) l
 
@@ -99,16 +105,19 @@ module _ (case book index : List ℕ) (first : ℕ) (I : Indexed case book index
       let s = entryAt book i .student in
       let w = entryAt book i .workshop in
       let p : Placed case s w (pairPlace case s w) = entry-placed case book index first I i l in
-      let r : (rowAt case (pairPlace case s w) .kind ≡ 3) × (rowAt case (pairPlace case s w) .first ≡ s) × (rowAt case (pairPlace case s w) .second ≡ w) = pair-says s w (rowAt case (pairPlace case s w)) (p .pair) in
+      let r : (rowAt case (pairPlace case s w) .kind ≡ 3) × (rowAt case (pairPlace case s w) .first ≡ s) ×
+      (rowAt case (pairPlace case s w) .second ≡ w) = pair-says s w (rowAt case (pairPlace case s w)) (p .pair) in
       rw (r .1, r .2) at (pair-names case (clean case (marketIn case .students) (marketIn case .workshops) (I .sound)) (pairPlace case s w) (p .inside) (r .0))
 
   pub persons-in : (b : Bool) (i : ℕ) → i < entryCount book
-      → ((1 ≤ who b (entryAt book i)) × (who b (entryAt book i) ≤ personsOf b case)) × ((1 ≤ whom b (entryAt book i)) × (whom b (entryAt book i) ≤ personsOf (not b) case))
+      → ((1 ≤ who b (entryAt book i)) × (who b (entryAt book i) ≤ personsOf b case)) ×
+      ((1 ≤ whom b (entryAt book i)) × (whom b (entryAt book i) ≤ personsOf (not b) case))
   persons-in true i l = names i l
   persons-in false i l = (names i l .1, names i l .0)
 
   own-key : (b : Bool) (i : ℕ) → i < entryCount book
-      → keyOf b case book (who b (entryAt book i)) (whom b (entryAt book i)) ≡ tierOf b (marketIn case) (who b (entryAt book i)) (whom b (entryAt book i)) * 65536 + scoreOf b (entryAt book i)
+      → keyOf b case book (who b (entryAt book i)) (whom b (entryAt book i)) ≡ tierOf b (marketIn case) (who b (entryAt book i))
+      (whom b (entryAt book i)) * 65536 + scoreOf b (entryAt book i)
   own-key b i l =
       let x = who b (entryAt book i) in
       let y = whom b (entryAt book i) in
@@ -122,7 +131,8 @@ module _ (case book index : List ℕ) (first : ℕ) (I : Indexed case book index
     unfolding numberOf
     record-of =
         let q : ℕ → Bool = λ i. isInterview (cond b x y) (cond b y x) (entryAt book i) in
-        interview-of b x y (entryAt book (numberOf b book x y - 1)) (first-passes q (entryCount book) (numberOf b book x y - 1) (number-some q (entryCount book) l))
+        interview-of b x y (entryAt book (numberOf b book x y - 1))
+        (first-passes q (entryCount book) (numberOf b book x y - 1) (number-some q (entryCount book) l))
 
     there : pairPlace case (cond b x y) (cond b y x) < rowCount case
     there =
@@ -134,7 +144,8 @@ module _ (case book index : List ℕ) (first : ℕ) (I : Indexed case book index
   unfolding badRange badTiers
   tiers p l k =
       let f : badTiers (rows case) p ≡ false =
-      or-false (badWorkshop (rows case) p) _ (or-false (badStudent (rows case) p) _ (none-fails (badRange (rows case)) (rowCount case) (I .sound .range) p l) .1) .1 in
+      or-false (badWorkshop (rows case) p) _
+      (or-false (badStudent (rows case) p) _ (none-fails (badRange (rows case)) (rowCount case) (I .sound .range) p l) .1) .1 in
       let g : (notWithin 1 65 (rowAt case p .third) || notWithin 1 513 (rowAt case p .fourth)) ≡ false = rw (row-at case p l, k) at f in
       let r = or-false (notWithin 1 65 (rowAt case p .third)) _ g in
       (within 1 65 (rowAt case p .third) (r .0) .0, within 1 513 (rowAt case p .fourth) (r .1) .0)
@@ -192,8 +203,10 @@ module _ (case book index : List ℕ) (first : ℕ) (I : Indexed case book index
         let q : who b (entryAt book j) ≡ suc x = t .person ∙ p in
         let ni : numberOf b book (suc x) (suc (y - 1)) ≡ suc i = rw (ey, ← p) (own-number b i l) in
         let nj : numberOf b book (suc x) (suc (z - 1)) ≡ suc j = rw (ez, ← q) (own-number b j (omega arith)) in
-        let ki : keyOf b case book (suc x) (suc (y - 1)) ≡ tierOf b (marketIn case) (suc x) y * 65536 + scoreOf b (entryAt book i) = rw (ey, ← p) (own-key b i l) in
-        let kj : keyOf b case book (suc x) (suc (z - 1)) ≡ tierOf b (marketIn case) (suc x) z * 65536 + scoreOf b (entryAt book j) = rw (ez, ← q) (own-key b j (omega arith)) in
+        let ki : keyOf b case book (suc x) (suc (y - 1)) ≡ tierOf b (marketIn case) (suc x) y * 65536 + scoreOf b (entryAt book i) = rw (ey, ← p)
+        (own-key b i l) in
+        let kj : keyOf b case book (suc x) (suc (z - 1)) ≡ tierOf b (marketIn case) (suc x) z * 65536 + scoreOf b (entryAt book j) = rw (ez, ← q)
+        (own-key b j (omega arith)) in
         let tt′ : tierOf b (marketIn case) (suc x) z ≡ tierOf b (marketIn case) (suc x) y = rw p at (t .tier) in
         let k : keyOf b case book (suc x) (suc (z - 1)) ≡ keyOf b case book (suc x) (suc (y - 1)) = omega (arith, ki, kj, tt′, t .score) in
         ⊎-elim (λ (g : z - 1 < y - 1). omega (arith, r .below (y - 1) (z - 1) (omega arith) g k, ni, nj))
@@ -215,8 +228,15 @@ module _ (case book index : List ℕ) (first : ℕ) (I : Indexed case book index
         ⊎-elim (λ (g : q < p). (p, q, number-inside case book index first I b (suc x) (suc i) ni, g, ties-make case book p q b t, omega arith))
         (λ (g : p ≤ q).
         ⊎-elim
-        (λ (g′ : p < q).
-        (q, p, number-inside case book index first I b (suc x) (suc j) nj, g′, ties-make case book q p b (tied-back b case (entryAt book p) (entryAt book q) t), omega arith))
+        (λ (g′ : p < q). (
+          q,
+          p,
+          number-inside case book index first I b (suc x) (suc j) nj,
+          g′,
+          ties-make case book q p b
+              (tied-back b case (entryAt book p) (entryAt book q) t),
+          omega arith,
+        ))
         (λ (g′ : q ≤ p).
         let s : p ≡ q = omega arith in
         absurd (omega (arith, record-of b (suc x) (suc i) ni .1, record-of b (suc x) (suc j) nj .1, ap (λ v. whom b (entryAt book v)) s)))
@@ -274,7 +294,8 @@ module _ (case book index : List ℕ) (first : ℕ) (I : Indexed case book index
         ⊎-elim (λ a. omega (arith, s .below k (f .0) l (f .1) (p .0 .1) a, w .least)) (λ a. omega (arith, w .below k (f .0) l (f .1) (p .1 .1) a))
         (or-true (sideTies true case book k (f .0)) _ (f .2)))
 
-    found : (i j : ℕ) → i < entryCount book → j < i → some-tie i j ≡ true → low ≡ suc i → firstBad (badTie (rows case) (entries book)) (entryCount book) ≡ some i
+    found : (i j : ℕ) → i < entryCount book → j < i → some-tie i j ≡ true → low ≡ suc i → firstBad (badTie (rows case) (entries book))
+        (entryCount book) ≡ some i
     found i j l m t e =
         scan-found (badTie (rows case) (entries book)) i (entryCount book)
         (scan-none (badTie (rows case) (entries book)) i (λ k q. clear k (omega arith) (omega arith)))

@@ -43,7 +43,8 @@ tierOf b M x y = cond b (M .studentTier x y) (M .workshopTier x y)
 -- the cause's test of records i and j, for the side
 abbrev pub sideTies : Bool → List ℕ → List ℕ → ℕ → ℕ → Bool
 sideTies b case book i j =
-    cond b (studentTies (rows case) (entries book) (entryAt book i) (entryAt book j)) (workshopTies (rows case) (entries book) (entryAt book i) (entryAt book j))
+    cond b (studentTies (rows case) (entries book) (entryAt book i) (entryAt book j))
+    (workshopTies (rows case) (entries book) (entryAt book i) (entryAt book j))
 
 -- ---- the interview of x with y
 

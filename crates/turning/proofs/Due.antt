@@ -1,15 +1,14 @@
 -- Which workshops a student is to be interviewed by, test by test.
-use Prim.Native.Nat.{ℕ, _+_, _*_, _≤_, _<_}
+use Prim.Native.Nat.{ℕ, _≤_, _<_}
 use mathlib.Core.Path.{_≡_, sym, _∙_}
 use mathlib.Core.Bool.{Bool, true, false, not, _&&_}
 use mathlib.Core.List.{List}
 use native.Mathlib.Omega.{arith}
 use lib.Dec.{eqb, ltb}
 use borrow.Author.Tests.{eq-eqb, ne-eqb, lt-ltb, le-ltb}
-use Rattle.base.specs.Words.{word}
 use Rattle.base.proofs.Tests.{and-left, and-right, and-make}
 use Rattle.base.proofs.Search.{some-by, first-passes}
-use Rattle.lgs.specs.Market.{Market, Results, workshopOutside}
+use Rattle.lgs.specs.Market.{Market, Results, workshopOutside, seatsOf}
 use Rattle.format.specs.Layout.{rowAt, rowCount, isPair}
 use Rattle.format.specs.Engine.{marketIn}
 use Rattle.format.proofs.Positions.{pair-says}
@@ -23,18 +22,18 @@ use Rattle.turning.specs.Round.{inTier}
 
 -- t is the workshop's tier for the student, and l has its last seat
 module _ (M : Market) (B : Results) (w s l t : ℕ) (e : t ≡ M .workshopTier w s) where
-  pub shut-empty : M .quota w ≡ 0 → true ≡ shutBy M B l s w
+  pub shut-empty : seatsOf M w ≡ 0 → true ≡ shutBy M B l s w
   unfolding shutBy
-  shut-empty z = sym (rw (eq-eqb (M .quota w) 0 z))
+  shut-empty z = sym (rw (eq-eqb (seatsOf M w) 0 z))
 
-  module _ (seats : M .quota w ≡ 0 → ⊥) where
+  module _ (seats : seatsOf M w ≡ 0 → ⊥) where
     pub shut-beyond : workshopOutside M w < t → true ≡ shutBy M B l s w
     unfolding shutBy
-    shut-beyond h = sym (rw (ne-eqb (M .quota w) 0 seats, lt-ltb (M .workshopTier w 0) (M .workshopTier w s) (omega arith)))
+    shut-beyond h = sym (rw (ne-eqb (seatsOf M w) 0 seats, lt-ltb (M .workshopTier w 0) (M .workshopTier w s) (omega arith)))
 
     pub shut-full : t ≤ workshopOutside M w → (b : Bool) → b ≡ (ltb 0 l && ltb (M .workshopTier w l) t) → b ≡ shutBy M B l s w
     unfolding shutBy fullAbove
-    shut-full h b q = q ∙ sym (rw (ne-eqb (M .quota w) 0 seats, le-ltb (M .workshopTier w 0) (M .workshopTier w s) (omega arith), e))
+    shut-full h b q = q ∙ sym (rw (ne-eqb (seatsOf M w) 0 seats, le-ltb (M .workshopTier w 0) (M .workshopTier w s) (omega arith), e))
 
 -- whoever is to be interviewed is of the tier, and of the tier whoever is not shut is to be interviewed
 module _ (M : Market) (B : Results) (seats : List ℕ) (s t w : ℕ) where
@@ -65,10 +64,10 @@ module _ (case : List ℕ) (s w t p : ℕ) (e : p ≡ pairPlace case s w) where
     tier-paired k = let q : marketIn case .studentTier s w ≡ rowAt case p .third = k pair-there .studentTier ∙ sym (rw e) in rw (pair-there, q)
 
     -- the record has the workshop's number
-    pub pair-second : word case (16 * p + 4) ≡ w
-    unfolding rowAt
+    pub pair-second : rowAt case p .second ≡ w
     pair-second =
-        pair-says s w (rowAt case p) (first-passes (λ i. isPair s w (rowAt case i)) (rowCount case) p (some-by (λ i. isPair s w (rowAt case i)) (rowCount case) p e l)) .2
+        pair-says s w (rowAt case p) (first-passes (λ i. isPair s w (rowAt case i)) (rowCount case) p
+        (some-by (λ i. isPair s w (rowAt case i)) (rowCount case) p e l)) .2
 
 -- the workshop's tier, from the pair's record
 pub tier-at : (case : List ℕ) (s w p t : ℕ) → PairAt case s w → p ≡ pairPlace case s w → t ≡ rowAt case p .fourth → t ≡ marketIn case .workshopTier w s

@@ -14,7 +14,7 @@ use Rattle.base.specs.Bits.{member, members, Low}
 use Rattle.base.proofs.Tests.{bool-cases, less?, is-false, and-left, and-right, and-make, or-true, or-left, or-right}
 use Rattle.base.proofs.Digits.{members-low, members-empty}
 use Rattle.lgs.specs.Market.{Market, Results}
-use Rattle.model.specs.Model.{favourite}
+use Rattle.lgs.specs.Rule.{best}
 use Rattle.model.specs.Store.{comesAfter, nextIn}
 use Rattle.model.specs.Turn.{favouriteIn}
 use Rattle.model.specs.Ready.{Booked}
@@ -25,7 +25,8 @@ module _ (stage : ℕ → ℕ) (s t first : ℕ) (a : 1 ≤ t) (e : first ≡ ne
   unfolding nextIn
   step b q = go t a e q
     where
-      go : (t : ℕ) → 1 ≤ t → first ≡ nextIn stage s (t - 1) → (comesAfter stage s t && (eqb first 0 || ltb (stage t) (stage first))) ≡ b → nextIn stage s (t + 1 - 1) ≡ cond b t first
+      go : (t : ℕ) → 1 ≤ t → first ≡ nextIn stage s (t - 1) → (comesAfter stage s t && (eqb first 0 || ltb (stage t) (stage first))) ≡ b
+          → nextIn stage s (t + 1 - 1) ≡ cond b t first
       go zero a e q = absurd (omega arith)
       go (suc k) a e q =
           let d : suc k + 1 - 1 ≡ suc k = omega arith in
@@ -52,7 +53,11 @@ module _ (stage : ℕ → ℕ) (s t : ℕ) (a : 1 ≤ s) (b : s < t) (e : stage 
   unfolding comesAfter
   after-says k c =
       ⊎-elim (λ z. absurd (omega (arith, eqb-true s 0 z)))
-      (λ r. ⊎-elim (λ l. inl (ltb-true _ _ l)) (λ d. inr (eqb-true _ _ (and-left (eqb (stage s) (stage k)) _ d), ltb-true _ _ (and-right (eqb (stage s) (stage k)) _ d))) (or-true (ltb (stage s) (stage k)) _ r))
+      (λ r. ⊎-elim (λ l. inl (ltb-true _ _ l)) (λ d. inr (
+        eqb-true _ _ (and-left (eqb (stage s) (stage k)) _ d),
+        ltb-true _ _
+            (and-right (eqb (stage s) (stage k)) _ d),
+      )) (or-true (ltb (stage s) (stage k)) _ r))
       (or-true (eqb s 0) _ c)
 
   -- whoever is found before t has a later stage
@@ -63,7 +68,8 @@ module _ (stage : ℕ → ℕ) (s t : ℕ) (a : 1 ≤ s) (b : s < t) (e : stage 
       ⊎-elim
       (λ (q : better k ≡ true).
       let n : nextIn stage s (suc k) ≡ suc k = next-on k true q in
-      ⊎-elim (λ (u : stage s < stage (suc k)). inr (rw n u)) (λ u. absurd (other (suc k) (u .1) l (sym (u .0)))) (after-says (suc k) (and-left (comesAfter stage s (suc k)) _ q)))
+      ⊎-elim (λ (u : stage s < stage (suc k)). inr (rw n u)) (λ u. absurd (other (suc k) (u .1) l (sym (u .0))))
+      (after-says (suc k) (and-left (comesAfter stage s (suc k)) _ q)))
       (λ (q : better k ≡ false). rw (next-on k false q) (later k (omega arith)))
       (bool-cases (better k))
 
@@ -79,29 +85,33 @@ module _ (stage : ℕ → ℕ) (s t : ℕ) (a : 1 ≤ s) (b : s < t) (e : stage 
       let c : comesAfter stage s (suc n) ≡ true = rw q at same-after in
       let d : (eqb (nextIn stage s n) 0 || ltb (stage (suc n)) (stage (nextIn stage s n))) ≡ true =
       ⊎-elim (λ (z : nextIn stage s n ≡ 0). or-left (eqb (nextIn stage s n) 0) _ (eq-eqb (nextIn stage s n) 0 z))
-      (λ (u : stage s < stage (nextIn stage s n)). or-right (eqb (nextIn stage s n) 0) _ (lt-ltb (stage (suc n)) (stage (nextIn stage s n)) (omega (arith, e, ap stage q)))) (later n (omega arith)) in
+      (λ (u : stage s < stage (nextIn stage s n)). or-right (eqb (nextIn stage s n) 0) _
+      (lt-ltb (stage (suc n)) (stage (nextIn stage s n)) (omega (arith, e, ap stage q)))) (later n (omega arith)) in
       q ∙ sym (next-on n true (and-make c d)))
       (λ (q : t < suc n).
       let h : t ≡ nextIn stage s n = next-same n (omega arith) in
-      h ∙ sym (next-on n false (is-false (better n) (λ d. worse n h (after-says (suc n) (and-left (comesAfter stage s (suc n)) _ d)) (or-true (eqb (nextIn stage s n) 0) _ (and-right (comesAfter stage s (suc n)) _ d))))))
+      h ∙ sym (next-on n false (is-false (better n) (λ d. worse n h (after-says (suc n) (and-left (comesAfter stage s (suc n)) _ d))
+      (or-true (eqb (nextIn stage s n) 0) _ (and-right (comesAfter stage s (suc n)) _ d))))))
       (eq-or-lt-of-le l)
     where
-      worse : (n : ℕ) → t ≡ nextIn stage s n → (stage s < stage (suc n)) ⊎ ((stage s ≡ stage (suc n)) × (s < suc n)) → (eqb (nextIn stage s n) 0 ≡ true) ⊎ (ltb (stage (suc n)) (stage (nextIn stage s n)) ≡ true) → ⊥
+      worse : (n : ℕ) → t ≡ nextIn stage s n → (stage s < stage (suc n)) ⊎ ((stage s ≡ stage (suc n)) × (s < suc n)) →
+          (eqb (nextIn stage s n) 0 ≡ true) ⊎ (ltb (stage (suc n)) (stage (nextIn stage s n)) ≡ true) → ⊥
       worse n h c (inl z) = omega (arith, eqb-true (nextIn stage s n) 0 z, h)
       worse n h (inl c) (inr z) = omega (arith, ltb-true (stage (suc n)) (stage (nextIn stage s n)) z, ap stage h, e)
       worse n h (inr c) (inr z) = omega (arith, ltb-true (stage (suc n)) (stage (nextIn stage s n)) z, ap stage h, e)
 
 -- a student of another stage is passed
-pub other-on : (stage : ℕ → ℕ) (s t : ℕ) → ((k : ℕ) → s < k → k < t → stage k ≡ stage s → ⊥) → (stage t ≡ stage s → ⊥) → (k : ℕ) → s < k → k < t + 1 → stage k ≡ stage s → ⊥
+pub other-on : (stage : ℕ → ℕ) (s t : ℕ) → ((k : ℕ) → s < k → k < t → stage k ≡ stage s → ⊥) → (stage t ≡ stage s → ⊥) → (k : ℕ) → s < k → k < t + 1
+    → stage k ≡ stage s → ⊥
 other-on stage s t f g k a b e = ⊎-elim (λ (q : k < t). f k a q e) (λ (q : t ≤ k). let d : t ≡ k = omega arith in g (ap stage d ∙ e)) (less? k t)
 
 -- ---- the best of a set: the lowest is compared with the best so far, and taken out
 
--- so far `best` is the best of `start` and what has been taken out of the set, with the score `top`; `rest` is left
-pub record Best (M : Market) (B : Results) (s start set best : ℕ) (top : ℤ) (rest : ℕ) : Type 0 where
+-- so far x is the best of `start` and what has been taken out of the set, with the score `top`; `rest` is left
+pub record Best (M : Market) (B : Results) (s start set x : ℕ) (top : ℤ) (rest : ℕ) : Type 0 where
   pub small : rest < 2 ^ 64
-  pub score : biased top ≡ B .studentScore s best
-  pub same : favourite M B s best (members rest) ≡ favourite M B s start (members set)
+  pub score : biased top ≡ B .studentScore s x
+  pub same : best M B s x (members rest) ≡ best M B s start (members set)
   pub known : (w : ℕ) → member rest w ≡ true → Booked M B s w
 
 module _ (M : Market) (B : Results) (s start set : ℕ) where
@@ -109,37 +119,39 @@ module _ (M : Market) (B : Results) (s start set : ℕ) where
       → Low rest w
       → ((x : ℕ) → member rest′ x ≡ (member rest x && not (eqb x w)))
       → b′ ≡ cond (ltb (B .studentScore s b) (B .studentScore s w)) w b
-      → favourite M B s b′ (members rest′) ≡ favourite M B s b (members rest)
-  unfolding favourite pick
+      → best M B s b′ (members rest′) ≡ best M B s b (members rest)
+  unfolding best pick
   same-on b b′ w rest rest′ low f e = rw (members-low rest rest′ w low f, e)
 
-  pub best-start : (top : ℤ) → set < 2 ^ 64 → biased top ≡ B .studentScore s start → ((w : ℕ) → member set w ≡ true → Booked M B s w) → Best M B s start set start top set
+  pub best-start : (top : ℤ) → set < 2 ^ 64 → biased top ≡ B .studentScore s start → ((w : ℕ) → member set w ≡ true → Booked M B s w)
+      → Best M B s start set start top set
   best-start top h e k = record { small = h; score = e; same = refl; known = k }
 
-  module _ (best rest rest′ w : ℕ) (top score : ℤ) (b : Best M B s start set best top rest) (low : Low rest w) (f : (x : ℕ) → member rest′ x ≡ (member rest x && not (eqb x w))) (h : rest′ < 2 ^ 64) (e : biased score ≡ B .studentScore s w) where
+  module _ (c rest rest′ w : ℕ) (top score : ℤ) (b : Best M B s start set c top rest) (low : Low rest w)
+      (f : (x : ℕ) → member rest′ x ≡ (member rest x && not (eqb x w))) (h : rest′ < 2 ^ 64) (e : biased score ≡ B .studentScore s w) where
     known′ : (x : ℕ) → member rest′ x ≡ true → Booked M B s x
     known′ x q = b .known x (and-left (member rest x) _ (sym (f x) ∙ q))
 
     pub best-higher : ltb (biased top) (biased score) ≡ true → Best M B s start set w score rest′
     best-higher q =
-        let t : ltb (B .studentScore s best) (B .studentScore s w) ≡ true = rw (b .score, e) at q in
-        record { small = h; score = e; same = same-on best w w rest rest′ low f (sym (rw t)) ∙ b .same; known = known′ }
+        let t : ltb (B .studentScore s c) (B .studentScore s w) ≡ true = rw (b .score, e) at q in
+        record { small = h; score = e; same = same-on c w w rest rest′ low f (sym (rw t)) ∙ b .same; known = known′ }
 
-    pub best-kept : ltb (biased top) (biased score) ≡ false → Best M B s start set best top rest′
+    pub best-kept : ltb (biased top) (biased score) ≡ false → Best M B s start set c top rest′
     best-kept q =
-        let t : ltb (B .studentScore s best) (B .studentScore s w) ≡ false = rw (b .score, e) at q in
-        record { small = h; score = b .score; same = same-on best best w rest rest′ low f (sym (rw t)) ∙ b .same; known = known′ }
+        let t : ltb (B .studentScore s c) (B .studentScore s w) ≡ false = rw (b .score, e) at q in
+        record { small = h; score = b .score; same = same-on c c w rest rest′ low f (sym (rw t)) ∙ b .same; known = known′ }
 
-  none-left : (b rest : ℕ) → rest ≡ 0 → b ≡ favourite M B s b (members rest)
-  unfolding favourite pick
+  none-left : (b rest : ℕ) → rest ≡ 0 → b ≡ best M B s b (members rest)
+  unfolding best pick
   none-left b rest e = sym (rw (e, members-empty))
 
-  pub best-end : (best rest : ℕ) (top : ℤ) → Best M B s start set best top rest → rest ≡ 0 → best ≡ favourite M B s start (members set)
-  best-end best rest top b e = none-left best rest e ∙ b .same
+  pub best-end : (c rest : ℕ) (top : ℤ) → Best M B s start set c top rest → rest ≡ 0 → c ≡ best M B s start (members set)
+  best-end c rest top b e = none-left c rest e ∙ b .same
 
 -- ---- the best of what is open, by whether the outside option is open and what the set's lowest is
 module _ (M : Market) (B : Results) (s set : ℕ) where
-  pub with-outside : (o : Bool) → o ≡ true → favouriteIn M B s o set ≡ favourite M B s 0 (members set)
+  pub with-outside : (o : Bool) → o ≡ true → favouriteIn M B s o set ≡ best M B s 0 (members set)
   unfolding favouriteIn
   with-outside o e = rw e
 
@@ -151,6 +163,6 @@ module _ (M : Market) (B : Results) (s set : ℕ) where
       → o ≡ false
       → Low set w
       → ((x : ℕ) → member rest x ≡ (member set x && not (eqb x w)))
-      → favouriteIn M B s o set ≡ favourite M B s w (members rest)
+      → favouriteIn M B s o set ≡ best M B s w (members rest)
   unfolding favouriteIn
   some-open o w rest e low f = rw (e, members-low set rest w low f)

@@ -8,20 +8,19 @@ use native.Mathlib.Omega.{arith}
 use native.Mathlib.Numerals.{add-one}
 use lib.ListN.{length, getD, set, length-set}
 use lib.Seq.{getD-set-same, getD-set-other}
-use Rattle.base.specs.Lists.{one, count, total}
-use Rattle.base.specs.Words.{word}
+use Rattle.base.specs.Lists.{one, count}
 use Rattle.base.proofs.Tests.{less?, is-false, never}
 use Rattle.base.proofs.Counting.{count-le}
-use Rattle.lgs.specs.Market.{Market, Results}
-use Rattle.format.specs.Layout.{rowCount}
+use Rattle.lgs.specs.Market.{Market, Results, seatsOf, seatsBefore}
+use Rattle.format.specs.Layout.{rowAt, rowCount}
 use Rattle.format.specs.Engine.{marketIn}
 use Rattle.records.specs.Records.{pairPlace}
-use Rattle.model.specs.Store.{seatsFrom}
+use Rattle.model.proofs.Storage.{before-first, before-on}
 use Rattle.model.specs.Turn.{dueAt, roundTo}
 use Rattle.lookup.specs.Clean.{PairAt}
 use Rattle.turning.specs.Round.{inTier, TierListed}
 use Rattle.turning.proofs.Due.{due-tier, tier-pair, pair-second}
-use Rattle.turning.proofs.Rounds.{Rounding, round-start, count-to, skipped, seats-before, seats-more}
+use Rattle.turning.proofs.Rounds.{Rounding, round-start, count-to, skipped}
 
 -- those of 1 to k that pass have their values at places 0, 1, .. of the list; the next is written
 placed : (f : ℕ → Bool) (g : ℕ → ℕ) (k x : ℕ) (l : List ℕ)
@@ -42,7 +41,7 @@ module _ (case : List ℕ) (s t : ℕ) (pairs starts : List ℕ) where
 
   pub list-more : (k n : ℕ) → TierListed case s t k n pairs starts → n < length pairs → n < length starts → (p q x : ℕ)
       → p ≡ pairPlace case s (k + 1)
-      → q ≡ seatsFrom (marketIn case) (k + 1)
+      → q ≡ seatsBefore (marketIn case) (k + 1)
       → x ≡ one (inTier (marketIn case) s t (k + 1))
       → TierListed case s t (k + 1) (n + x) (set pairs n p) (set starts n q)
   unfolding count
@@ -51,25 +50,35 @@ module _ (case : List ℕ) (s t : ℕ) (pairs starts : List ℕ) where
       more : n + x ≡ count (inTier (marketIn case) s t) (suc k)
       more = let f′ : x ≡ one (inTier (marketIn case) s t (suc k)) = rw (add-one k) at f in omega (arith, l .many)
 
-      pair′ : (v : ℕ) → v < suc k → inTier (marketIn case) s t (suc v) ≡ true → getD (set pairs n p) (count (inTier (marketIn case) s t) v) 0 ≡ pairPlace case s (suc v)
+      pair′ : (v : ℕ) → v < suc k → inTier (marketIn case) s t (suc v) ≡ true → getD (set pairs n p)
+          (count (inTier (marketIn case) s t) v) 0 ≡ pairPlace case s (suc v)
       pair′ = rw (l .many) (placed (inTier (marketIn case) s t) (pairPlace case s) k p pairs (l .pair) (omega (arith, l .many)) (rw (add-one k) at d))
 
-      start′ : (v : ℕ) → v < suc k → inTier (marketIn case) s t (suc v) ≡ true → getD (set starts n q) (count (inTier (marketIn case) s t) v) 0 ≡ seatsFrom (marketIn case) (suc v)
-      start′ = rw (l .many) (placed (inTier (marketIn case) s t) (seatsFrom (marketIn case)) k q starts (l .start) (omega (arith, l .many)) (rw (add-one k) at e))
+      start′ : (v : ℕ) → v < suc k → inTier (marketIn case) s t (suc v) ≡ true → getD (set starts n q)
+          (count (inTier (marketIn case) s t) v) 0 ≡ seatsBefore (marketIn case) (suc v)
+      start′ = rw (l .many) (placed (inTier (marketIn case) s t) (seatsBefore (marketIn case)) k q starts (l .start) (omega (arith, l .many))
+          (rw (add-one k) at e))
 
 -- after the first k workshops: n are listed, and `from` is where the next one's seats start
 pub record Listing (case : List ℕ) (s t m : ℕ) (oldPairs oldStarts pairs starts : List ℕ) (n from k : ℕ) : Type 0 where
   pub within : k ≤ m
   pub listed : TierListed case s t k n pairs starts
-  pub seats : from ≡ total (marketIn case .quota) k
-  pub small : from ≤ 65536 * k
+  pub seats : from ≡ seatsBefore (marketIn case) (k + 1)
+  pub small : from ≤ 65535 * k
   pub samePairs : length pairs ≡ length oldPairs
   pub sameStarts : length starts ≡ length oldStarts
 
 module _ (case : List ℕ) (s t m : ℕ) (oldPairs oldStarts : List ℕ) where
   pub listing-start : Listing case s t m oldPairs oldStarts oldPairs oldStarts 0 0 0
-  unfolding total
-  listing-start = record { within = omega arith; listed = list-start case s t oldPairs oldStarts; seats = refl; small = omega arith; samePairs = refl; sameStarts = refl }
+  listing-start = record {
+    within = omega arith;
+    listed = list-start case s t oldPairs oldStarts;
+    seats = sym (before-first (marketIn case));
+    small =
+        omega arith;
+    samePairs = refl;
+    sameStarts = refl;
+  }
 
   module _ (pairs starts : List ℕ) (n from k : ℕ) (i : Listing case s t m oldPairs oldStarts pairs starts n from k) where
     pub listing-few : n ≤ k
@@ -80,15 +89,16 @@ module _ (case : List ℕ) (s t m : ℕ) (oldPairs oldStarts : List ℕ) where
 
     pub listing-more : k < m → m ≤ length oldPairs → m ≤ length oldStarts → (p q x : ℕ)
         → p ≡ pairPlace case s (k + 1)
-        → q ≡ marketIn case .quota (k + 1)
-        → q < 65536
+        → q ≡ from + seatsOf (marketIn case) (k + 1)
+        → q ≤ from + 65535
         → x ≡ one (inTier (marketIn case) s t (k + 1))
-        → Listing case s t m oldPairs oldStarts (set pairs n p) (set starts n from) (n + x) (from + q) (k + 1)
+        → Listing case s t m oldPairs oldStarts (set pairs n p) (set starts n from) (n + x) q (k + 1)
     listing-more l a b p q x d e f g =
         record {
           within = omega arith;
-          listed = list-more case s t pairs starts k n (i .listed) (omega (arith, i .samePairs, listing-few)) (omega (arith, i .sameStarts, listing-few)) p from x d (i .seats ∙ seats-before (marketIn case) k) g;
-          seats = omega (arith, i .seats, seats-more (marketIn case .quota) k);
+          listed = list-more case s t pairs starts k n (i .listed) (omega (arith, i .samePairs, listing-few))
+              (omega (arith, i .sameStarts, listing-few)) p from x d (i .seats) g;
+          seats = omega (arith, i .seats, before-on (marketIn case) (k + 1) (omega arith));
           small = omega (arith, i .small);
           samePairs = length-set pairs n p ∙ i .samePairs;
           sameStarts = length-set starts n from ∙ i .sameStarts;
@@ -110,8 +120,16 @@ next f a zero l h = let e : a ≡ 0 = omega arith in let z : count f 0 < count f
 next f a (suc m) l h =
     ⊎-elim
     (λ (q : a < suc m).
-    ⊎-elim (λ (b : count f a < count f m). let n : Next f a m = next f a m (omega arith) b in record { at = n .at; from = n .from; to = omega (arith, n .to); passes = n .passes; same = n .same })
-    (λ (b : count f m ≤ count f a). record { at = m; from = omega arith; to = omega arith; passes = last (f (suc m)) refl b; same = omega (arith, count-to f a m (omega arith)) }) (less? (count f a) (count f m)))
+    ⊎-elim (λ (b : count f a < count f m). let n : Next f a m = next f a m (omega arith) b in record
+    { at = n .at; from = n .from; to = omega (arith, n .to); passes = n .passes; same = n .same })
+    (λ (b : count f m ≤ count f a). record {
+      at = m;
+      from = omega arith;
+      to = omega arith;
+      passes = last (f (suc m)) refl b;
+      same = omega
+          (arith, count-to f a m (omega arith));
+    }) (less? (count f a) (count f m)))
     (λ (q : suc m ≤ a). let e : a ≡ suc m = omega arith in let z : count f (suc m) < count f (suc m) = rw e at h in absurd (omega arith))
     (less? a (suc m))
   where
@@ -137,7 +155,8 @@ module _ (M : Market) (B : Results) (seats : List ℕ) (s t set held : ℕ) (old
       none false n q = n
       none true n q = absurd (omega (arith, count-to (inTier M s t) a b (omega arith), ap one n))
 
-  round-passed : (a b : ℕ) → a ≤ b → count (inTier M s t) b ≡ count (inTier M s t) a → Rounding M B seats s t set held old visits total openings a → Rounding M B seats s t set held old visits total openings b
+  round-passed : (a b : ℕ) → a ≤ b → count (inTier M s t) b ≡ count (inTier M s t) a → Rounding M B seats s t set held old visits total openings a →
+      Rounding M B seats s t set held old visits total openings b
   round-passed a b l e r =
       let q : roundTo M B seats s t set b ≡ roundTo M B seats s t set a = passed a b l e in
       record { all = rw q (r .all); sets = rw q (r .sets); on = rw q (r .on); written = rw q (r .written) }
@@ -158,7 +177,7 @@ pub record Coming (case : List ℕ) (B : Results) (seats : List ℕ) (s t set he
   pub place : count (inTier (marketIn case) s t) at ≡ k
   pub tier : inTier (marketIn case) s t w ≡ true
   pub pair : p ≡ pairPlace case s w
-  pub start : f ≡ seatsFrom (marketIn case) w
+  pub start : f ≡ seatsBefore (marketIn case) w
   pub so : Rounding (marketIn case) B seats s t set held old visits total openings at
 
 module _ (case : List ℕ) (B : Results) (seats : List ℕ) (s t set held m n : ℕ) (pairs starts old : List ℕ) where
@@ -200,7 +219,8 @@ module _ (case : List ℕ) (B : Results) (seats : List ℕ) (s t set held m n : 
         pub coming-within : getD pairs k 0 < rowCount case
         coming-within = omega (arith, coming .pair, found (suc (ahead .at)) (tier-pair (marketIn case) B seats s t (suc (ahead .at)) (coming .tier)) .within)
 
-        pub coming-as : (w : ℕ) → w ≡ word case (16 * getD pairs k 0 + 4) → Coming case B seats s t set held m old visits total openings k w (getD pairs k 0) (getD starts k 0)
+        pub coming-as : (w : ℕ) → w ≡ rowAt case (getD pairs k 0) .second → Coming case B seats s t set held m old visits total openings k w
+            (getD pairs k 0) (getD starts k 0)
         coming-as w e = rw (e ∙ pair-second case s (suc (ahead .at)) t (getD pairs k 0) (coming .pair) coming-within) coming
 
     -- the workshop has been dealt with

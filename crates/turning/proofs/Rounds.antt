@@ -5,16 +5,14 @@ use mathlib.Core.Logic.{⊎-elim}
 use mathlib.Core.Bool.{Bool, true, false, cond}
 use mathlib.Core.List.{List, [], _∷_, _++_}
 use native.Mathlib.Omega.{arith}
-use native.Mathlib.Numerals.{add-one}
 use lib.Dec.{eqb}
 use lib.ListN.{length, length-append}
 use borrow.Author.Tests.{eq-eqb, ne-eqb}
-use Rattle.base.specs.Lists.{one, count, total}
+use Rattle.base.specs.Lists.{one, count}
 use Rattle.base.proofs.Tests.{bool-cases, less?}
 use Rattle.lgs.specs.Market.{Market, Results}
-use Rattle.lgs.specs.Rule.{Interview, declined}
+use Rattle.lgs.specs.Rule.{Interview, unopened}
 use Rattle.format.specs.Buffers.{flat}
-use Rattle.model.specs.Store.{seatsFrom}
 use Rattle.model.specs.Turn.{RoundSoFar, dueAt, roundAt, roundTo, putAt, withMember}
 use Rattle.turning.specs.Round.{roundOf}
 use Rattle.turning.specs.declared.Round.{Round}
@@ -23,7 +21,8 @@ use Rattle.turning.proofs.Visits.{put-more, put-none, put-length, flat-
 pub count-to : (p : ℕ → Bool) (i n : ℕ) → i ≤ n → count p i ≤ count p n
 unfolding count
 count-to p i zero h = let e : i ≡ 0 = omega arith in rw e (omega arith)
-count-to p i (suc n) h = ⊎-elim (λ (l : i < suc n). omega (arith, count-to p i n (omega arith))) (λ (l : suc n ≤ i). let e : i ≡ suc n = omega arith in rw e (omega arith)) (less? i (suc n))
+count-to p i (suc n) h = ⊎-elim (λ (l : i < suc n). omega (arith, count-to p i n (omega arith)))
+    (λ (l : suc n ≤ i). let e : i ≡ suc n = omega arith in rw e (omega arith)) (less? i (suc n))
 
 module _ (M : Market) (B : Results) (seats : List ℕ) (s t set : ℕ) where
   abbrev pub soFar : ℕ → RoundSoFar
@@ -50,7 +49,8 @@ module _ (M : Market) (B : Results) (seats : List ℕ) (s t set : ℕ) where
       (λ (m : B .met s (suc k) ≡ false). rw (d, z, m) (omega arith)) (bool-cases (B .met s (suc k))))
       (λ (z : eqb (soFar k .missing) 0 ≡ false). rw (d, z) (omega arith)) (bool-cases (eqb (soFar k .missing) 0)))
       (λ (d : dueAt M B seats s t (suc k) ≡ false).
-      ⊎-elim (λ (z : eqb (soFar k .missing) 0 ≡ true). rw (d, z) (omega arith)) (λ (z : eqb (soFar k .missing) 0 ≡ false). rw (d, z) (omega arith)) (bool-cases (eqb (soFar k .missing) 0)))
+      ⊎-elim (λ (z : eqb (soFar k .missing) 0 ≡ true). rw (d, z) (omega arith)) (λ (z : eqb (soFar k .missing) 0 ≡ false). rw (d, z) (omega arith))
+      (bool-cases (eqb (soFar k .missing) 0)))
       (bool-cases (dueAt M B seats s t (suc k)))
 
   few : (k : ℕ) → length (soFar k .interviews) ≤ count (dueAt M B seats s t) k
@@ -72,7 +72,12 @@ module _ (M : Market) (B : Results) (seats : List ℕ) (s t set : ℕ) where
     -- it is, and its interview is held
     taken : B .met s (suc k) ≡ true
         → soFar (suc k)
-        ≡ record { interviews = soFar k .interviews ++ ((s, suc k) ∷ []); openings = cond (declined M B s (suc k)) (soFar k .openings) (withMember (soFar k .openings) (suc k)); missing = 0 }
+        ≡ record {
+          interviews = soFar k .interviews ++ ((s, suc k) ∷ []);
+          openings = cond (unopened M B s (suc k)) (soFar k .openings)
+              (withMember (soFar k .openings) (suc k));
+          missing = 0;
+        }
     unfolding roundAt
     taken m = come ∙ rw m
 
@@ -80,15 +85,6 @@ module _ (M : Market) (B : Results) (seats : List ℕ) (s t set : ℕ) where
     lacking : B .met s (suc k) ≡ false → soFar (suc k) ≡ record { interviews = soFar k .interviews; openings = soFar k .openings; missing = suc k }
     unfolding roundAt
     lacking m = come ∙ rw m
-
--- the seats of the first k workshops, and of one more
-pub seats-before : (M : Market) (k : ℕ) → total (M .quota) k ≡ seatsFrom M (k + 1)
-unfolding seatsFrom
-seats-before M k = ap (total (M .quota)) (omega arith)
-
-pub seats-more : (f : ℕ → ℕ) (k : ℕ) → total f (k + 1) ≡ total f k + f (k + 1)
-unfolding total
-seats-more f k = rw (add-one k) (omega arith)
 
 -- after the first k workshops, of `held` interviews before and the visits `old`
 pub record Rounding (M : Market) (B : Results) (seats : List ℕ) (s t set held : ℕ) (old visits : List ℕ) (total openings k : ℕ) : Type 0 where
@@ -117,7 +113,8 @@ module _ (M : Market) (B : Results) (seats : List ℕ) (s t set held : ℕ) (old
     module _ (room : 2 * (held + count (dueAt M B seats s t) n) ≤ length old) where
       pub round-length : k ≤ n → length visits ≡ length old
       round-length l =
-          let a : length (flat (roundTo M B seats s t set k .interviews)) ≡ 2 * length (roundTo M B seats s t set k .interviews) = flat-length (roundTo M B seats s t set k .interviews) in
+          let a : length (flat (roundTo M B seats s t set k .interviews)) ≡ 2 * length (roundTo M B seats s t set k .interviews) = flat-length
+          (roundTo M B seats s t set k .interviews) in
           ap length (r .written)
           ∙ put-length (flat (roundTo M B seats s t set k .interviews)) old (2 * held)
           (omega (arith, few M B seats s t set k, count-to (dueAt M B seats s t) k n l))
@@ -146,22 +143,36 @@ module _ (M : Market) (B : Results) (seats : List ℕ) (s t set held : ℕ) (old
               rw (a, r .written, flat-snoc vs s w) (put-more (flat vs) (s ∷ w ∷ []) old (2 * held) (omega (arith, round-room, round-length (omega arith))))
 
           pub round-held : B .met s w ≡ true
-              → Rounding M B seats s t set held old (putAt (2 * total) (s ∷ w ∷ []) visits) (total + 1) (cond (declined M B s w) openings (withMember openings w)) w
+              → Rounding M B seats s t set held old (putAt (2 * total) (s ∷ w ∷ []) visits) (total + 1)
+              (cond (unopened M B s w) openings (withMember openings w)) w
           round-held m =
               let vs : List Interview = roundTo M B seats s t set k .interviews in
               let q : roundTo M B seats s t set w
-              ≡ record { interviews = vs ++ ((s, w) ∷ []); openings = cond (declined M B s w) (roundTo M B seats s t set k .openings) (withMember (roundTo M B seats s t set k .openings) w); missing = 0 } = rw e (taken M B seats s t set k (r .on) due-next (rw e at m)) in
+              ≡ record {
+                interviews = vs ++ ((s, w) ∷ []);
+                openings = cond (unopened M B s w) (roundTo M B seats s t set k .openings)
+                    (withMember (roundTo M B seats s t set k .openings) w);
+                missing = 0;
+              } = rw e (taken M B seats s t set k (r .on) due-next (rw e at m)) in
               record { all = rw q (omega (arith, r .all, length-append vs ((s, w) ∷ []))); sets = rw (q, r .sets); on = rw q; written = rw q more }
 
           -- it is missing, and the round stops
-          pub round-missing : B .met s w ≡ false → Answers (record { count = total; openings = openings; missing = w }) visits held (roundTo M B seats s t set n) old
+          pub round-missing : B .met s w ≡ false → Answers (record { count = total; openings = openings; missing = w }) visits held
+              (roundTo M B seats s t set n) old
           round-missing m = rw whole (same, r .written)
             where
-              q : roundTo M B seats s t set (suc k) ≡ record { interviews = roundTo M B seats s t set k .interviews; openings = roundTo M B seats s t set k .openings; missing = suc k }
+              q : roundTo M B seats s t set (suc k) ≡ record
+                  { interviews = roundTo M B seats s t set k .interviews; openings = roundTo M B seats s t set k .openings; missing = suc k }
               q = lacking M B seats s t set k (r .on) due-next (rw e at m)
 
-              whole : roundTo M B seats s t set n ≡ record { interviews = roundTo M B seats s t set k .interviews; openings = roundTo M B seats s t set k .openings; missing = suc k }
+              whole : roundTo M B seats s t set n ≡ record
+                  { interviews = roundTo M B seats s t set k .interviews; openings = roundTo M B seats s t set k .openings; missing = suc k }
               whole = stays M B seats s t set (suc k) n l (λ z. let y : suc k ≡ 0 = rw q at z in omega arith) ∙ q
 
-              same : _≡_ {A = Round} (record { count = total; openings = openings; missing = w }) (record { count = held + length (roundTo M B seats s t set k .interviews); openings = roundTo M B seats s t set k .openings; missing = suc k })
+              same : _≡_ {A = Round} (record { count = total; openings = openings; missing = w })
+                  (record {
+                    count = held + length (roundTo M B seats s t set k .interviews);
+                    openings = roundTo M B seats s t set k .openings;
+                    missing = suc k;
+                  })
               same = rw (r .all, r .sets, e)

@@ -7,51 +7,43 @@ use mathlib.Core.List.{List, [], _∷_}
 use mathlib.Core.List.{List·Memᴰ as Mem, List·Memᴰ·head as here, List·Memᴰ·tail as later}
 use native.Mathlib.Omega.{arith}
 use lib.Dec.{eqb, ltb}
-use lib.ListN.{length, getD, drop}
-use lib.Seq.{getD-take, getD-drop}
+use lib.ListN.{length, getD}
 use borrow.Author.Tests.{eq-eqb, ne-eqb, eqb-false, not-true}
-use Rattle.base.specs.Lists.{count, total, upto}
+use Rattle.base.specs.Lists.{count, upto}
 use Rattle.base.specs.Bits.{member, members}
 use Rattle.base.proofs.Tests.{bool-cases, eq?, less?}
-use Rattle.base.proofs.Counting.{total-grows}
 use Rattle.base.proofs.Members.{keep-in, picked}
 use Rattle.base.proofs.Signed.{same-eq}
 use Rattle.base.proofs.Digits.{count-empty, empty-count}
-use Rattle.lgs.specs.Market.{Market, Results, studentOutside}
+use Rattle.lgs.specs.Market.{Market, Results, studentOutside, seatsOf, seatsBefore}
 use Rattle.format.specs.Buffers.{flat}
 use Rattle.format.specs.Engine.{marketIn, resultsIn}
 use Rattle.api.specs.declared.StudentState.{StudentState}
 use Rattle.model.specs.declared.Run.{Run}
-use Rattle.model.specs.Model.{favourite}
-use Rattle.model.specs.Store.{seatsFrom, part, putPart, lastOf, pushPadded}
+use Rattle.lgs.specs.Rule.{best}
+use Rattle.model.specs.Store.{part, putPart, lastOf, pushPadded}
 use Rattle.model.specs.Turn.{toldState, favouriteIn, RoundSoFar, dueAt, roundTo, putAt, nextRun, afterRound, afterSeating, openTier, applyTo, turnOf}
 use Rattle.model.specs.Ready.{Booked, Ready}
-use Rattle.seating.proofs.Laws.{positive, last-none, last-some}
+use Rattle.model.proofs.Storage.{part-inside}
+use Rattle.model.proofs.Parts.{last-at}
+use Rattle.seating.proofs.Laws.{positive, last-none}
 use Rattle.lookup.specs.Clean.{Clean}
 use Rattle.turning.specs.Round.{SeatsAt, SeatedAll, roundOf}
 use Rattle.turning.specs.declared.Round.{Round}
-
--- the last seat of a workshop is the last of its part
-last-seat : (M : Market) (seats : List ℕ) (w : ℕ) → (M .quota w ≡ 0 → ⊥) → lastOf M seats w ≡ getD (part M seats w) (M .quota w - 1) 0
-unfolding part
-last-seat M seats w z =
-    let p : 0 < M .quota w = positive (M .quota w) z in
-    let e : seatsFrom M w + M .quota w - 1 ≡ seatsFrom M w + (M .quota w - 1) = omega arith in
-    let l : getD seats (seatsFrom M w + M .quota w - 1) 0 ≡ lastOf M seats w = last-some M seats w (seatsFrom M w) (M .quota w) refl refl z in
-    sym l ∙ rw (e, getD-take (M .quota w) (drop (seatsFrom M w) seats) (M .quota w - 1) 0 (omega arith), getD-drop (seatsFrom M w) seats (M .quota w - 1) 0)
 
 module _ (M : Market) (B : Results) (seats : List ℕ) (a : SeatedAll M B seats) (w : ℕ) (l : 1 ≤ w) (h : w ≤ M .workshops) where
   last-booked : 0 < lastOf M seats w → Booked M B (lastOf M seats w) w
   last-booked p =
       ⊎-elim
-      (λ (z : M .quota w ≡ 0). absurd (omega (arith, last-none M seats w (seatsFrom M w) (M .quota w) refl refl z, p)))
-      (λ (z : M .quota w ≡ 0 → ⊥).
-      let e : lastOf M seats w ≡ getD (part M seats w) (M .quota w - 1) 0 = last-seat M seats w z in
-      rw e (a .seated w l h (M .quota w - 1) (omega (arith, positive (M .quota w) z)) (omega (arith, e, p))))
-      (eq? (M .quota w) 0)
+      (λ (z : seatsOf M w ≡ 0). absurd (omega (arith, last-none M seats w (seatsBefore M w) (seatsOf M w) refl refl z, p)))
+      (λ (z : seatsOf M w ≡ 0 → ⊥).
+      let q : 0 < seatsOf M w = positive (seatsOf M w) z in
+      let e : lastOf M seats w ≡ getD (part M seats w) (seatsOf M w - 1) 0 = last-at M seats (a .long) w l h q in
+      rw e (a .seated w l h (seatsOf M w - 1) (omega arith) (omega (arith, e, p))))
+      (eq? (seatsOf M w) 0)
 
-  pub long-to : total (M .quota) w ≤ length seats
-  long-to = omega (arith, total-grows (M .quota) w (M .workshops) h, a .long)
+  pub long-to : seatsBefore M w + seatsOf M w ≤ length seats
+  long-to = omega (arith, part-inside M w l h, a .long)
 
 pub seats-at : {case book index : List ℕ} {n m : ℕ} (k : Clean case book index n m) (seats : List ℕ)
     → SeatedAll (marketIn case) (resultsIn book) seats
@@ -62,7 +54,7 @@ pub seats-at : {case book index : List ℕ} {n m : ℕ} (k : Clean case book ind
 seats-at {case} {book} {index} {n} {m} k seats a w l h =
     let u : w ≤ marketIn case .workshops = omega (arith, k .workshops) in
     record {
-      workshop = (l, omega (arith, k .manyWorkshops));
+      workshop = (l, omega (arith, k .found .manyWorkshops));
       each = λ v p q. k .workshop v p (omega arith);
       long = long-to (marketIn case) (resultsIn book) seats a w l u;
       last = λ z. k .pair (lastOf (marketIn case) seats w) w (last-booked (marketIn case) (resultsIn book) seats a w l u z .pair);
@@ -118,7 +110,8 @@ module _ (M : Market) (B : Results) (visits seats : List ℕ) (k : StudentState)
     open-visits new a = a ∙ sym (rw same-round)
 
   -- she applies to workshop c, or to nobody
-  pub apply-none : (c : ℕ) (next : Run) → c ≡ 0 → next ≡ nextRun M B r → (record { state = k; run = next } ≡ applyTo M B visits seats k r c .turned) × (seats ≡ applyTo M B visits seats k r c .seats)
+  pub apply-none : (c : ℕ) (next : Run) → c ≡ 0 → next ≡ nextRun M B r → (record { state = k; run = next } ≡ applyTo M B visits seats k r c .turned) ×
+      (seats ≡ applyTo M B visits seats k r c .seats)
   unfolding applyTo
   apply-none c next z e = rw (z, e) (refl, refl)
 
@@ -127,7 +120,8 @@ module _ (M : Market) (B : Results) (visits seats : List ℕ) (k : StudentState)
       → new ≡ putPart M seats c (pushPadded M B c (r .hand) (part M seats c) .0)
       → x ≡ pushPadded M B c (r .hand) (part M seats c) .1
       → next ≡ afterSeating M B r c x
-      → (record { state = record { reached = k .reached; held = c; openings = k .openings }; run = next } ≡ applyTo M B visits seats k r c .turned) × (new ≡ applyTo M B visits seats k r c .seats)
+      → (record { state = record { reached = k .reached; held = c; openings = k .openings }; run = next } ≡ applyTo M B visits seats k r c .turned) ×
+      (new ≡ applyTo M B visits seats k r c .seats)
   unfolding applyTo
   apply-some zero x new next z a b e = absurd (z refl)
   apply-some (suc c) x new next z a b e = (rw (e, b), a)
@@ -138,7 +132,8 @@ module _ (M : Market) (B : Results) (visits seats : List ℕ) (k : StudentState)
     unfolding turnOf
     turn-opens h = rw (← e, ← q, h)
 
-    pub turn-applies : (eqb (t .openings) 0 && not o) ≡ false → turnOf M B visits seats k r ≡ applyTo M B visits seats t r (favouriteIn M B (r .hand) o (t .openings))
+    pub turn-applies : (eqb (t .openings) 0 && not o) ≡ false → turnOf M B visits seats k r ≡ applyTo M B visits seats t r
+        (favouriteIn M B (r .hand) o (t .openings))
     unfolding turnOf
     turn-applies h = rw (← e, ← q, h)
 
@@ -168,10 +163,11 @@ module _ (M : Market) (B : Results) (r : Run) (o : Round) (s : RoundSoFar) (e : 
       rw (e, ne-eqb (s .missing) 0 z)
 
 -- ---- the best of what is open is one of them, or 0
-best-of : (M : Market) (B : Results) (s : ℕ) (P : ℕ → Type 0) (x : ℕ) (xs : List ℕ) → P x → ((y : ℕ) → Mem y xs → P y) → P (favourite M B s x xs)
-unfolding favourite
+best-of : (M : Market) (B : Results) (s : ℕ) (P : ℕ → Type 0) (x : ℕ) (xs : List ℕ) → P x → ((y : ℕ) → Mem y xs → P y) → P (best M B s x xs)
+unfolding best
 best-of M B s P x xs p f =
-    picked (λ y z. ltb (B .studentScore s z) (B .studentScore s y)) (λ y z. Unit {0}) P (λ y. tt) (λ u v w a b. tt) (λ u v a b e. tt) (λ u v a b e. tt) x xs p f .chosen
+    picked (λ y z. ltb (B .studentScore s z) (B .studentScore s y)) (λ y z. Unit {0}) P (λ y. tt) (λ u v w a b. tt) (λ u v a b e. tt)
+    (λ u v a b e. tt) x xs p f .chosen
 
 module _ (M : Market) (B : Results) (s set : ℕ) (P : ℕ → Type 0) (z : P 0) (f : (w : ℕ) → member set w ≡ true → P w) where
   listed : (y : ℕ) → Mem y (members set) → P y
@@ -183,7 +179,7 @@ module _ (M : Market) (B : Results) (s set : ℕ) (P : ℕ → Type 0) (z : P 0)
   best-known true = best-of M B s P 0 (members set) z listed
   best-known false = go (members set) listed
     where
-      go : (l : List ℕ) → ((y : ℕ) → Mem y l → P y) → P (elim l [ [] ↦ 0 | x ∷ xs ↦ favourite M B s x xs ])
+      go : (l : List ℕ) → ((y : ℕ) → Mem y l → P y) → P (elim l [ [] ↦ 0 | x ∷ xs ↦ best M B s x xs ])
       go [] g = z
       go (x ∷ xs) g = best-of M B s P x xs (g x (here refl)) (λ y m. g y (later m))
 

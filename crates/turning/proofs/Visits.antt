@@ -22,7 +22,8 @@ pub put-more : (xs ys l : List ℕ) (i : ℕ) → i + length (xs ++ ys) ≤ leng
 put-more xs ys l i h =
     let n : length (xs ++ ys) ≡ length xs + length ys = length-append xs ys in
     let a : sets l i xs ≡ putAt i xs l = put-at xs l i (omega arith) in
-    let b : sets (sets l i xs) (i + length xs) ys ≡ putAt (i + length xs) ys (sets l i xs) = put-at ys (sets l i xs) (i + length xs) (omega (arith, length-sets l i xs)) in
+    let b : sets (sets l i xs) (i + length xs) ys ≡ putAt (i + length xs) ys (sets l i xs) = put-at ys (sets l i xs) (i + length xs)
+    (omega (arith, length-sets l i xs)) in
     rw (← a, ← b, sets-more xs ys l i) (put-at (xs ++ ys) l i h)
 
 pub put-none : (l : List ℕ) (i : ℕ) → putAt i [] l ≡ l

@@ -5,27 +5,27 @@ use mathlib.Core.Bool.{Bool, true, _&&_}
 use mathlib.Core.List.{List}
 use lib.ListN.{length, getD}
 use lib.Dec.{eqb}
-use Rattle.base.specs.Lists.{count, total}
-use Rattle.lgs.specs.Market.{Market, Results}
+use Rattle.base.specs.Lists.{count}
+use Rattle.lgs.specs.Market.{Market, Results, seatsOf, seatsBefore, allSeats}
 use Rattle.format.specs.Engine.{marketIn}
 use Rattle.records.specs.Records.{pairPlace}
-use Rattle.model.specs.Store.{part, lastOf, seatsFrom}
+use Rattle.model.specs.Store.{part, lastOf}
 use Rattle.model.specs.Turn.{RoundSoFar}
 use Rattle.model.specs.Ready.{Booked}
 use Rattle.lookup.specs.Clean.{WorkshopAt, PairAt}
 use Rattle.turning.specs.declared.Round.{Round}
 
--- with n students: the seats of workshops 1 to w are there, and whoever has w's last seat has a pair with it
+-- with n students: the part of workshop w is there, and whoever has its last seat has a pair with it
 pub record SeatsAt (case seats : List ℕ) (n w : ℕ) : Type 0 where
   pub workshop : (1 ≤ w) × (w ≤ 64)
   pub each : (v : ℕ) → 1 ≤ v → v ≤ w → WorkshopAt case n v
-  pub long : total (marketIn case .quota) w ≤ length seats
+  pub long : seatsBefore (marketIn case) w + seatsOf (marketIn case) w ≤ length seats
   pub last : 0 < lastOf (marketIn case) seats w → PairAt case (lastOf (marketIn case) seats w) w
 
 -- all seats are there, and whoever has one has been interviewed
 pub record SeatedAll (M : Market) (B : Results) (seats : List ℕ) : Type 0 where
-  pub long : total (M .quota) (M .workshops) ≤ length seats
-  pub seated : (w : ℕ) → 1 ≤ w → w ≤ M .workshops → (i : ℕ) → i < M .quota w → 0 < getD (part M seats w) i 0 → Booked M B (getD (part M seats w) i 0) w
+  pub long : allSeats M ≤ length seats
+  pub seated : (w : ℕ) → 1 ≤ w → w ≤ M .workshops → (i : ℕ) → i < seatsOf M w → 0 < getD (part M seats w) i 0 → Booked M B (getD (part M seats w) i 0) w
 
 -- the code's answer, where `count` interviews were held before
 abbrev pub roundOf : ℕ → RoundSoFar → Round
@@ -40,4 +40,5 @@ inTier M s t w = M .paired s w && eqb (M .studentTier s w) t
 pub record TierListed (case : List ℕ) (s t m n : ℕ) (pairs starts : List ℕ) : Type 0 where
   pub many : n ≡ count (inTier (marketIn case) s t) m
   pub pair : (v : ℕ) → v < m → inTier (marketIn case) s t (suc v) ≡ true → getD pairs (count (inTier (marketIn case) s t) v) 0 ≡ pairPlace case s (suc v)
-  pub start : (v : ℕ) → v < m → inTier (marketIn case) s t (suc v) ≡ true → getD starts (count (inTier (marketIn case) s t) v) 0 ≡ seatsFrom (marketIn case) (suc v)
+  pub start : (v : ℕ) → v < m → inTier (marketIn case) s t (suc v) ≡ true → getD starts (count (inTier (marketIn case) s t) v) 0 ≡ seatsBefore
+      (marketIn case) (suc v)

@@ -5,19 +5,20 @@ ghost use mathlib.Core.List.{List, [], _∷_};
 ghost use Prim.Native.Nat.{ℕ, suc, _+_, _-_, _*_, _≤_, _<_};
 ghost use lib.ListN.{length};
 ghost use lib.Dec.{eqb, ltb};
-ghost use Rattle.base.specs.Lists.{one, count};
+ghost use Rattle.base.specs.Lists.{count};
 ghost use Rattle.base.specs.Words.{biased};
 ghost use Rattle.base.specs.Bits.{member, members};
-ghost use Rattle.lgs.specs.Market.{Market, Results};
-ghost use Rattle.lgs.specs.Rule.{declined};
+ghost use Rattle.lgs.specs.Market.{Market, Results, seatsOf, seatsBefore};
+ghost use Rattle.lgs.specs.Rule.{unopened, best};
 ghost use Rattle.format.specs.Layout.{rowAt, rowCount, entryAt, entryCount};
 ghost use Rattle.format.specs.Buffers.{flat};
 ghost use Rattle.format.specs.Engine.{marketIn, resultsIn};
-ghost use Rattle.model.specs.Model.{favourite, shutBy};
-ghost use Rattle.model.specs.Store.{comesAfter, nextIn, seatsFrom, lastOf};
+ghost use Rattle.model.specs.Model.{shutBy};
+ghost use Rattle.model.specs.Store.{comesAfter, nextIn, lastOf};
 ghost use Rattle.model.specs.Turn.{toldState, withMember, favouriteIn, RoundSoFar, dueAt, roundTo, putAt, nextRun, afterRound, afterSeating, openTier, applyTo, turnOf, beginRun};
 ghost use Rattle.model.specs.Ready.{Booked, Ready};
-ghost use Rattle.lookup.specs.Clean.{StudentAt, WorkshopAt, PairAt, PairsFound, Clean};
+ghost use Rattle.records.specs.Records.{PairsFound};
+ghost use Rattle.lookup.specs.Clean.{StudentAt, WorkshopAt, PairAt, Clean};
 ghost use Rattle.turning.specs.Round.{SeatsAt, SeatedAll, roundOf, TierListed};
 use api::StudentState;
 use model::Run;
@@ -153,7 +154,7 @@ fn best_from(
     requires { ⌜ Clean (now case) (now book) (now index) students workshops ⌝ }
     requires { ⌜ (0 < start → Booked (marketIn (now case)) (resultsIn (now book)) s start) ⌝ }
     requires { ⌜ ((w : ℕ) → member set w ≡ true → Booked (marketIn (now case)) (resultsIn (now book)) s w) ⌝ }
-    ensures { λ r. ⌜ r ≡ favourite (marketIn (now (case .entry))) (resultsIn (now (book .entry))) s start (members set) ⌝ }
+    ensures { λ r. ⌜ r ≡ best (marketIn (now (case .entry))) (resultsIn (now (book .entry))) s start (members set) ⌝ }
 {
     let mut best = start;
     let mut top = score_of(case, book, index, students, workshops, s, start);
@@ -215,10 +216,10 @@ fn is_full_above(
     if l == 0 {
         return false; // the last seat is free
     }
-    lookup::workshop_tier(case, lookup::pair_of(case, students, workshops, l, w)) < tier
+    lookup::workshop_tier(case, records::pair_of(case, students, workshops, l, w)) < tier
 }
 
-// Workshop w, whose `quota` seats stand from place `from` on, is not to be interviewed by a student whom it has in this tier: it has no seats, she is
+// Workshop w, whose `many` seats stand from place `from` on, is not to be interviewed by a student whom it has in this tier: it has no seats, she is
 // beyond its outside tier, or it is full of students in better tiers.
 fn is_shut(
     case: &[u8],
@@ -227,30 +228,33 @@ fn is_shut(
     workshops: usize,
     w: usize,
     from: usize,
-    quota: usize,
+    many: usize,
     tier: u16,
 ) -> bool
     requires { ⌜ PairsFound (now case) students workshops ⌝ }
     requires { ⌜ SeatsAt (now case) (now seats) students w ⌝ }
-    requires { ⌜ (from ≡ seatsFrom (marketIn (now case)) w) × (quota ≡ marketIn (now case) .quota w) ⌝ }
-    ensures { λ r. ⌜ ((B : Results) (s : ℕ) → tier ≡ marketIn (now (case .entry)) .workshopTier w s → r ≡ shutBy (marketIn (now (case .entry))) B (lastOf (marketIn (now (case .entry))) (now (seats .entry)) w) s w) ⌝ }
+    requires { ⌜ (from ≡ seatsBefore (marketIn (now case)) w) × (many ≡ seatsOf (marketIn (now case)) w) ⌝ }
+    ensures { λ r. ⌜ ((B : Results) (s : ℕ) → tier ≡ marketIn (now (case .entry)) .workshopTier w s
+        → r ≡ shutBy (marketIn (now (case .entry))) B (lastOf (marketIn (now (case .entry))) (now (seats .entry)) w) s w) ⌝ }
 {
-    if quota == 0 {
+    if many == 0 {
         return true;
     }
     if lookup::workshop_outside(case, students, w) < tier {
         return true;
     }
-    let l = seating::last_of(seats, from, quota) as usize;
+    let l = seating::last_of(seats, from, many) as usize;
     is_full_above(case, students, workshops, w, l, tier)
 }
 
 // "She is in that workshop's line group with a negative mark": workshop w does not take the student whose pair with it has the record `pair`, and
 // whose interview is book record e - 1.
-fn is_declined(case: &[u8], book: &[u8], students: usize, w: usize, pair: usize, e: usize) -> bool
+fn is_unopened(case: &[u8], book: &[u8], students: usize, w: usize, pair: usize, e: usize) -> bool
     requires { ⌜ WorkshopAt (now case) students w ⌝ }
     requires { ⌜ (pair < rowCount (now case)) × (1 ≤ e) × (e ≤ entryCount (now book)) ⌝ }
-    ensures { λ r. ⌜ ((s : ℕ) → rowAt (now (case .entry)) pair .fourth ≡ marketIn (now (case .entry)) .workshopTier w s → entryAt (now (book .entry)) (e - 1) .workshopScore ≡ resultsIn (now (book .entry)) .workshopScore w s → r ≡ declined (marketIn (now (case .entry))) (resultsIn (now (book .entry))) s w) ⌝ }
+    ensures { λ r. ⌜ ((s : ℕ) → rowAt (now (case .entry)) pair .fourth ≡ marketIn (now (case .entry)) .workshopTier w s
+        → entryAt (now (book .entry)) (e - 1) .workshopScore ≡ resultsIn (now (book .entry)) .workshopScore w s
+        → r ≡ unopened (marketIn (now (case .entry))) (resultsIn (now (book .entry))) s w) ⌝ }
 {
     if lookup::workshop_tier(case, pair) == lookup::workshop_outside(case, students, w) {
         records::negative(lookup::workshop_score(book, e))
@@ -288,19 +292,14 @@ fn opened(
 ) -> u64
     requires { ⌜ (w ≤ 64) × WorkshopAt (now case) students w ⌝ }
     requires { ⌜ (pair < rowCount (now case)) × (1 ≤ e) × (e ≤ entryCount (now book)) ⌝ }
-    ensures { λ r. ⌜ ((s : ℕ) → rowAt (now (case .entry)) pair .fourth ≡ marketIn (now (case .entry)) .workshopTier w s → entryAt (now (book .entry)) (e - 1) .workshopScore ≡ resultsIn (now (book .entry)) .workshopScore w s → r ≡ cond (declined (marketIn (now (case .entry))) (resultsIn (now (book .entry))) s w) set (withMember set w)) ⌝ }
+    ensures { λ r. ⌜ ((s : ℕ) → rowAt (now (case .entry)) pair .fourth ≡ marketIn (now (case .entry)) .workshopTier w s
+        → entryAt (now (book .entry)) (e - 1) .workshopScore ≡ resultsIn (now (book .entry)) .workshopScore w s
+        → r ≡ cond (unopened (marketIn (now (case .entry))) (resultsIn (now (book .entry))) s w) set (withMember set w)) ⌝ }
 {
-    if is_declined(case, book, students, w, pair, e) {
+    if is_unopened(case, book, students, w, pair, e) {
         return set;
     }
     bits::with_bit(set, w)
-}
-
-// 1 where the test holds, and else 0.
-fn one_if(b: bool) -> usize
-    ensures { λ r. ⌜ (r ≡ one b) × (r ≤ 1) ⌝ }
-{
-    if b { 1 } else { 0 }
 }
 
 // How many workshops are of the student's tier `tier`; of each, in rising number, its pair's record and where its seats start are written. Every
@@ -326,13 +325,13 @@ fn list_tier(
     let mut done = 0;
     while done < workshops {
         let w = done + 1;
-        let pair = lookup::pair_of(case, students, workshops, s, w);
+        let pair = records::pair_of(case, students, workshops, s, w);
         pairs[n] = pair;
         starts[n] = from;
-        from += lookup::quota_of(case, students, w) as usize;
+        from = seating::end_of(case, students, w, from);
         done = w;
         if pair < rows {
-            n += one_if(lookup::student_tier(case, pair) == tier);
+            n += records::one_if(lookup::student_tier(case, pair) == tier);
         }
     }
     n
@@ -357,7 +356,8 @@ fn hold_round(
     requires { ⌜ ((w : ℕ) → 1 ≤ w → w ≤ workshops → SeatsAt (now case) (now seats) students w) ⌝ }
     requires { ⌜ 2 * (held + count (dueAt (marketIn (now case)) (resultsIn (now book)) (now seats) s tier) workshops) ≤ length (now visits) ⌝ }
     ensures { λ r. ⌜ r ≡ roundOf held (roundTo (marketIn (now (case .entry))) (resultsIn (now (book .entry))) (now (seats .entry)) s tier set workshops) ⌝ }
-    ensures { λ r. ⌜ now (visits .exit) ≡ putAt (2 * held) (flat (roundTo (marketIn (now (case .entry))) (resultsIn (now (book .entry))) (now (seats .entry)) s tier set workshops .interviews)) (now (visits .entry)) ⌝ }
+    ensures { λ r. ⌜ now (visits .exit) ≡ putAt (2 * held)
+        (flat (roundTo (marketIn (now (case .entry))) (resultsIn (now (book .entry))) (now (seats .entry)) s tier set workshops .interviews)) (now (visits .entry)) ⌝ }
 {
     let mut pairs = [0usize; 64];
     let mut starts = [0usize; 64];
@@ -368,10 +368,10 @@ fn hold_round(
     while k < n {
         let pair = pairs[k];
         let from = starts[k];
-        let w = records::u16_at(case, 16 * pair + 4) as usize;
-        let quota = lookup::quota_of(case, students, w) as usize;
+        let w = records::second_at(case, pair) as usize;
+        let many = seating::seats_of(case, students, w);
         let its_tier = lookup::workshop_tier(case, pair);
-        if is_shut(case, seats, students, workshops, w, from, quota, its_tier) {
+        if is_shut(case, seats, students, workshops, w, from, many, its_tier) {
             k += 1;
         } else {
             let e = lookup::entry_of(index, students + workshops, pair);

@@ -1,9 +1,12 @@
 -- A `&κ mut [T]` that is lent again for a lifetime κ′ of a call, and comes back: `Denote/Lend.antt`'s `lends-again` and `comes-back`, of a slice.
---     LentAgain        what the holder keeps while the slice is lent again under the name γ₁: the lender's part at κ′, and its own borrow at κ, open, with both halves of its ghost variable
+-- LentAgain        what the holder keeps while the slice is lent again under the name γ₁: the lender's part at κ′, and its own borrow at κ, open,
+-- with both halves of its ghost variable
 --     lends-again      own (the `&κ mut [T]` ((b, o), γ, ys)) ∗ [κ]_q  ⊢ ⇛ ∃ γ₁. own (the `&κ′ mut [T]` ((b, o), γ₁, ys)) ∗ LentAgain γ₁
 --     comes-back       given `Room` and that zs is as long as ys:  [†κ′] ∗ LentAgain γ₁ ∗ finally γ₁ zs  ⊢ ⇛ (own (the `&κ mut [T]` ((b, o), γ, zs)) ∗ [κ]_q)
--- The same as steps of `Types/Kit.antt`'s calculus, for a slice of m elements, whose machine value `sliceVal (b, o) m` stays as the list changes: what a loop needs, which lends the slice again in each turn.
---     lends-on         own (the `&κ mut [T]` ((b, o), γ, us)) ∗ [κ]_q   becomes, at a new lifetime ν and some name δ,   own (the `&ν mut [T]` ((b, o), δ, us)) ∗ [ν]_1 ∗ LentAgain δ us
+-- The same as steps of `Types/Kit.antt`'s calculus, for a slice of m elements, whose machine value `sliceVal (b, o) m` stays as the list changes:
+-- what a loop needs, which lends the slice again in each turn.
+-- lends-on         own (the `&κ mut [T]` ((b, o), γ, us)) ∗ [κ]_q   becomes, at a new lifetime ν and some name δ,   own (the `&ν mut [T]` ((b, o), δ,
+-- us)) ∗ [ν]_1 ∗ LentAgain δ us
 --     back-on          [ν]_1 ∗ LentAgain δ us ∗ finally δ zs   becomes   own (the `&κ mut [T]` ((b, o), γ, zs)) ∗ [κ]_q.        The lifetime ν is ended
 -- Assumes `Given`.
 use mathlib.Core.Path.{_≡_, refl, sym, _∙_, ap, subst}
@@ -18,7 +21,8 @@ use base.Logic.{ent, sep, ex}
 use base.Fml.{Lft, GName, Share, Fml, fsep, flft, fdead, fobs, fauth, flent, fobor}
 use prog.Wp.{Heap}
 use ghost.Atoms.{Atoms, sem}
-use types.Kit.{Given, Goal, Soaks, Item, Seq, Step, step, rewrite, use2, ‵, _⊛_, some, later, _$_, _∵_, !, qed, move, use1, use3, drop, split, pick, fsplit, fjoin, frame, await, updating, now as at-once, show, done}
+use types.Kit.{Given, Goal, Soaks, Item, Seq, Step, step, rewrite, use2, ‵, _⊛_, some, later, _$_, _∵_, !, qed, move, use1, use3, drop, split, pick}
+use types.Kit.{fsplit, fjoin, frame, await, updating, now as at-once, show, done}
 use types.Tokens.{lft-new, lft-end}
 use types.SemTy.{cells, Arr}
 use denote.RattleType.{RattleType}
@@ -44,7 +48,8 @@ module _ (R : RattleType) (κ κ′ : Lft) (q : Share) (γ : GName) (b o : ℕ) 
     pub lends-again : ent 𝓤 (sep 𝓤 (sem 𝓤 H A (MutSlice ℓ κ R .own (at-list γ ys) vals)) (A .lft κ q))
         (H .⇛ (ex 𝓤 (λ (γ₁ : GName). sep 𝓤 (sem 𝓤 H A (MutSlice ℓ′ κ′ R .own (at-list γ₁ ys) vals)) (sem 𝓤 H A (LentAgain γ₁ ys)))))
     lends-again =
-        qed W (‵ (MutSlice ℓ κ R .own (at-list γ ys) vals) ∷ ‵ (flft κ q) ∷ []) ∵ updating ! $ fsplit ! $ pureL ! (at-slice R (at-list γ ys) vals) (λ p. fsplit ! $
+        qed W (‵ (MutSlice ℓ κ R .own (at-list γ ys) vals) ∷ ‵ (flft κ q) ∷ []) ∵ updating ! $ fsplit ! $ pureL ! (at-slice R (at-list γ ys) vals)
+        (λ p. fsplit ! $
         opens-slice ! tt R ys b o $
         use1 W (‵ (cells (mem R) ys b o)) (whole-in 𝓤 H A W R ys b o) $
         use1 W (later (some (λ (γ₁ : GName). ‵ (MutSlice ℓ′ κ′ R .own (at-list γ₁ ys) vals) ⊛ ‵ (flent κ′ (Held R (length ys) b o γ₁)))))
@@ -61,7 +66,8 @@ module _ (R : RattleType) (κ κ′ : Lft) (q : Share) (γ : GName) (b o : ℕ) 
         use3 W (later (‵ (Arr (mem R) (length ys) .lies zs b o))) (slice-back 𝓤 H A W R κ′ γ₁ zs (length ys) b o) $ await ! tt $ fsplit ! $ drop ! $
         use1 W (‵ (row R fullShare zs b o)) (whole-out 𝓤 H A W R zs b o) $
         move ! (1 ∷ []) $ fsplit ! $ move ! (1 ∷ []) $ fsplit ! $ move ! (3 ∷ 2 ∷ 0 ∷ 1 ∷ []) $ closes-slice ! tt R ys zs e b o $ at-once ! $
-        fjoin ! $ pureI ! (at-slice R (at-list γ zs) vals) (tt, (tt, tt)) (ap (λ (m : ℕ). sliceVal (b, o) m ∷ []) (sym e), subst (Room R) (sym e) room) $ fjoin ! $
+        fjoin ! $ pureI ! (at-slice R (at-list γ zs) vals) (tt, (tt, tt))
+        (ap (λ (m : ℕ). sliceVal (b, o) m ∷ []) (sym e), subst (Room R) (sym e) room) $ fjoin ! $
         done !
 
 module _ {M : Type 1} {𝓤 : URA M} {H : Heap 𝓤} {A : Atoms 𝓤} {K : Type 0} {W : Given 𝓤 H A} {Γ : List (Item 𝓤)} {G : Goal 𝓤 H} where
@@ -77,7 +83,8 @@ module _ {M : Type 1} {𝓤 : URA M} {H : Heap 𝓤} {A : Atoms 𝓤} {K : Type 
       await t z $ pick t (λ δ. split t $ rewrite t 0 (λ (j : ℕ). ‵ (MutSlice ℓ′ (ν ∷ []) R .own (record { ptr = (b, o); name = δ; now = us })
       (sliceVal (b, o) j ∷ []))) e refl $ move t (0 ∷ 2 ∷ 1 ∷ []) $ k ν δ))
 
-  pub back-on : K → Soaks G → (R : RattleType) (ℓ : Lifetime) (κ : Lft) (q : Share) (γ : GName) (b o m : ℕ) (ν : ℕ) (δ : GName) (us zs : List (R .Denot)) → Room R m
+  pub back-on : K → Soaks G → (R : RattleType) (ℓ : Lifetime) (κ : Lft) (q : Share) (γ : GName) (b o m : ℕ) (ν : ℕ) (δ : GName)
+      (us zs : List (R .Denot)) → Room R m
       → length us ≡ m → length zs ≡ m
       → Step K W (‵ (MutSlice ℓ κ R .own (record { ptr = (b, o); name = γ; now = zs }) (sliceVal (b, o) m ∷ [])) ∷ ‵ (flft κ q) ∷ Γ) G
       (‵ (flft (ν ∷ []) fullShare) ∷ ‵ (LentAgain R κ (ν ∷ []) q γ b o δ us) ∷ ‵ (finally R δ zs) ∷ Γ) G

@@ -1,4 +1,5 @@
--- The call rule in one step, for a callee whose result is plain data: what the caller has afterwards is the fact that the callee ensures of the result, and the result's machine value written out.
+-- The call rule in one step, for a callee whose result is plain data: what the caller has afterwards is the fact that the callee ensures of the
+-- result, and the result's machine value written out.
 --     calls-plain      the callee borrows nothing: what it asks is had for nothing, `emp ⊢ pre`, and nothing comes back but the result.
 --     calls-out        what the callee asks stands at the head of the context (`pre`), and what `fin` says of the last values and the tokens comes back there
 -- Assumes `Given`, and that the table of calls is monotone under a frame.
@@ -28,7 +29,8 @@ use denote.Triple.Statement.{Triple}
 abbrev pub Out : (S : Signature) → Lfts (S .lifetimes) → RattleType
 Out S κs = typeAt (S .result) κs
 
-module _ {M : Type 1} {𝓤 : URA M} {H : Heap 𝓤} {A : Atoms 𝓤} {K : Type 0} {W : Given 𝓤 H A} {Γ : List (Item 𝓤)} {E : Env 𝓤 H} {C : Calls 𝓤 H} {Λ : Loops 𝓤 H} {q : Post 𝓤 H} {f : Name} {xs : List Operand} {d : Place} {rest : Body} where
+module _ {M : Type 1} {𝓤 : URA M} {H : Heap 𝓤} {A : Atoms 𝓤} {K : Type 0} {W : Given 𝓤 H A} {Γ : List (Item 𝓤)} {E : Env 𝓤 H} {C : Calls 𝓤 H}
+    {Λ : Loops 𝓤 H} {q : Post 𝓤 H} {f : Name} {xs : List Operand} {d : Place} {rest : Body} where
   -- what the callee asks stands at the head; what is made of its `ensures` at the result r is `fin r`
   pub calls-out : K → FmC 𝓤 H (W .laws) C → (S : Signature) (s : Spec 𝓤 S) → Triple 𝓤 (C f) (tripleOf 𝓤 H A S s) → (x : tripleOf 𝓤 H A S s .Ghost)
       → (fin : Out S (x .0 .0) .Denot → Item 𝓤) → ((r : Out S (x .0 .0) .Denot) → ent 𝓤 (s (x .0 .0) (x .0 .3) .ensures (x .1) r) (mean 𝓤 H A (fin r)))

@@ -16,7 +16,8 @@ use base.Logic.{ent}
 use base.Fml.{GName, fsep, fat, flft, flent}
 use prog.Wp.{Heap}
 use ghost.Atoms.{Atoms, sem}
-use types.Kit.{Given, Goal, Soaks, Item, ‵, _⊛_, some, later, Seq, Step, step, _$_, _∵_, !, qed, move, drop, use1, use3, split, pick, await, rewrite, fsplit, fjoin, fpick, fpack, feqI, done}
+use types.Kit.{Given, Goal, Soaks, Item, ‵, _⊛_, some, later, Seq, Step, step, _$_, _∵_, !, qed, move, drop, use1, use3, split, pick, await, rewrite}
+use types.Kit.{fsplit, fjoin, fpick, fpack, feqI, done}
 use types.SemTy.{cells, Arr}
 use types.Share.{arr-parts}
 use types.Tokens.{lft-new, lft-end}
@@ -70,7 +71,8 @@ module _ {M : Type 1} (𝓤 : URA M) (H : Heap 𝓤) (A : Atoms 𝓤) (W : Given
       done !))
 
 module _ {M : Type 1} {𝓤 : URA M} {H : Heap 𝓤} {A : Atoms 𝓤} {K : Type 0} {W : Given 𝓤 H A} {Γ : List (Item 𝓤)} {G : Goal 𝓤 H} where
-  pub lends-local : K → Soaks G → (R : RattleType) (k : Kind R) → Single (R .mir) → Copy 𝓤 H A R → (ℓ : Lifetime) (n l : ℕ) (x : R .Denot) → Is R x (k .val x ∷ [])
+  pub lends-local : K → Soaks G → (R : RattleType) (k : Kind R) → Single (R .mir) → Copy 𝓤 H A R → (ℓ : Lifetime) (n l : ℕ) (x : R .Denot) → Is R x
+      (k .val x ∷ [])
       → Room R (length (replicate n x))
       → ((ν : ℕ) (δ : GName) → Seq K W (‵ (MutSlice ℓ (ν ∷ []) R .own (record { ptr = (l, 0); name = δ; now = replicate n x })
       (sliceVal (l, 0) (length (replicate n x)) ∷ [])) ∷ ‵ (flft (ν ∷ []) fullShare) ∷ ‵ (flent (ν ∷ []) (Held R (length (replicate n x)) l 0 δ)) ∷ Γ) G)

@@ -1,8 +1,11 @@
--- A `&κ mut [T]` opened for a while, as a row of elements, for an element type T of plain data: its machine value is written out, and what it owns is had for nothing.
---     Kind R           what is asked of T: `val` spells the machine value, `tells` that the relation tells it, and `makes` that the relation makes what T owns. `kind-of` has it for a declared struct of plain data
+-- A `&κ mut [T]` opened for a while, as a row of elements, for an element type T of plain data: its machine value is written out, and what it owns is
+-- had for nothing.
+-- Kind R           what is asked of T: `val` spells the machine value, `tells` that the relation tells it, and `makes` that the relation makes what T
+-- owns. `kind-of` has it for a declared struct of plain data
 --     Opened           what is left of the reference while its row is out: the open borrow, with both halves of its ghost variable
 --     opens-row        own (the `&κ mut [T]` ((b, o), γ, ys)) ∗ [κ]_q   becomes   the row ys ∗ Opened ys
---     closes-row       the row zs ∗ Opened ys   becomes   own (the `&κ mut [T]` ((b, o), γ, zs)) ∗ [κ]_q,   for zs as long as ys. The machine value has the count that it had
+-- closes-row       the row zs ∗ Opened ys   becomes   own (the `&κ mut [T]` ((b, o), γ, zs)) ∗ [κ]_q,   for zs as long as ys. The machine value has
+-- the count that it had
 --     takes-elem       the row ys   becomes   the cell of ys[i] ∗ the others, and that ys[i] is a T is learned
 --     puts-elem        the cell with y ∗ the others   becomes   the row ys with y at i
 --     puts-back        the cell of ys[i], which was only read, ∗ the others   becomes   the row ys

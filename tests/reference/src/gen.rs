@@ -38,7 +38,12 @@ impl Rng {
     }
 
     pub fn shuffle<T>(&mut self, items: &mut [T]) {
-        for end in (1..items.len()).rev() {
+        self.draw(items, items.len());
+    }
+
+    /// Brings `count` of the items to the end, any of them and in any order.
+    fn draw<T>(&mut self, items: &mut [T], count: usize) {
+        for end in (1.max(items.len() - count)..items.len()).rev() {
             items.swap(end, self.below(end + 1));
         }
     }
@@ -55,6 +60,8 @@ pub struct Shape {
     pub workshop_groups: usize,
     /// How many of the possible pairs there are, in percent.
     pub pairs: usize,
+    /// How many students have all pairs, or none, instead, in percent.
+    pub uneven: usize,
     /// Quotas above 0 go up to this.
     pub quota: usize,
     /// How many workshops have quota 0, in percent.
@@ -78,6 +85,7 @@ impl Shape {
             student_groups: rng.range(1, 4),
             workshop_groups: rng.range(1, 4),
             pairs: rng.pick(&[0, 30, 70, 100, 100]),
+            uneven: rng.pick(&[0, 0, 0, 30]),
             quota: rng.pick(&[1, 1, 2, 3, 512]),
             closed: rng.pick(&[0, 0, 20]),
             agreeing: rng.chance(50),
@@ -95,31 +103,11 @@ impl Shape {
             student_groups: rng.range(1, 3),
             workshop_groups: rng.range(1, 3),
             pairs: rng.pick(&[60, 100, 100]),
+            uneven: 0,
             quota: rng.pick(&[1, 1, 2]),
-            closed: rng.pick(&[0, 0, 20]),
-            agreeing: rng.chance(50),
             reach: 9,
-            late_lines: rng.pick(&[0, 40, 100]),
             full_books: 70,
-        }
-    }
-
-    /// Up to 512 students and 64 workshops.
-    pub fn large(rng: &mut Rng) -> Shape {
-        let students = rng.pick(&[97, 200, 511, 512, 512]);
-        let workshops = rng.pick(&[7, 20, 63, 64, 64]);
-        Shape {
-            students,
-            workshops,
-            student_groups: rng.pick(&[1, 4, 16, 65]),
-            workshop_groups: rng.pick(&[1, 8, 60, 513]),
-            pairs: rng.pick(&[3, 20, 100, 100]),
-            quota: rng.pick(&[1, students / workshops + 1, 2 * students / workshops, 512]),
-            closed: rng.pick(&[0, 0, 10]),
-            agreeing: rng.chance(60),
-            reach: 1000,
-            late_lines: rng.pick(&[20, 80, 100]),
-            full_books: 80,
+            ..Shape::small(rng)
         }
     }
 
@@ -128,8 +116,46 @@ impl Shape {
         Shape {
             students: rng.range(10, 60),
             workshops: rng.range(4, 20),
+            pairs: rng.pick(&[5, 15, 30, 70, 95, 100]),
             quota: rng.range(1, 8),
             reach: 200,
+            ..Shape::small(rng)
+        }
+    }
+
+    /// Up to 512 students and 64 workshops: each mix of few or all pairs, of groups on both sides
+    /// and of tight or loose quotas once.
+    pub fn large(rng: &mut Rng) -> Vec<Shape> {
+        let mut shapes = Vec::new();
+        for pairs in [1, 3, 20, 60, 97, 100] {
+            for student_groups in [1, 4, 16, 65] {
+                for workshop_groups in [1, 8, 60, 513] {
+                    for quota in 0..4 {
+                        shapes.push(Shape {
+                            pairs,
+                            student_groups,
+                            workshop_groups,
+                            ..Shape::crowded(rng, quota)
+                        });
+                    }
+                }
+            }
+        }
+        shapes
+    }
+
+    /// Many people; of four quotas, from one seat to one for everybody, the one with this index.
+    fn crowded(rng: &mut Rng, quota: usize) -> Shape {
+        let students = rng.pick(&[97, 200, 511, 512, 512]);
+        let workshops = rng.pick(&[7, 20, 63, 64, 64]);
+        let quotas = [1, students / workshops + 1, 2 * students / workshops, 512];
+        Shape {
+            students,
+            workshops,
+            quota: quotas[quota],
+            reach: 1000,
+            late_lines: rng.pick(&[20, 80, 100]),
+            full_books: 80,
             ..Shape::small(rng)
         }
     }
@@ -137,16 +163,13 @@ impl Shape {
 
 /// `count` group numbers out of 1 to `top`, rising, with gaps; often with both ends.
 fn group_numbers(rng: &mut Rng, count: usize, top: usize) -> Vec<u16> {
-    let mut numbers: Vec<u16> = (1..=top as u16).collect();
-    rng.shuffle(&mut numbers);
-    numbers.truncate(count.min(top));
+    let mut numbers = distinct_groups(rng, count.min(top), top);
     if rng.chance(30) {
         numbers[0] = 1;
     }
     if rng.chance(30) {
         *numbers.last_mut().expect("at least one") = top as u16;
     }
-    numbers.sort_unstable();
     numbers.dedup();
     numbers
 }
@@ -169,8 +192,12 @@ pub fn case(rng: &mut Rng, shape: &Shape) -> Case {
     let student_groups = add_students(rng, shape, &stages, &mut case);
     let workshop_groups = add_workshops(rng, shape, stages.len(), &mut case);
     for (s, her_groups) in student_groups.iter().enumerate() {
+        let pairs = match rng.chance(shape.uneven) {
+            true => rng.pick(&[0, 100]),
+            false => shape.pairs,
+        };
         for (w, its_groups) in workshop_groups.iter().enumerate() {
-            if !rng.chance(shape.pairs) {
+            if !rng.chance(pairs) {
                 continue;
             }
             let workshop_group = if shape.agreeing {
@@ -222,10 +249,10 @@ fn add_workshops(rng: &mut Rng, shape: &Shape, stages: usize, case: &mut Case) -
 /// Exactly `count` rising group numbers.
 fn distinct_groups(rng: &mut Rng, count: usize, top: usize) -> Vec<u16> {
     let mut numbers: Vec<u16> = (1..=top as u16).collect();
-    rng.shuffle(&mut numbers);
-    numbers.truncate(count);
-    numbers.sort_unstable();
-    numbers
+    rng.draw(&mut numbers, count);
+    let mut drawn = numbers.split_off(top - count);
+    drawn.sort_unstable();
+    drawn
 }
 
 /// The group that stands for the student's stage; beyond the line, or with quota 0, any.
@@ -343,38 +370,53 @@ pub fn experiment(rng: &mut Rng, students: usize, workshops: usize, d: usize, e:
 // ---- Damage ----
 
 /// One kind of damage; it may leave the input as it was.
-pub type Damage = fn(&mut Rng, &mut Input);
+type Damage = fn(&mut Rng, &mut Input);
 
-pub const DAMAGES: [Damage; 19] = [
-    case_length,
-    case_byte,
-    case_byte,
+/// Damage of a file with records of a size.
+type FileDamage = fn(&mut Rng, &mut Vec<u8>, usize);
+
+const DAMAGES: [Damage; 10] = [
     case_field,
     case_field,
-    case_swap,
-    case_repeat,
     case_remove,
     crowd,
     nobody,
     shorter_buffer,
     longer_buffers,
-    book_length,
-    book_byte,
     book_stranger,
     book_mark,
-    book_repeat,
     book_equal_mark,
-    book_swap,
+];
+
+const FILE_DAMAGES: [FileDamage; 4] = [
+    change_length,
+    repeat_record,
+    |rng, bytes, size| change_byte(rng, bytes, size),
+    |rng, bytes, size| swap_records(rng, bytes, size),
 ];
 
 /// A small input with one to three damages.
 pub fn damaged_input(rng: &mut Rng) -> Input {
     let mut input = small_input(rng);
     for _ in 0..rng.range(1, 3) {
-        let damage = rng.pick(&DAMAGES);
-        damage(rng, &mut input);
+        if rng.chance(50) {
+            damage_file(rng, &mut input);
+        } else {
+            let damage = rng.pick(&DAMAGES);
+            damage(rng, &mut input);
+        }
     }
     input
+}
+
+/// The case or the book gets a damage that may hit any file.
+fn damage_file(rng: &mut Rng, input: &mut Input) {
+    let damage = rng.pick(&FILE_DAMAGES);
+    if rng.chance(50) {
+        damage(rng, &mut input.case, CASE_RECORD);
+    } else {
+        damage(rng, &mut input.book, BOOK_RECORD);
+    }
 }
 
 /// Where a random record starts, if there is a whole one.
@@ -435,14 +477,6 @@ fn repeat_record(rng: &mut Rng, bytes: &mut Vec<u8>, size: usize) {
     }
 }
 
-fn case_length(rng: &mut Rng, input: &mut Input) {
-    change_length(rng, &mut input.case, CASE_RECORD);
-}
-
-fn case_byte(rng: &mut Rng, input: &mut Input) {
-    change_byte(rng, &mut input.case, CASE_RECORD);
-}
-
 /// Puts a number at the edge of some range into one of the fields.
 fn case_field(rng: &mut Rng, input: &mut Input) {
     const EDGES: [u16; 14] = [
@@ -453,14 +487,6 @@ fn case_field(rng: &mut Rng, input: &mut Input) {
         let at = start + 2 * rng.range(1, fields);
         set_field(&mut input.case, at, rng.pick(&EDGES));
     }
-}
-
-fn case_swap(rng: &mut Rng, input: &mut Input) {
-    swap_records(rng, &mut input.case, CASE_RECORD);
-}
-
-fn case_repeat(rng: &mut Rng, input: &mut Input) {
-    repeat_record(rng, &mut input.case, CASE_RECORD);
 }
 
 fn case_remove(rng: &mut Rng, input: &mut Input) {
@@ -484,10 +510,17 @@ fn crowd(rng: &mut Rng, input: &mut Input) {
     for number in present + 1..=wanted {
         push_case_record(&mut added, kind, &[number as u16, 1, 1]);
     }
+    let more = added.len() / CASE_RECORD;
     let at = behind * CASE_RECORD;
     input.case.splice(at..at, added);
     if rng.chance(80) {
-        input.lent = Lengths::ample();
+        for length in [
+            &mut input.lent.places,
+            &mut input.lent.seats,
+            &mut input.lent.cards,
+        ] {
+            *length += more;
+        }
     }
 }
 
@@ -513,7 +546,7 @@ fn lengths_of(lent: &mut Lengths) -> [&mut usize; 5] {
 }
 
 /// Takes some entries off one buffer, mostly just one.
-pub fn shorter_buffer(rng: &mut Rng, input: &mut Input) {
+fn shorter_buffer(rng: &mut Rng, input: &mut Input) {
     let which = rng.below(5);
     let length = &mut lengths_of(&mut input.lent)[which];
     let less = rng.pick(&[1, 1, 1, 2, usize::MAX]);
@@ -522,16 +555,8 @@ pub fn shorter_buffer(rng: &mut Rng, input: &mut Input) {
 
 pub fn longer_buffers(rng: &mut Rng, input: &mut Input) {
     for length in lengths_of(&mut input.lent) {
-        *length += rng.below(4);
+        *length += rng.pick(&[0, 1, 2, 3, 700]);
     }
-}
-
-fn book_length(rng: &mut Rng, input: &mut Input) {
-    change_length(rng, &mut input.book, BOOK_RECORD);
-}
-
-fn book_byte(rng: &mut Rng, input: &mut Input) {
-    change_byte(rng, &mut input.book, BOOK_RECORD);
 }
 
 /// Makes a record name somebody else, or nobody.
@@ -554,10 +579,6 @@ fn book_mark(rng: &mut Rng, input: &mut Input) {
     }
 }
 
-fn book_repeat(rng: &mut Rng, input: &mut Input) {
-    repeat_record(rng, &mut input.book, BOOK_RECORD);
-}
-
 /// Gives a record the mark of another record of the same person, if one is found.
 fn book_equal_mark(rng: &mut Rng, input: &mut Input) {
     let book = &mut input.book;
@@ -577,14 +598,10 @@ fn book_equal_mark(rng: &mut Rng, input: &mut Input) {
     }
 }
 
-fn book_swap(rng: &mut Rng, input: &mut Input) {
-    swap_records(rng, &mut input.book, BOOK_RECORD);
-}
-
 /// The input cut to every shorter length, and with every byte of every record changed.
 pub fn sweep(input: &Input) -> Vec<Input> {
     let mut inputs = Vec::new();
-    let cut = |length: usize, part: fn(&mut Input) -> &mut Vec<u8>| {
+    let cut = |length: usize, part: Bytes| {
         let mut shorter = input.clone();
         part(&mut shorter).truncate(length);
         shorter
@@ -600,21 +617,19 @@ pub fn sweep(input: &Input) -> Vec<Input> {
     inputs
 }
 
-fn case_part(input: &mut Input) -> &mut Vec<u8> {
+/// The case's bytes or the book's.
+pub type Bytes = fn(&mut Input) -> &mut Vec<u8>;
+
+pub fn case_part(input: &mut Input) -> &mut Vec<u8> {
     &mut input.case
 }
 
-fn book_part(input: &mut Input) -> &mut Vec<u8> {
+pub fn book_part(input: &mut Input) -> &mut Vec<u8> {
     &mut input.book
 }
 
 /// Flips each bit of one byte, and sets it to 0, to 255, one up and one down.
-fn change_every_way(
-    inputs: &mut Vec<Input>,
-    input: &Input,
-    at: usize,
-    part: fn(&mut Input) -> &mut Vec<u8>,
-) {
+fn change_every_way(inputs: &mut Vec<Input>, input: &Input, at: usize, part: Bytes) {
     let mut original = input.clone();
     let byte = part(&mut original)[at];
     let flips = (0..8).map(|bit| byte ^ (1 << bit));

@@ -1,8 +1,9 @@
-//! Lends guarded buffers to an engine and checks everything it leaves in them.
+//! Lends guarded buffers to an engine and checks every byte it leaves in them.
 
 use crate::fast::Fast;
 use crate::gen::Rng;
 use crate::model::*;
+use std::mem::{align_of, offset_of, size_of};
 
 /// A student's card as the engine lays it out.
 #[repr(C)]
@@ -12,6 +13,14 @@ pub struct StudentState {
     pub held: u32,
     pub open: u64,
 }
+
+// No byte of a card lies outside of its fields.
+const _: () = {
+    assert!(size_of::<StudentState>() == 16 && align_of::<StudentState>() == 8);
+    assert!(offset_of!(StudentState, reached) == 0);
+    assert!(offset_of!(StudentState, held) == 4);
+    assert!(offset_of!(StudentState, open) == 8);
+};
 
 /// The lent buffers of one call.
 pub struct Loan {
@@ -26,49 +35,66 @@ pub struct Loan {
 /// An engine: case, book and lent buffers in, outcome out.
 pub type Call<'a> = &'a dyn Fn(&[u8], &[u8], &Loan) -> Outcome;
 
-/// Entries on each side of a lent buffer that nobody may touch.
-const GUARD: usize = 8;
+/// Bytes on each side of a lent buffer that nobody may touch.
+const GUARD: usize = 64;
 
-/// A buffer full of garbage between two guards.
-struct Guarded<T> {
-    entries: Vec<T>,
-    before: Vec<T>,
+/// The bytes of a buffer between two guards, all of them garbage at first.
+struct Guarded {
+    memory: Vec<u64>,
+    before: Vec<u64>,
+    /// Bytes that are lent.
+    length: usize,
 }
 
-impl<T: Copy + PartialEq> Guarded<T> {
-    fn new(length: usize, garbage: impl FnMut() -> T) -> Guarded<T> {
-        let entries: Vec<T> = std::iter::repeat_with(garbage)
-            .take(length + 2 * GUARD)
-            .collect();
+impl Guarded {
+    fn new<T>(entries: usize, garbage: &mut dyn FnMut() -> u64) -> Guarded {
+        let length = entries * size_of::<T>();
+        let words = (length + 2 * GUARD).div_ceil(size_of::<u64>());
+        let memory: Vec<u64> = std::iter::repeat_with(garbage).take(words).collect();
         Guarded {
-            before: entries.clone(),
-            entries,
+            before: memory.clone(),
+            memory,
+            length,
         }
     }
 
-    fn lend(&mut self) -> *mut T {
-        self.entries.as_mut_ptr().wrapping_add(GUARD)
+    fn lend<T>(&mut self) -> *mut T {
+        let start = self.memory.as_mut_ptr().cast::<u8>();
+        start.wrapping_add(GUARD).cast()
     }
 
-    fn lent(&self) -> &[T] {
-        &self.entries[GUARD..self.entries.len() - GUARD]
+    fn lent(&self) -> &[u8] {
+        &bytes(&self.memory)[GUARD..GUARD + self.length]
+    }
+
+    fn is_zero(&self) -> bool {
+        self.lent().iter().all(|&byte| byte == 0)
     }
 
     /// Both guards are as they were.
     fn guards_kept(&self) -> bool {
-        let end = self.entries.len() - GUARD;
-        self.entries[..GUARD] == self.before[..GUARD] && self.entries[end..] == self.before[end..]
+        let guards = |memory| {
+            let (before, rest) = bytes(memory).split_at(GUARD);
+            (before, &rest[self.length..])
+        };
+        guards(&self.memory) == guards(&self.before)
     }
 
     /// The lent part starts with `head` and is otherwise as it was.
-    fn only_head_changed(&self, head: &[T]) -> bool {
-        let start = GUARD + head.len();
-        let end = self.entries.len() - GUARD;
-        self.lent().starts_with(head) && self.entries[start..end] == self.before[start..end]
+    fn only_head_changed(&self, head: &[u16]) -> bool {
+        let head: Vec<u8> = head.iter().flat_map(|entry| entry.to_ne_bytes()).collect();
+        let rest = GUARD + head.len()..GUARD + self.length;
+        self.lent().starts_with(&head)
+            && bytes(&self.memory)[rest.clone()] == bytes(&self.before)[rest]
     }
 }
 
-/// Calls the engine with buffers full of garbage and compares all it leaves behind.
+fn bytes(words: &[u64]) -> &[u8] {
+    // SAFETY: the bytes of the words, which are all initialized, for as long as they are borrowed.
+    unsafe { std::slice::from_raw_parts(words.as_ptr().cast(), std::mem::size_of_val(words)) }
+}
+
+/// Calls the engine with buffers full of garbage and compares every byte it leaves behind.
 pub fn check(
     engine: Call,
     input: &Input,
@@ -76,15 +102,16 @@ pub fn check(
     rng: &mut Rng,
 ) -> Result<(), &'static str> {
     let lent = input.lent;
-    let mut places = Guarded::new(lent.places, || rng.word() as u16);
-    let mut visits = Guarded::new(lent.visits, || rng.word() as u16);
-    let mut seats = Guarded::new(lent.seats, || rng.word() as u16);
-    let mut index = Guarded::new(lent.index, || rng.word() as u16);
-    let mut cards = Guarded::new(lent.cards, || StudentState {
-        reached: rng.word() as u32,
-        held: rng.word() as u32,
-        open: rng.word(),
-    });
+    let pattern = rng.pick(&[None, Some(0xee), Some(0xff)]);
+    let mut garbage = || match pattern {
+        Some(byte) => u64::from_ne_bytes([byte; 8]),
+        None => rng.word(),
+    };
+    let mut places = Guarded::new::<u16>(lent.places, &mut garbage);
+    let mut visits = Guarded::new::<u16>(lent.visits, &mut garbage);
+    let mut seats = Guarded::new::<u16>(lent.seats, &mut garbage);
+    let mut index = Guarded::new::<u16>(lent.index, &mut garbage);
+    let mut cards = Guarded::new::<StudentState>(lent.cards, &mut garbage);
     let loan = Loan {
         places: places.lend(),
         visits: visits.lend(),
@@ -104,19 +131,17 @@ pub fn check(
         .iter()
         .flat_map(|&(s, w)| [s, w])
         .collect();
-    let words_kept = [&places, &visits, &seats, &index]
+    let guards_kept = [&places, &visits, &seats, &index, &cards]
         .iter()
         .all(|buffer| buffer.guards_kept());
-    let is_zero = |&entry: &u16| entry == 0;
-    let no_card = |&card: &StudentState| card == StudentState::default();
     let findings = [
         (outcome == expected.outcome(), "outcome differs"),
         (places.only_head_changed(placed), "places differ"),
         (visits.only_head_changed(&listed), "visits differ"),
-        (seats.lent().iter().all(is_zero), "seats are not zero"),
-        (index.lent().iter().all(is_zero), "index is not zero"),
-        (cards.lent().iter().all(no_card), "cards are not zero"),
-        (words_kept && cards.guards_kept(), "wrote outside a buffer"),
+        (seats.is_zero(), "seats are not zero"),
+        (index.is_zero(), "index is not zero"),
+        (cards.is_zero(), "cards are not zero"),
+        (guards_kept, "wrote outside a buffer"),
     ];
     match findings.iter().find(|(good, _)| !good) {
         Some((_, what)) => Err(what),
@@ -140,18 +165,40 @@ pub fn honest(case: &[u8], book: &[u8], loan: &Loan) -> Outcome {
     }
 }
 
-/// Something an otherwise honest engine does wrong at the end.
+/// Something an otherwise honest engine does wrong at the end: it changes one byte.
 pub struct Flaw {
     pub name: &'static str,
-    pub spoil: fn(&Loan, &Outcome),
+    /// Which byte, where this answer allows the flaw.
+    byte: fn(&Loan, &Outcome) -> Option<*mut u8>,
 }
 
-fn spoil_word(buffer: *mut u16, at: isize) {
-    // SAFETY: the guards around each buffer are part of the same allocation.
-    unsafe {
-        let entry = buffer.offset(at);
-        *entry = (*entry).wrapping_add(1);
+impl Flaw {
+    /// A well-behaved engine but for this flaw.
+    pub fn spoil(&self, case: &[u8], book: &[u8], loan: &Loan) -> Outcome {
+        let outcome = honest(case, book, loan);
+        if let Some(byte) = (self.byte)(loan, &outcome) {
+            // SAFETY: each flaw names a byte of a lent buffer, or of the guards around it, which
+            // are part of the same allocation.
+            unsafe { *byte ^= 1 };
+        }
+        outcome
     }
+}
+
+/// The first byte of a buffer's entry, if it has that entry.
+fn entry<T>(buffer: *mut T, length: usize, at: usize) -> Option<*mut u8> {
+    (at < length).then(|| buffer.wrapping_add(at).cast())
+}
+
+/// The first byte of a buffer's last entry, if it has one.
+fn last<T>(buffer: *mut T, length: usize) -> Option<*mut u8> {
+    entry(buffer, length, length.checked_sub(1)?)
+}
+
+/// A byte of the first card.
+fn of_first_card(loan: &Loan, byte: usize) -> Option<*mut u8> {
+    let card = entry(loan.cards, loan.lent.cards, 0)?;
+    Some(card.wrapping_add(byte))
 }
 
 fn used_words(outcome: &Outcome) -> usize {
@@ -161,95 +208,65 @@ fn used_words(outcome: &Outcome) -> usize {
     }
 }
 
+const fn flaw(name: &'static str, byte: fn(&Loan, &Outcome) -> Option<*mut u8>) -> Flaw {
+    Flaw { name, byte }
+}
+
 /// Every flaw must be found by the check.
-pub const FLAWS: [Flaw; 12] = [
-    Flaw {
-        name: "a seat left",
-        spoil: |loan, _| {
-            if loan.lent.seats > 0 {
-                spoil_word(loan.seats, 0);
-            }
+pub const FLAWS: [Flaw; 17] = [
+    flaw("a seat left", |loan, _| {
+        entry(loan.seats, loan.lent.seats, 0)
+    }),
+    flaw("the last seat left", |loan, _| {
+        last(loan.seats, loan.lent.seats)
+    }),
+    flaw("the last index entry left", |loan, _| {
+        last(loan.index, loan.lent.index)
+    }),
+    flaw("byte 2 of a card left", |loan, _| of_first_card(loan, 2)),
+    flaw("byte 4 of a card left", |loan, _| of_first_card(loan, 4)),
+    flaw("byte 7 of a card left", |loan, _| of_first_card(loan, 7)),
+    flaw("byte 15 of a card left", |loan, _| of_first_card(loan, 15)),
+    flaw("the last card left", |loan, _| {
+        last(loan.cards, loan.lent.cards)
+    }),
+    flaw(
+        "a place written on a refusal",
+        |loan, outcome| match outcome {
+            Outcome::Refused { .. } => entry(loan.places, loan.lent.places, 0),
+            _ => None,
         },
-    },
-    Flaw {
-        name: "the last index entry left",
-        spoil: |loan, _| {
-            if loan.lent.index > 0 {
-                spoil_word(loan.index, loan.lent.index as isize - 1);
-            }
+    ),
+    flaw(
+        "a place written with a next visit",
+        |loan, outcome| match outcome {
+            Outcome::Next { .. } => entry(loan.places, loan.lent.places, 0),
+            _ => None,
         },
-    },
-    Flaw {
-        name: "an open workshop left on the last card",
-        spoil: |loan, _| {
-            if loan.lent.cards > 0 {
-                // SAFETY: the entry is inside the lent buffer.
-                unsafe { (*loan.cards.add(loan.lent.cards - 1)).open = 1 };
-            }
+    ),
+    flaw(
+        "a visit written on a refusal",
+        |loan, outcome| match outcome {
+            Outcome::Refused { .. } => entry(loan.visits, loan.lent.visits, 0),
+            _ => None,
         },
-    },
-    Flaw {
-        name: "a place written on a refusal",
-        spoil: |loan, outcome| {
-            if matches!(outcome, Outcome::Refused { .. }) && loan.lent.places > 0 {
-                spoil_word(loan.places, 0);
-            }
-        },
-    },
-    Flaw {
-        name: "a place written with a next visit",
-        spoil: |loan, outcome| {
-            if matches!(outcome, Outcome::Next { .. }) {
-                spoil_word(loan.places, 0);
-            }
-        },
-    },
-    Flaw {
-        name: "a visit written on a refusal",
-        spoil: |loan, outcome| {
-            if matches!(outcome, Outcome::Refused { .. }) && loan.lent.visits > 0 {
-                spoil_word(loan.visits, 0);
-            }
-        },
-    },
-    Flaw {
-        name: "a visit past the used ones",
-        spoil: |loan, outcome| {
-            let used = used_words(outcome);
-            if loan.lent.visits > used {
-                spoil_word(loan.visits, used as isize);
-            }
-        },
-    },
-    Flaw {
-        name: "a listed visit changed",
-        spoil: |loan, outcome| {
-            if used_words(outcome) > 0 {
-                spoil_word(loan.visits, 1);
-            }
-        },
-    },
-    Flaw {
-        name: "the last place changed",
-        spoil: |loan, _| {
-            if loan.lent.places > 0 {
-                spoil_word(loan.places, loan.lent.places as isize - 1);
-            }
-        },
-    },
-    Flaw {
-        name: "a word after the seats",
-        spoil: |loan, _| spoil_word(loan.seats, loan.lent.seats as isize),
-    },
-    Flaw {
-        name: "a word before the visits",
-        spoil: |loan, _| spoil_word(loan.visits, -1),
-    },
-    Flaw {
-        name: "a card after the last",
-        spoil: |loan, _| {
-            // SAFETY: the guard is part of the same allocation.
-            unsafe { (*loan.cards.add(loan.lent.cards)).held ^= 1 };
-        },
-    },
+    ),
+    flaw("a visit past the used ones", |loan, outcome| {
+        entry(loan.visits, loan.lent.visits, used_words(outcome))
+    }),
+    flaw("a listed visit changed", |loan, outcome| {
+        entry(loan.visits, used_words(outcome), 1)
+    }),
+    flaw("the last place changed", |loan, _| {
+        last(loan.places, loan.lent.places)
+    }),
+    flaw("a byte after the seats", |loan, _| {
+        Some(loan.seats.wrapping_add(loan.lent.seats).cast())
+    }),
+    flaw("a byte before the visits", |loan, _| {
+        Some(loan.visits.cast::<u8>().wrapping_sub(1))
+    }),
+    flaw("a card after the last", |loan, _| {
+        Some(loan.cards.wrapping_add(loan.lent.cards).cast())
+    }),
 ];

@@ -2,7 +2,9 @@
 
 pub mod brute;
 pub mod fast;
+pub mod folder;
 pub mod gen;
+pub mod header;
 pub mod lending;
 pub mod literal;
 pub mod model;

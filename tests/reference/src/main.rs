@@ -1,6 +1,7 @@
 //! Runs all groups of tests. The last line is `N passed, M failed`.
 //!
-//! `--quick` runs fewer cases; `--seed N` chooses other random ones.
+//! `--quick` runs fewer cases; `--seed N` chooses other random ones; `--only WORD` runs the parts
+//! with this word in their name.
 
 use reference::brute::{Effort, World};
 use reference::fast::Fast;
@@ -8,14 +9,15 @@ use reference::gen::{self, Rng, Shape};
 use reference::lending::{self, Call, Loan};
 use reference::model::*;
 use reference::mutants::{self, Mutant};
-use reference::tally::Tally;
-use reference::{literal, program, proved};
+use reference::tally::{self, Part, Tally};
+use reference::{header, literal, program, proved};
 use std::path::Path;
 use std::process::ExitCode;
 
 struct Options {
     quick: bool,
     seed: u64,
+    only: String,
 }
 
 impl Options {
@@ -23,6 +25,7 @@ impl Options {
         let mut options = Options {
             quick: false,
             seed: 1,
+            only: String::new(),
         };
         let mut arguments = std::env::args().skip(1);
         while let Some(argument) = arguments.next() {
@@ -32,24 +35,25 @@ impl Options {
                     let number = arguments.next().and_then(|text| text.parse().ok());
                     options.seed = number.ok_or("--seed needs a number")?;
                 }
+                "--only" => options.only = arguments.next().ok_or("--only needs a word")?,
                 other => return Err(format!("unknown argument {other}")),
             }
         }
         Ok(options)
     }
 
-    /// How many cases to run: six times the number in a full run, a twentieth of it in a quick one.
+    /// How many cases to run: a twentieth of the number in a quick run.
     fn count(&self, cases: usize) -> usize {
         if self.quick {
             cases.div_ceil(20)
         } else {
-            6 * cases
+            cases
         }
     }
 
-    /// A generator of its own for each group.
-    fn rng(&self, group: u64) -> Rng {
-        Rng::new(self.seed.wrapping_mul(1000).wrapping_add(group))
+    /// A generator of its own for each part.
+    fn rng(&self, part: u64) -> Rng {
+        Rng::new(self.seed.wrapping_mul(1000).wrapping_add(part))
     }
 }
 
@@ -103,8 +107,12 @@ fn main() -> ExitCode {
             return ExitCode::FAILURE;
         }
     };
-    let mut tally = Tally::default();
-    run_groups(&mut tally, &options);
+    let parts = parts(&options);
+    if parts.is_empty() {
+        eprintln!("no part has {} in its name", options.only);
+        return ExitCode::FAILURE;
+    }
+    let tally = tally::run(&parts);
     println!("{} passed, {} failed", tally.passed, tally.failed);
     if tally.failed == 0 {
         ExitCode::SUCCESS
@@ -113,30 +121,39 @@ fn main() -> ExitCode {
     }
 }
 
-fn run_groups(tally: &mut Tally, options: &Options) {
-    tally.group("proved cases", |tally| proved_cases(tally, options));
-    tally.group("small cases", |tally| small_cases(tally, options));
-    tally.group("middle cases", |tally| middle_cases(tally, options));
-    tally.group("large cases", |tally| large_cases(tally, options));
-    tally.group("byte sweeps", |tally| byte_sweeps(tally, options));
-    tally.group("damaged input", |tally| damaged_input(tally, options));
-    tally.group("oversized input", |tally| oversized_input(tally, options));
-    tally.group("visit by visit", |tally| visit_by_visit(tally, options));
-    tally.group("all strict orders", |tally| {
-        all_strict_orders(tally, options)
-    });
-    tally.group("slips break demands", |tally| {
-        slips_break_demands(tally, options)
-    });
-    tally.group("mutants", |tally| mutants_told_apart(tally, options));
-    tally.group("flaws of engines", |tally| flaws_found(tally, options));
+/// All parts, those that take long first.
+fn parts(options: &Options) -> Vec<Part<'_>> {
+    let part = |name: &'static str, run: fn(&mut Tally, &Options)| Part {
+        name,
+        run: Box::new(move |tally| run(tally, options)),
+    };
+    let mut parts = vec![
+        part("proved cases", proved_cases),
+        part("all strict orders", all_strict_orders),
+        part("damaged input", damaged_input),
+        part("large cases", large_cases),
+        part("small cases", small_cases),
+        part("middle cases", middle_cases),
+        part("mutants", mutants_told_apart),
+        part("visit by visit", visit_by_visit),
+        part("byte sweeps", byte_sweeps),
+        part("flaws of engines", flaws_found),
+        part("oversized input", oversized_input),
+        part("slips break demands", slips_break_demands),
+        part("C header", |tally, _| header::run(tally)),
+    ];
     match std::env::var_os("PLACE_BIN") {
-        Some(path) => tally.group("program", |tally| {
-            let count = options.count(200);
-            program::run(tally, Path::new(&path), options.seed, count);
+        Some(path) => parts.push(Part {
+            name: "program",
+            run: Box::new(move |tally| {
+                let count = options.count(600);
+                program::run(tally, Path::new(&path), options.seed, count);
+            }),
         }),
         None => println!("program: skipped, PLACE_BIN is not set"),
     }
+    parts.retain(|part| part.name.contains(&options.only));
+    parts
 }
 
 fn proved_cases(tally: &mut Tally, options: &Options) {
@@ -168,7 +185,7 @@ fn small_cases(tally: &mut Tally, options: &Options) {
     let mut rng = options.rng(1);
     let mut comparison = Comparison::new(options.rng(101));
     let (mut placed, mut next) = (0, 0);
-    for _ in 0..options.count(100_000) {
+    for _ in 0..options.count(200_000) {
         let input = gen::small_input(&mut rng);
         match comparison.check(tally, &input) {
             Answer::Placed { .. } => placed += 1,
@@ -176,14 +193,14 @@ fn small_cases(tally: &mut Tally, options: &Options) {
             Answer::Refused { .. } => tally.check(false, || input.describe()),
         }
     }
-    println!("  {placed} placed, {next} with a next visit");
+    tally.note(&format!("{placed} placed, {next} with a next visit"));
     tally.check(placed > 100 && next > 100, || "one kind is rare".into());
 }
 
 fn middle_cases(tally: &mut Tally, options: &Options) {
     let mut rng = options.rng(10);
     let mut comparison = Comparison::new(options.rng(110));
-    for _ in 0..options.count(5000) {
+    for _ in 0..options.count(8000) {
         let shape = Shape::middle(&mut rng);
         comparison.check(tally, &gen::input(&mut rng, &shape));
     }
@@ -193,9 +210,10 @@ fn large_cases(tally: &mut Tally, options: &Options) {
     let mut rng = options.rng(2);
     let mut comparison = Comparison::new(options.rng(102));
     let mut visits = 0;
-    for _ in 0..options.count(300) {
-        let shape = Shape::large(&mut rng);
-        let input = gen::input(&mut rng, &shape);
+    let shapes = Shape::large(&mut rng);
+    let step = shapes.len() / options.count(shapes.len());
+    for shape in shapes.iter().step_by(step) {
+        let input = gen::input(&mut rng, shape);
         visits += comparison.check(tally, &input).visits().len();
     }
     for (d, e) in [(1, 1), (1, 8), (4, 1), (4, 8), (64, 512)] {
@@ -203,7 +221,7 @@ fn large_cases(tally: &mut Tally, options: &Options) {
         let book = gen::full_book(&mut rng, &case, MAX_MARK);
         visits += comparison.check(tally, &case.input(&book)).visits().len();
     }
-    println!("  {visits} visits");
+    tally.note(&format!("{visits} visits"));
 }
 
 fn byte_sweeps(tally: &mut Tally, options: &Options) {
@@ -211,7 +229,7 @@ fn byte_sweeps(tally: &mut Tally, options: &Options) {
     let mut comparison = Comparison::new(options.rng(103));
     let (case, book) = proved::example();
     let mut bases = vec![case.input(&book)];
-    for _ in 0..options.count(20) {
+    for _ in 0..options.count(100) {
         bases.push(gen::small_input(&mut rng));
     }
     for base in bases {
@@ -226,7 +244,7 @@ fn damaged_input(tally: &mut Tally, options: &Options) {
     let mut comparison = Comparison::new(options.rng(104));
     let mut seen = [0; 12];
     let mut later_record = [false; 12];
-    for _ in 0..options.count(200_000) {
+    for _ in 0..options.count(400_000) {
         let input = gen::damaged_input(&mut rng);
         let (number, place) = match comparison.check(tally, &input) {
             Answer::Refused { number, place } => (usize::from(number), place),
@@ -235,11 +253,11 @@ fn damaged_input(tally: &mut Tally, options: &Options) {
         seen[number] += 1;
         later_record[number] |= place > 0;
     }
-    println!(
-        "  good input {}, refusals 1 to 11 {:?}",
+    tally.note(&format!(
+        "good input {}, refusals 1 to 11 {:?}",
         seen[0],
         &seen[1..]
-    );
+    ));
     for number in 1..=11 {
         let of_record = !matches!(number, 1 | 4 | 6 | 7);
         tally.check(seen[number] >= 20, || format!("refusal {number} is rare"));
@@ -264,10 +282,10 @@ fn oversized_input(tally: &mut Tally, options: &Options) {
 fn visit_by_visit(tally: &mut Tally, options: &Options) {
     let mut rng = options.rng(6);
     let mut comparison = Comparison::new(options.rng(106));
-    for _ in 0..options.count(10_000) {
+    for _ in 0..options.count(20_000) {
         drive(tally, &mut comparison, &mut rng, Shape::small);
     }
-    for _ in 0..options.count(20) {
+    for _ in 0..options.count(60) {
         drive(tally, &mut comparison, &mut rng, Shape::middle);
     }
 }
@@ -309,13 +327,15 @@ fn drive(
 /// Demands 2 and 3 on tiny cases, and that wrong answers break them.
 fn all_strict_orders(tally: &mut Tally, options: &Options) {
     let mut rng = options.rng(7);
+    let mut comparison = Comparison::new(options.rng(107));
     let mut effort = Effort::default();
     let (mut finished, mut agreeing, mut orders) = (0, 0, 0);
-    while finished < options.count(4000) {
+    while finished < options.count(6000) {
         let shape = Shape::tiny(&mut rng);
         let case = gen::case(&mut rng, &shape);
         let book = gen::some_book(&mut rng, &case, &shape);
-        let Answer::Placed { places, visits } = literal::answer(&case.input(&book)) else {
+        let answer = comparison.check(tally, &case.input(&book));
+        let Answer::Placed { places, visits } = answer else {
             continue;
         };
         let Some(world) = World::new(&case) else {
@@ -334,11 +354,13 @@ fn all_strict_orders(tally: &mut Tally, options: &Options) {
             trial.demand_three(tally, &places, &visits, &mut effort);
         }
     }
-    println!("  {finished} finished runs, {agreeing} with agreeing stages, {orders} full orders");
-    println!(
-        "  sets of visits with the placed pairs: {} sure, {} not sure",
+    tally.note(&format!(
+        "{finished} finished runs, {agreeing} with agreeing stages, {orders} full orders"
+    ));
+    tally.note(&format!(
+        "sets of visits with the placed pairs: {} sure, {} not sure",
         effort.sure_sets, effort.unsure_sets
-    );
+    ));
     tally.check(agreeing * 2 > finished, || "few stages agree".to_string());
     tally.check(effort.unsure_sets > 0, || "all sets are sure".to_string());
 }
@@ -402,10 +424,10 @@ fn slips_break_demands(tally: &mut Tally, options: &Options) {
     for slip in mutants::slips_of_a_careful_hand() {
         let mut rng = options.rng(11);
         let needed = (1..=MOST).find(|_| breaks_a_demand(&mut rng, &slip));
-        match needed {
-            Some(cases) => println!("  {cases:6} cases needed: {}", slip.name),
-            None => println!("  never: {}", slip.name),
-        }
+        tally.note(&match needed {
+            Some(cases) => format!("{cases:6} cases needed: {}", slip.name),
+            None => format!("never: {}", slip.name),
+        });
         tally.check(needed.is_some(), || {
             format!("breaks nothing: {}", slip.name)
         });
@@ -438,6 +460,21 @@ fn mutants_told_apart(tally: &mut Tally, options: &Options) {
             false => gen::damaged_input(&mut rng),
         })
         .collect();
+    told_apart(tally, &inputs, &mutants::all());
+
+    let mut inputs = gen::oversized_inputs(&mut rng);
+    let shapes = Shape::large(&mut rng);
+    inputs.extend(
+        shapes
+            .iter()
+            .step_by(13)
+            .map(|shape| gen::input(&mut rng, shape)),
+    );
+    told_apart(tally, &inputs, &mutants::of_size());
+}
+
+/// On some input each of the mutants gives another answer than the literal reference.
+fn told_apart(tally: &mut Tally, inputs: &[Input], mutants: &[Mutant]) {
     let expected: Vec<Answer> = inputs.iter().map(literal::answer).collect();
     let differing = |mutant: &Mutant| {
         let pairs = inputs.iter().zip(&expected);
@@ -449,10 +486,10 @@ fn mutants_told_apart(tally: &mut Tally, options: &Options) {
     tally.check(control == 0, || {
         format!("the control differs {control} times")
     });
-    println!("  {} inputs, told apart by:", inputs.len());
-    for mutant in mutants::all() {
-        let count = differing(&mutant);
-        println!("  {count:6} {}", mutant.name);
+    tally.note(&format!("{} inputs, told apart by:", inputs.len()));
+    for mutant in mutants {
+        let count = differing(mutant);
+        tally.note(&format!("{count:6} {}", mutant.name));
         tally.check(count > 0, || format!("not told apart: {}", mutant.name));
     }
 }
@@ -460,7 +497,7 @@ fn mutants_told_apart(tally: &mut Tally, options: &Options) {
 /// The check of lent buffers accepts an honest engine and finds every flaw.
 fn flaws_found(tally: &mut Tally, options: &Options) {
     let mut rng = options.rng(9);
-    let inputs: Vec<Input> = (0..options.count(2000).max(200))
+    let inputs: Vec<Input> = (0..options.count(3000).max(200))
         .map(|_| {
             let mut input = gen::damaged_input(&mut rng);
             gen::longer_buffers(&mut rng, &mut input);
@@ -476,14 +513,11 @@ fn flaws_found(tally: &mut Tally, options: &Options) {
     };
     let blamed = count_found(&lending::honest);
     tally.check(blamed == 0, || format!("honest, blamed {blamed} times"));
-    println!("  {} inputs, found by:", inputs.len());
+    tally.note(&format!("{} inputs, found by:", inputs.len()));
     for flaw in &lending::FLAWS {
-        let found = count_found(&|case: &[u8], book: &[u8], loan: &Loan| {
-            let outcome = lending::honest(case, book, loan);
-            (flaw.spoil)(loan, &outcome);
-            outcome
-        });
-        println!("  {found:6} {}", flaw.name);
+        let found =
+            count_found(&|case: &[u8], book: &[u8], loan: &Loan| flaw.spoil(case, book, loan));
+        tally.note(&format!("{found:6} {}", flaw.name));
         tally.check(found > 0, || format!("not found: {}", flaw.name));
     }
 }

@@ -42,9 +42,9 @@ pub fn control() -> Mutant {
     rule("no slip", Slip::Nothing)
 }
 
+/// Slips that small cases show.
 pub fn all() -> Vec<Mutant> {
-    let mut mutants = slips_of_a_careful_hand();
-    mutants.extend(other_slips_of_the_rule());
+    let mut mutants = rules(|_| true);
     mutants.extend(bad_engines());
     mutants.extend(slips_of_refusal());
     mutants
@@ -52,38 +52,85 @@ pub fn all() -> Vec<Mutant> {
 
 /// The slips that document 01 lists; each of them breaks demand 2 or demand 3.
 pub fn slips_of_a_careful_hand() -> Vec<Mutant> {
-    vec![
-        rule("deletes only visited students", Slip::DeleteOnlyVisited),
-        rule("opens a group while one is open", Slip::OpenWhileOpen),
-        rule("compares marks across groups", Slip::MarksAcrossGroups),
-        rule("student's negative mark is a no", Slip::StudentNegativeIsNo),
-        rule(
-            "workshop's negative mark is a no",
-            Slip::WorkshopNegativeIsNo,
-        ),
-        rule("deletes before full", Slip::DeleteBeforeFull),
-    ]
+    rules(Slip::of_a_careful_hand)
 }
 
-fn other_slips_of_the_rule() -> Vec<Mutant> {
+fn rules(chosen: fn(Slip) -> bool) -> Vec<Mutant> {
+    let slips = SLIPS.iter().filter(|(slip, _)| chosen(*slip));
+    slips.map(|&(slip, name)| rule(name, slip)).collect()
+}
+
+impl Slip {
+    fn of_a_careful_hand(self) -> bool {
+        matches!(
+            self,
+            Slip::DeleteOnlyVisited
+                | Slip::OpenWhileOpen
+                | Slip::MarksAcrossGroups
+                | Slip::StudentNegativeIsNo
+                | Slip::WorkshopNegativeIsNo
+                | Slip::DeleteBeforeFull
+        )
+    }
+}
+
+const SLIPS: [(Slip, &str); 20] = [
+    (Slip::DeleteOnlyVisited, "deletes only visited students"),
+    (Slip::OpenWhileOpen, "opens a group while one is open"),
+    (Slip::MarksAcrossGroups, "compares marks across groups"),
+    (Slip::StudentNegativeIsNo, "student's negative mark is a no"),
+    (
+        Slip::WorkshopNegativeIsNo,
+        "workshop's negative mark is a no",
+    ),
+    (Slip::DeleteBeforeFull, "deletes before full"),
+    (Slip::UnsignedMarks, "compares marks unsigned"),
+    (Slip::QuotaOneMore, "quota one more"),
+    (Slip::QuotaOneLess, "quota one less"),
+    (Slip::FallingVisits, "visits in falling number"),
+    (Slip::StagesIgnored, "ignores the stages"),
+    (Slip::FirstStageOnly, "runs the first stage only"),
+    (Slip::DroppedWaits, "dropped student waits"),
+    (Slip::StudentLineIgnored, "ignores the student's line mark"),
+    (
+        Slip::WorkshopLineIgnored,
+        "ignores the workshop's line mark",
+    ),
+    (Slip::ClosedVisited, "visits where the quota is 0"),
+    (Slip::BeyondLineVisited, "visits beyond the workshop's line"),
+    (Slip::DeleteByUnvisitedMarks, "deletes by unvisited marks"),
+    (Slip::DeleteWholeGroup, "deletes the whole last group"),
+    (Slip::PastOwnLine, "goes past the student's line"),
+];
+
+/// Slips that show only where there are many people or records.
+pub fn of_size() -> Vec<Mutant> {
     vec![
-        rule("compares marks unsigned", Slip::UnsignedMarks),
-        rule("quota one more", Slip::QuotaOneMore),
-        rule("quota one less", Slip::QuotaOneLess),
-        rule("visits in falling number", Slip::FallingVisits),
-        rule("ignores the stages", Slip::StagesIgnored),
-        rule("runs the first stage only", Slip::FirstStageOnly),
-        rule("dropped student waits", Slip::DroppedWaits),
-        rule("ignores the student's line mark", Slip::StudentLineIgnored),
-        rule(
-            "ignores the workshop's line mark",
-            Slip::WorkshopLineIgnored,
-        ),
-        rule("visits where the quota is 0", Slip::ClosedVisited),
-        rule("visits beyond the workshop's line", Slip::BeyondLineVisited),
-        rule("deletes by unvisited marks", Slip::DeleteByUnvisitedMarks),
-        rule("deletes the whole last group", Slip::DeleteWholeGroup),
-        rule("goes past the student's line", Slip::PastOwnLine),
+        mutant("forgets workshop 64", |input| match literal::read(input) {
+            Ok((mut case, mut book)) => {
+                case.pairs.retain(|pair| pair.workshop < 64);
+                book.retain(|record| record.workshop < 64);
+                literal::run(&case, &book)
+            }
+            Err(_) => literal::answer(input),
+        }),
+        on_placed("student numbers in a byte", |_, (places, visits)| {
+            let visits = visits.into_iter().map(|(s, w)| (s & 255, w));
+            (places, visits.collect())
+        }),
+        on_placed("places of 256 students", |_, (mut places, visits)| {
+            places.iter_mut().skip(256).for_each(|place| *place = 0);
+            (places, visits)
+        }),
+        mutant("seats counted in 15 bits", |input| {
+            match (refusal_of(input), with_ample_buffers(input)) {
+                ((6, _), ample) if input.lent.seats == (1 << 15) - 1 => literal::answer(&ample),
+                _ => literal::answer(input),
+            }
+        }),
+        on_refused("record numbers in 16 bits", |_, number, place| {
+            (number, place & 0xffff)
+        }),
     ]
 }
 

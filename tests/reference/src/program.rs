@@ -1,5 +1,6 @@
 //! Tests of the program that reads case.dat and book.dat and prints the answer.
 
+use crate::folder::{Ended, Folder, Output, Pipe, User};
 use crate::gen::{self, Rng};
 use crate::literal;
 use crate::model::*;
@@ -7,82 +8,87 @@ use crate::proved;
 use crate::tally::Tally;
 use std::fs;
 use std::io;
+use std::os::unix::fs::PermissionsExt;
 use std::path::{Path, PathBuf};
-use std::process::{Command, Stdio};
 
 /// Longer files are not read.
 const MAX_FILE: usize = 65_536;
 const UNREAD: &str = "unread\n";
-
-/// A folder of its own, removed at the end.
-struct Folder(PathBuf);
-
-impl Folder {
-    fn new() -> io::Result<Folder> {
-        let path = std::env::temp_dir().join(format!("reference-tests-{}", std::process::id()));
-        fs::create_dir_all(&path)?;
-        Ok(Folder(path))
-    }
-
-    fn file(&self, name: &str) -> PathBuf {
-        self.0.join(name)
-    }
-
-    /// Removes whatever has this name.
-    fn clear(&self, name: &str) {
-        let path = self.file(name);
-        if path.is_dir() {
-            let _ = fs::remove_dir_all(&path);
-        } else {
-            let _ = fs::remove_file(&path);
-        }
-    }
-
-    fn write(&self, name: &str, bytes: &[u8]) {
-        self.clear(name);
-        fs::write(self.file(name), bytes).expect("the folder can be written");
-    }
-
-    fn write_both(&self, input: &Input) {
-        self.write("case.dat", &input.case);
-        self.write("book.dat", &input.book);
-    }
-}
-
-impl Drop for Folder {
-    fn drop(&mut self) {
-        let _ = fs::remove_dir_all(&self.0);
-    }
-}
+const CASE: &str = "case.dat";
+const BOOK: &str = "book.dat";
+/// The top of the repository.
+const TOP: &str = concat!(env!("CARGO_MANIFEST_DIR"), "/../..");
 
 /// The program and the folder it runs in.
-struct Bench<'a> {
-    program: &'a Path,
+struct Bench {
+    program: PathBuf,
     folder: Folder,
 }
 
-impl Bench<'_> {
-    fn output(&self) -> String {
-        let output = Command::new(self.program)
-            .current_dir(&self.folder.0)
-            .stdin(Stdio::null())
-            .output();
-        match output {
-            Ok(output) => String::from_utf8_lossy(&output.stdout).into_owned(),
-            Err(error) => format!("not started: {error}"),
+impl Bench {
+    /// The program is copied, so that every user can run it.
+    fn new(program: &Path) -> io::Result<Bench> {
+        let folder = Folder::new()?;
+        let copy = folder.path("program");
+        fs::copy(program, &copy)?;
+        fs::set_permissions(&copy, fs::Permissions::from_mode(0o755))?;
+        Ok(Bench {
+            program: copy,
+            folder,
+        })
+    }
+
+    fn write(&self, input: &Input) {
+        self.folder.write(CASE, &input.case);
+        self.folder.write(BOOK, &input.book);
+    }
+
+    fn run(&self, user: User, output: Output) -> io::Result<Ended> {
+        self.folder.run(&self.program, user, output)
+    }
+
+    /// The program prints this and nothing else, and ends well.
+    fn expect(&self, tally: &mut Tally, name: &str, expected: &str) {
+        self.expect_as(User::Same, tally, name, expected);
+    }
+
+    fn expect_as(&self, user: User, tally: &mut Tally, name: &str, expected: &str) {
+        match self.run(user, Output::Kept) {
+            Ok(ended) => {
+                let Ended {
+                    printed,
+                    status,
+                    in_time,
+                } = ended;
+                let good = in_time && status.success() && printed == expected;
+                tally.check(good, || {
+                    let time = if in_time { "" } else { ", too long" };
+                    let cut = |text: &str| text.chars().take(80).collect::<String>();
+                    let (printed, expected) = (cut(&printed), cut(expected));
+                    format!("program, {name}: {status}{time}, printed {printed:?}, expected {expected:?}")
+                });
+            }
+            Err(error) => tally.check(false, || format!("program, {name}: not started: {error}")),
         }
     }
 
-    fn expect(&self, tally: &mut Tally, name: &str, expected: &str) {
-        let printed = self.output();
-        tally.check(printed == expected, || {
-            format!("program, {name}: printed {printed:?}, expected {expected:?}")
-        });
+    fn expect_answer(&self, tally: &mut Tally, name: &str, input: &Input) {
+        self.write(input);
+        self.expect(tally, name, &expected_text(input));
     }
 
-    fn expect_answer(&self, tally: &mut Tally, name: &str, input: &Input) {
-        self.folder.write_both(input);
+    /// Both files as pipes, each cut where told.
+    fn expect_piped(&self, tally: &mut Tally, name: &str, input: &Input, cuts: (usize, usize)) {
+        let pipe = |name: &str, bytes: &[u8], cut: usize| -> Pipe {
+            let (first, rest) = bytes.split_at(cut);
+            self.folder.pipe(name, vec![first.to_vec(), rest.to_vec()])
+        };
+        let pipes = [
+            pipe(CASE, &input.case, cuts.0),
+            pipe(BOOK, &input.book, cuts.1),
+        ];
         self.expect(tally, name, &expected_text(input));
+        pipes.into_iter().for_each(Pipe::close);
     }
 }
 
@@ -100,98 +106,179 @@ fn expected_text(input: &Input) -> String {
 
 /// Runs all program tests; `seed` chooses the random ones.
 pub fn run(tally: &mut Tally, program: &Path, seed: u64, random_cases: usize) {
-    let bench = Bench {
-        program,
-        folder: Folder::new().expect("a temporary folder can be made"),
-    };
-    example(tally, &bench);
+    let bench = Bench::new(program).expect("the program can be copied to a temporary folder");
     for proved in proved::table() {
         bench.expect_answer(tally, proved.name, &proved.input);
     }
+    stored_runs(tally, &bench);
+    swapped(tally, &bench);
     unreadable(tally, &bench);
+    devices(tally, &bench);
     sizes(tally, &bench);
+    pipes(tally, &bench);
+    full_disk(tally, &bench);
     random(tally, &bench, seed, random_cases);
 }
 
-/// The lines that the specification prints for example K.
-fn example(tally: &mut Tally, bench: &Bench) {
+// ---- Stored runs ----
+
+/// Example K and the runs in `tests/runs`: files and what is printed for them.
+fn stored_runs(tally: &mut Tally, bench: &Bench) {
+    let top = Path::new(TOP);
+    let place = top.join("crates/place");
+    stored(
+        tally,
+        bench,
+        "K",
+        &place.join("data"),
+        &place.join("stdout"),
+    );
     let (case, book) = proved::example();
-    bench.folder.write_both(&case.input(&book));
-    let lines = "place 1 1\nplace 2 0\nplace 3 2\nvisits 4\n\
-                 visit 1 1\nvisit 1 2\nvisit 2 2\nvisit 3 2\n";
-    bench.expect(tally, "example K", lines);
+    let example = case.input(&book);
+    let same = |name: &str, bytes: &[u8]| {
+        fs::read(place.join("data").join(name)).is_ok_and(|stored| stored == bytes)
+    };
+    let as_stated = same(CASE, &example.case) && same(BOOK, &example.book);
+    tally.check(as_stated, || "the stored K is not the example".to_string());
+
+    let runs = fs::read_dir(top.join("tests/runs")).expect("stored runs");
+    let mut folders: Vec<PathBuf> = runs.flatten().map(|entry| entry.path()).collect();
+    folders.sort();
+    tally.check(folders.len() >= 5, || "stored runs are gone".to_string());
+    for folder in folders {
+        let last = folder.file_name().unwrap_or_default();
+        let name = format!("stored run {}", last.display());
+        stored(tally, bench, &name, &folder, &folder.join("stdout"));
+    }
 }
+
+/// Runs the program on a folder's files, of which one may be missing.
+fn stored(tally: &mut Tally, bench: &Bench, name: &str, files: &Path, printed: &Path) {
+    for file in [CASE, BOOK] {
+        bench.folder.clear(file);
+        if let Ok(bytes) = fs::read(files.join(file)) {
+            bench.folder.write(file, &bytes);
+        }
+    }
+    let printed = fs::read_to_string(printed).unwrap_or_else(|error| error.to_string());
+    bench.expect(tally, name, &printed);
+}
+
+/// The book where the case should be, and the other way round.
+fn swapped(tally: &mut Tally, bench: &Bench) {
+    let (case, book) = proved::example();
+    let example = case.input(&book);
+    let swapped = Input {
+        case: example.book.clone(),
+        book: example.case.clone(),
+        lent: example.lent,
+    };
+    let differ = expected_text(&swapped) != expected_text(&example);
+    tally.check(differ, || "swapped files are not told apart".to_string());
+    bench.expect_answer(tally, "files swapped", &swapped);
+}
+
+// ---- Files that cannot be read ----
 
 /// Missing files, folders in place of files, files without permission.
 fn unreadable(tally: &mut Tally, bench: &Bench) {
     let (case, book) = proved::example();
     let input = case.input(&book);
-    for name in ["case.dat", "book.dat"] {
-        bench.folder.write_both(&input);
+    for name in [CASE, BOOK] {
+        bench.write(&input);
         bench.folder.clear(name);
         bench.expect(tally, &format!("{name} missing"), UNREAD);
 
-        fs::create_dir(bench.folder.file(name)).expect("a folder can be made");
+        bench.folder.folder(name);
         bench.expect(tally, &format!("{name} is a folder"), UNREAD);
 
-        bench.folder.write_both(&input);
-        no_permission(&bench.folder.file(name)).expect("permission can be changed");
-        let readable = fs::read(bench.folder.file(name)).is_ok();
-        let expected = if readable {
-            expected_text(&input)
-        } else {
-            UNREAD.to_string()
-        };
-        bench.expect(tally, &format!("{name} without permission"), &expected);
+        bench.write(&input);
+        no_permission(tally, bench, name);
     }
-    bench.folder.clear("case.dat");
-    bench.folder.clear("book.dat");
+    bench.folder.clear(CASE);
+    bench.folder.clear(BOOK);
     bench.expect(tally, "both missing", UNREAD);
 }
 
-fn no_permission(path: &Path) -> io::Result<()> {
-    use std::os::unix::fs::PermissionsExt;
-    fs::set_permissions(path, fs::Permissions::from_mode(0o000))
+/// Who may read everything runs the program as nobody.
+fn no_permission(tally: &mut Tally, bench: &Bench, name: &str) {
+    let path = bench.folder.path(name);
+    let nothing = fs::Permissions::from_mode(0o000);
+    fs::set_permissions(&path, nothing).expect("permission can be changed");
+    let user = match fs::read(&path) {
+        Ok(_) => User::Nobody,
+        Err(_) => User::Same,
+    };
+    match bench.run(user, Output::Kept) {
+        Ok(_) => bench.expect_as(user, tally, &format!("{name} without permission"), UNREAD),
+        Err(error) => tally.note(&format!("{name} without permission, skipped: {error}")),
+    }
 }
+
+/// Files that never end, that are empty, and that cannot be read though they can be opened.
+fn devices(tally: &mut Tally, bench: &Bench) {
+    let (case, book) = proved::example();
+    let example = case.input(&book);
+    for (name, part) in [(CASE, gen::case_part as gen::Bytes), (BOOK, gen::book_part)] {
+        let mut empty = example.clone();
+        part(&mut empty).clear();
+        let expected = [
+            ("/dev/zero", UNREAD.to_string()),
+            ("/proc/self/mem", UNREAD.to_string()),
+            ("/dev/null", expected_text(&empty)),
+        ];
+        for (device, text) in expected {
+            bench.write(&example);
+            bench.folder.link(name, device);
+            bench.expect(tally, &format!("{name} is {device}"), &text);
+        }
+    }
+}
+
+// ---- Lengths and pipes ----
+
+/// A file by name, with its record's size and an input where it has a given length.
+type Sized = (&'static str, usize, fn(usize) -> Input);
+
+const FILES: [Sized; 2] = [
+    ("case", CASE_RECORD, with_case_of),
+    ("book", BOOK_RECORD, with_book_of),
+];
 
 /// Empty files and files around the longest length.
 fn sizes(tally: &mut Tally, bench: &Bench) {
-    let (case, book) = proved::example();
-    let example = case.input(&book);
-    let longest = longest_case();
-    assert_eq!(longest.case.len(), MAX_FILE);
-    bench.expect_answer(tally, "longest case", &longest);
-    for length in [0, 1, 15, 16, MAX_FILE - 1, MAX_FILE + 1, MAX_FILE + 16] {
-        let mut input = longest.clone();
-        input.case.resize(length, 0);
-        bench.expect_answer(tally, &format!("case of {length} bytes"), &input);
+    for (file, record, with) in FILES {
+        let short = [0, 1, record - 1, record];
+        let long = [MAX_FILE - 1, MAX_FILE, MAX_FILE + 1, MAX_FILE + record];
+        for length in short.into_iter().chain(long) {
+            bench.expect_answer(tally, &format!("{file} of {length} bytes"), &with(length));
+        }
     }
-    let record = &example.book[..BOOK_RECORD];
-    let lengths = [
-        0,
-        1,
-        7,
-        8,
-        MAX_FILE - 1,
-        MAX_FILE,
-        MAX_FILE + 1,
-        MAX_FILE + 8,
-    ];
-    for length in lengths {
-        let mut input = example.clone();
-        input.book = record.iter().copied().cycle().take(length).collect();
-        bench.expect_answer(tally, &format!("book of {length} bytes"), &input);
-    }
-    late_book_fault(tally, bench, &example);
+    let both = Input {
+        book: with_book_of(MAX_FILE).book,
+        ..with_case_of(MAX_FILE)
+    };
+    bench.expect_answer(tally, "both files of the longest length", &both);
+    let mut late = with_book_of(MAX_FILE);
+    late.book[MAX_FILE - BOOK_RECORD] = 9;
+    bench.expect_answer(tally, "fault at the end of the longest book", &late);
 }
 
-/// A fault in the very last record of the longest book.
-fn late_book_fault(tally: &mut Tally, bench: &Bench, example: &Input) {
-    let mut input = example.clone();
-    let record = example.book[..BOOK_RECORD].to_vec();
-    input.book = record.iter().copied().cycle().take(MAX_FILE).collect();
-    input.book[MAX_FILE - BOOK_RECORD] = 9;
-    bench.expect_answer(tally, "fault at the end of the longest book", &input);
+/// The longest good case, with a full book, cut or continued with zeros.
+fn with_case_of(length: usize) -> Input {
+    let mut input = longest_case();
+    assert_eq!(input.case.len(), MAX_FILE);
+    input.case.resize(length, 0);
+    input
+}
+
+/// The example with its first record again and again.
+fn with_book_of(length: usize) -> Input {
+    let (case, book) = proved::example();
+    let mut input = case.input(&book);
+    let record = input.book[..BOOK_RECORD].to_vec();
+    input.book = record.iter().copied().cycle().take(length).collect();
+    input
 }
 
 /// A good case of just the longest length, with a full book.
@@ -203,6 +290,45 @@ fn longest_case() -> Input {
         .truncate(records - case.students.len() - case.workshops.len());
     let book = gen::full_book(&mut rng, &case, MAX_MARK);
     case.input(&book)
+}
+
+/// Files that come in two pieces, as a read gives what is there so far.
+fn pipes(tally: &mut Tally, bench: &Bench) {
+    let (case, book) = proved::example();
+    let example = case.input(&book);
+    let (all, records) = (example.case.len(), example.book.len());
+    for cuts in [
+        (0, 0),
+        (1, 1),
+        (all / 2, records),
+        (all, records / 2),
+        (all - 1, records - 1),
+    ] {
+        bench.expect_piped(tally, &format!("pipes cut at {cuts:?}"), &example, cuts);
+    }
+    for (file, _, with) in FILES {
+        for length in [MAX_FILE, MAX_FILE + 1] {
+            let input = with(length);
+            let (case, book) = (input.case.len(), input.book.len());
+            for cuts in [(case / 2, book / 2), (case - 1, book - 1)] {
+                let name = format!("{file} of {length} bytes, pipes cut at {cuts:?}");
+                bench.expect_piped(tally, &name, &input, cuts);
+            }
+        }
+    }
+}
+
+/// A run whose output cannot be written ends, without a signal.
+fn full_disk(tally: &mut Tally, bench: &Bench) {
+    let (case, book) = proved::example();
+    bench.write(&case.input(&book));
+    match bench.run(User::Same, Output::Full) {
+        Ok(ended) => {
+            tally.note(&format!("output that cannot be written: {}", ended.status));
+            tally.check(ended.status.code().is_some(), || "full disk".to_string());
+        }
+        Err(error) => tally.note(&format!("full disk, skipped: {error}")),
+    }
 }
 
 fn random(tally: &mut Tally, bench: &Bench, seed: u64, count: usize) {

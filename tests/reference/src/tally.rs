@@ -1,14 +1,20 @@
-//! Counting of passes and failures.
+//! Counting of passes and failures, and the parts of a run on all processors.
 
-use std::time::Instant;
+use std::collections::BTreeMap;
+use std::fmt::Write;
+use std::panic::{catch_unwind, AssertUnwindSafe};
+use std::sync::atomic::{AtomicUsize, Ordering};
+use std::sync::mpsc;
+use std::time::{Duration, Instant};
 
-/// At most this many failures are printed in full.
+/// At most this many failures of a part are told in full.
 const SHOWN: u64 = 10;
 
 #[derive(Default)]
 pub struct Tally {
     pub passed: u64,
     pub failed: u64,
+    text: String,
 }
 
 impl Tally {
@@ -20,25 +26,88 @@ impl Tally {
         }
         self.failed += 1;
         if self.failed <= SHOWN {
-            println!("FAILED: {}", describe());
+            self.line(&format!("FAILED: {}", describe()));
         }
     }
 
-    /// Runs a group of tests and prints its passes and its time. A panic is one failure.
-    pub fn group(&mut self, name: &str, run: impl FnOnce(&mut Tally)) {
-        let start = Instant::now();
-        let mut inner = Tally::default();
-        let outcome = std::panic::catch_unwind(std::panic::AssertUnwindSafe(|| run(&mut inner)));
-        if outcome.is_err() {
-            inner.failed += 1;
+    /// A line that is printed with the part.
+    pub fn note(&mut self, text: &str) {
+        self.line(&format!("  {text}"));
+    }
+
+    fn line(&mut self, text: &str) {
+        let _ = writeln!(self.text, "{text}");
+    }
+}
+
+/// One part of the tests.
+pub struct Part<'a> {
+    pub name: &'static str,
+    pub run: Box<dyn Fn(&mut Tally) + Sync + 'a>,
+}
+
+impl Part<'_> {
+    /// Runs the part; its passes and its time are the last line of its text. A panic is one failure.
+    fn tally(&self) -> Tally {
+        let (start, used) = (Instant::now(), processor_time());
+        let mut tally = Tally::default();
+        if catch_unwind(AssertUnwindSafe(|| (self.run)(&mut tally))).is_err() {
+            tally.failed += 1;
         }
-        println!(
-            "{name}: {} passed, {} failed, {:.2} s",
-            inner.passed,
-            inner.failed,
-            start.elapsed().as_secs_f64()
+        let used = processor_time().saturating_sub(used).as_secs_f64();
+        let text = format!(
+            "{}: {} passed, {} failed, {:.2} s, {used:.2} s of a processor",
+            self.name,
+            tally.passed,
+            tally.failed,
+            start.elapsed().as_secs_f64(),
         );
-        self.passed += inner.passed;
-        self.failed += inner.failed;
+        tally.line(&text);
+        tally
+    }
+}
+
+/// What this thread has used of a processor; nothing where the system does not tell.
+fn processor_time() -> Duration {
+    let told = std::fs::read_to_string("/proc/thread-self/schedstat").unwrap_or_default();
+    let first = told.split(' ').next().and_then(|word| word.parse().ok());
+    Duration::from_nanos(first.unwrap_or(0))
+}
+
+/// Runs the parts on all processors, in the order of the list, and prints them in that order.
+pub fn run(parts: &[Part]) -> Tally {
+    let threads = std::thread::available_parallelism().map_or(1, usize::from);
+    let next = AtomicUsize::new(0);
+    let (sender, receiver) = mpsc::channel();
+    let mut whole = Tally::default();
+    std::thread::scope(|scope| {
+        for _ in 0..threads {
+            let (sender, next) = (sender.clone(), &next);
+            scope.spawn(move || loop {
+                let at = next.fetch_add(1, Ordering::Relaxed);
+                let Some(part) = parts.get(at) else {
+                    return;
+                };
+                sender.send((at, part.tally())).expect("they are received");
+            });
+        }
+        drop(sender);
+        print_in_order(receiver, &mut whole);
+    });
+    whole
+}
+
+/// Prints what comes, each part when those before it are printed, and adds it up.
+fn print_in_order(receiver: mpsc::Receiver<(usize, Tally)>, whole: &mut Tally) {
+    let mut waiting = BTreeMap::new();
+    let mut printed = 0;
+    for (at, tally) in receiver {
+        waiting.insert(at, tally);
+        while let Some(tally) = waiting.remove(&printed) {
+            print!("{}", tally.text);
+            whole.passed += tally.passed;
+            whole.failed += tally.failed;
+            printed += 1;
+        }
     }
 }

@@ -34,10 +34,20 @@ kind-at-requires : tie.Need-kind-at-requires Inv-loop μ-loop
 kind-at-requires c κs = omega (arith, c .before .before .row-count .ensures)
 
 add-n : tie.Need-add-n Inv-loop μ-loop
-add-n c = omega (arith, c .before .before .before .before .row-count .ensures, div-add-mod' (length (c .before .before .before .before .before .before .args .case .now)) 16)
+add-n c = omega (
+  arith,
+  c .before .before .before .before .row-count .ensures,
+  div-add-mod'
+      (length (c .before .before .before .before .before .before .args .case .now)) 16,
+)
 
 add-i : tie.Need-add-i Inv-loop μ-loop
-add-i c = omega (arith, c .before .before .before .before .row-count .ensures, div-add-mod' (length (c .before .before .before .before .before .before .args .case .now)) 16)
+add-i c = omega (
+  arith,
+  c .before .before .before .before .row-count .ensures,
+  div-add-mod'
+      (length (c .before .before .before .before .before .before .args .case .now)) 16,
+)
 
 loop-less : tie.Need-loop-less Inv-loop μ-loop
 loop-less c = omega arith
@@ -45,11 +55,23 @@ loop-less c = omega arith
 loop-again : tie.Need-loop-again Inv-loop μ-loop
 loop-again c =
     let here = c .before .before .before .loop in
-    let case = c .before .before .before .before .before .before .args .case .now in
-    (omega arith, omega arith, rw (count-on (isOne case) (here .i), eq-eqb (rowAt case (here .i) .kind) 1 (sym (c .before .kind-at .ensures) ∙ c .if1 .taken)) (omega arith))
+    let case = c .before .before .before .before .before .before .args .case .now in (
+      omega arith,
+      omega arith,
+      rw (
+        count-on (isOne case) (here .i),
+        eq-eqb (rowAt case (here .i) .kind) 1
+            (sym (c .before .kind-at .ensures) ∙ c .if1 .taken),
+      ) (omega arith),
+    )
 
 add-i-2 : tie.Need-add-i-2 Inv-loop μ-loop
-add-i-2 c = omega (arith, c .before .before .before .before .row-count .ensures, div-add-mod' (length (c .before .before .before .before .before .before .args .case .now)) 16)
+add-i-2 c = omega (
+  arith,
+  c .before .before .before .before .row-count .ensures,
+  div-add-mod'
+      (length (c .before .before .before .before .before .before .args .case .now)) 16,
+)
 
 loop-less-2 : tie.Need-loop-less-2 Inv-loop μ-loop
 loop-less-2 c = omega arith
@@ -57,8 +79,15 @@ loop-less-2 c = omega arith
 loop-again-2 : tie.Need-loop-again-2 Inv-loop μ-loop
 loop-again-2 c =
     let here = c .before .before .before .loop in
-    let case = c .before .before .before .before .before .before .args .case .now in
-    (omega arith, omega arith, rw (count-on (isOne case) (here .i), ne-eqb (rowAt case (here .i) .kind) 1 (λ q. c .if1 .left (c .before .kind-at .ensures ∙ q))) (omega arith))
+    let case = c .before .before .before .before .before .before .args .case .now in (
+      omega arith,
+      omega arith,
+      rw (
+        count-on (isOne case) (here .i),
+        ne-eqb (rowAt case (here .i) .kind) 1
+            (λ q. c .if1 .left (c .before .kind-at .ensures ∙ q)),
+      ) (omega arith),
+    )
 
 returns : tie.Need-returns Inv-loop μ-loop
 unfolding marketOf rows

@@ -32,7 +32,15 @@ begin-run-requires : tie.Need-begin-run-requires
 begin-run-requires c κs =
     let start = c .before .before .before .before .before .before .before .before .before .before .before .before .before .before .before in
     let v = c .before .checked2 .given in
-    let k = clean (start .args .case .now) (start .args .book .now) (c .before .before .before .before .before .check .last .1 .1 .1 .0) (roomOf (start .args .places) (start .args .visits) (length (start .args .seats .now)) (length (start .args .index .now)) (start .args .states)) (c .before .before .before .before .before .check .result) (c .before .before .before .before .before .check .ensures) (v .0 .0) (v .0 .1 .0) (v .0 .1 .1 .0) (v .1) (λ j. omega (arith, c .before .before .before .before .before .before .before .before .before .before .before .before .before .before .shared-slice-known .given j)) in
+    let k = clean (start .args .case .now) (start .args .book .now) (c .before .before .before .before .before .check .last .1 .1 .1 .0)
+    (roomOf (start .args .places) (start .args .visits) (length (start .args .seats .now)) (length (start .args .index .now))
+    (start .args .states)) (c .before .before .before .before .before .check .result) (c .before .before .before .before .before .check .ensures)
+    (v .0 .0) (v .0 .1 .0) (v .0 .1 .1 .0) (v .1)
+    (λ j. omega (
+      arith,
+      c .before .before .before .before .before .before .before .before .before .before .before .before .before .before
+          .shared-slice-known .given j,
+    )) in
     ((sym (k .students), k .found .manyStudents), k .student)
 
 same-length : tie.Need-same-length
@@ -47,7 +55,12 @@ returns c =
     let v = c .before .before .checked .given in
     record {
       cleared = c .before .before .before .before .before .before .before .before .before .before .clear .ensures;
-      found = found-halted (start .args .case .now) (start .args .book .now) (c .before .before .before .before .before .before .check .last .1 .1 .1 .0) (roomOf (start .args .places) (start .args .visits) (length (start .args .seats .now)) (length (start .args .index .now)) (start .args .states)) (c .before .before .before .before .before .before .check .result) (c .before .before .before .before .before .before .check .ensures) (v .0 .0) (v .0 .1 .0) (v .1) _ (ap (λ r. record { run = r; cause = v .0 .0; «record» = v .0 .1 .0; students = 0; workshops = 0 }) (c .no-run .ensures));
+      found = found-halted (start .args .case .now) (start .args .book .now)
+          (c .before .before .before .before .before .before .check .last .1 .1 .1 .0)
+          (roomOf (start .args .places) (start .args .visits) (length (start .args .seats .now)) (length (start .args .index .now))
+          (start .args .states)) (c .before .before .before .before .before .before .check .result)
+          (c .before .before .before .before .before .before .check .ensures) (v .0 .0) (v .0 .1 .0) (v .1) _
+          (ap (λ r. record { run = r; cause = v .0 .0; «record» = v .0 .1 .0; students = 0; workshops = 0 }) (c .no-run .ensures));
       left = c .before .before .before .before .before .before .check .ensures .left;
     }
 
@@ -63,7 +76,16 @@ returns-2 c =
     let v = c .before .before .checked2 .given in
     record {
       cleared = c .before .before .before .before .before .before .before .before .before .before .clear .ensures;
-      found = found-started (start .args .case .now) (start .args .book .now) (c .before .before .before .before .before .before .check .last .1 .1 .1 .0) (roomOf (start .args .places) (start .args .visits) (length (start .args .seats .now)) (length (start .args .index .now)) (start .args .states)) (c .before .before .before .before .before .before .check .result) (c .before .before .before .before .before .before .check .ensures) (v .0 .0) (v .0 .1 .0) (v .0 .1 .1 .0) (v .1) (λ j. omega (arith, c .before .before .before .before .before .before .before .before .before .before .before .before .before .before .before .shared-slice-known .given j)) _
+      found = found-started (start .args .case .now) (start .args .book .now)
+          (c .before .before .before .before .before .before .check .last .1 .1 .1 .0)
+          (roomOf (start .args .places) (start .args .visits) (length (start .args .seats .now)) (length (start .args .index .now))
+          (start .args .states)) (c .before .before .before .before .before .before .check .result)
+          (c .before .before .before .before .before .before .check .ensures) (v .0 .0) (v .0 .1 .0) (v .0 .1 .1 .0) (v .1)
+          (λ j. omega (
+            arith,
+            c .before .before .before .before .before .before .before .before .before .before .before .before .before .before
+                .before .shared-slice-known .given j,
+          )) _
           (c .begin-run .ensures (resultsIn (start .args .book .now))) refl refl refl;
       left = c .before .before .before .before .before .before .check .ensures .left;
     }

@@ -23,9 +23,11 @@ use prog.Wp.{Heap, Out, Env, Calls, Loops, Wp, atReturn, afterTurn, afterBlock, 
 use ghost.Atoms.{Atoms, sem}
 use contract.Monad.{Fun}
 use contract.Running.{givenOf, tables, tablesOf}
-use types.Kit.{Given, Item, ‵, _⊛_, _$_, _∵_, !, qed, by, move, keep, drop, split, join, rewrite, fsplit, fjoin, feqI, suffices, frame, done, Sq, runs, anyQ, atRet}
+use types.Kit.{Given, Item, ‵, _⊛_, _$_, _∵_, !, qed, by, move, keep, drop, split, join, rewrite, fsplit, fjoin, feqI, suffices, frame, done, Sq}
+use types.Kit.{runs, anyQ, atRet}
 use types.Part.{agg, whole, sub, look-in}
-use types.Run.{look, init, store, store-raw, forget, stop, hop, fld, from, load, lit, unit-lit, of-opd, bin, and-then, no-more, assigns, assigns-last, first, blocks, stays, leaves-loop, loops, again, Below, exec, returns, enter, alloc1, alloc0, params1, pass1, pass0, free1, free0}
+use types.Run.{look, init, store, store-raw, forget, stop, hop, fld, from, load, lit, unit-lit, of-opd, bin, and-then, no-more, assigns, assigns-last}
+use types.Run.{first, blocks, stays, leaves-loop, loops, again, Below, exec, returns, enter, alloc1, alloc0, params1, pass1, pass0, free1, free0}
 use sound.WpLaws.{WpFn-mono}
 use denote.RattleType.{owns}
 use denote.Memory.{pointee}
@@ -77,7 +79,8 @@ module _ {M : Type 1} (𝓤 : URA M) (H : Heap 𝓤) (A : Atoms 𝓤) (W : Given
       → ent 𝓤 (sep 𝓤 (sem 𝓤 H A (MutSlice (named 0) κ T.the-row .own (deck zs) (s ∷ []))) (A .lft κ q)) (Post vunit)
   exits zs len e =
       qed W (‵ (MutSlice (named 0) κ T.the-row .own (deck zs) (s ∷ [])) ∷ ‵ (flft κ q) ∷ []) ∵
-      suffices ! _ (ends-at 𝓤 H A clear.ended stayed (clear.clauses 𝓤 H A mem run) W (((κ, tt), (q, tt), tt, (deck ys, tt), at), tt) vunit tt (zs, tt) (len, tt)) $
+      suffices ! _ (ends-at 𝓤 H A clear.ended stayed (clear.clauses 𝓤 H A mem run) W (((κ, tt), (q, tt), tt, (deck ys, tt), at), tt) vunit tt (zs, tt)
+      (len, tt)) $
       says ! e $
       nothing ! $ move ! (2 ∷ 0 ∷ []) $ join ! $ frame ! $ nothing ! $ move ! (1 ∷ 0 ∷ []) $ fjoin ! $ feqI ! (List Val) (vunit ∷ []) (vunit ∷ []) refl $
       move ! (1 ∷ 0 ∷ []) $ done !
@@ -107,7 +110,8 @@ module _ {M : Type 1} (𝓤 : URA M) (H : Heap 𝓤) (A : Atoms 𝓤) (W : Given
     abbrev At : Here → List (Item 𝓤)
     At t = ‵ (row T.the-row fullShare (front (t .i) (t .rest)) b o) ∷ ‵ (Opened T.the-row κ q γ b o ys) ∷ ‵ (froom tyPtr l₆ 0) ∷ ‵ (fdies tyPtr l₆)
         ∷ ‵ (froom T′.mir l₅ 0) ∷ ‵ (fdies T′.mir l₅)
-        ∷ ‵ (froom tyBool l₄ 0) ∷ ‵ (fdies tyBool l₄) ∷ ‵ (froom word l₃ 0) ∷ ‵ (fdies word l₃) ∷ ‵ (fat fullShare word l₂ 0 (vint w64 (t .i))) ∷ ‵ (fdies word l₂)
+        ∷ ‵ (froom tyBool l₄ 0) ∷ ‵ (fdies tyBool l₄) ∷ ‵ (froom word l₃ 0) ∷ ‵ (fdies word l₃) ∷ ‵ (fat fullShare word l₂ 0 (vint w64 (t .i))) ∷ ‵
+        (fdies word l₂)
         ∷ ‵ (fat fullShare slice l₁ 0 s) ∷ ‵ (fdies slice l₁) ∷ ‵ (froom tyUnit l₀ 0) ∷ ‵ (fdies tyUnit l₀) ∷ []
 
     -- where the loop is left the rest of the body runs
@@ -177,7 +181,8 @@ module _ {M : Type 1} (𝓤 : URA M) (H : Heap 𝓤) (A : Atoms 𝓤) (W : Given
         exec ! C Λ En code-mir.t-3 (atRet En Post) $ closes-row ! tt T.the-row (named 0) κ q γ b o ys (front i []) room (front-length i [] ∙ len) $
         assigns ! (of-opd ! (unit-lit !)) (from ! (stop !)) (init ! 14 refl (tt, tt)) $
         returns ! (look ! 14 refl) $ forget ! 6 refl $ forget ! 8 refl $ forget ! 10 refl $ forget ! 12 refl $ forget ! 14 refl $
-        move ! (14 ∷ 15 ∷ []) $ free1 ! $ move ! (12 ∷ 13 ∷ []) $ free1 ! $ move ! (10 ∷ 11 ∷ []) $ free1 ! $ move ! (8 ∷ 9 ∷ []) $ free1 ! $ move ! (6 ∷ 7 ∷ []) $
+        move ! (14 ∷ 15 ∷ []) $ free1 ! $ move ! (12 ∷ 13 ∷ []) $ free1 ! $ move ! (10 ∷ 11 ∷ []) $ free1 ! $ move ! (8 ∷ 9 ∷ []) $ free1 ! $ move !
+        (6 ∷ 7 ∷ []) $
         free1 ! $ move ! (4 ∷ 5 ∷ []) $ free1 ! $ move ! (2 ∷ 3 ∷ []) $ free1 ! $ free0 ! $
         keep ! (0 ∷ 1 ∷ []) $ by ! (exits (front i []) (front-length i [] ∙ len) (front-all i ∙ ap (λ (m : ℕ). replicate m zeroState) all))
       where
@@ -207,7 +212,8 @@ module _ {M : Type 1} (𝓤 : URA M) (H : Heap 𝓤) (A : Atoms 𝓤) (W : Given
       alloc1 ! (λ l₀. alloc1 ! (λ l₁. alloc1 ! (λ l₂. alloc1 ! (λ l₃. alloc1 ! (λ l₄. alloc1 ! (λ l₅. alloc1 ! (λ l₆. alloc0 ! $ params1 ! $
       pass1 ! (init ! 10 refl (tt, (tt, (record { fits = room .0 }, tt)))) $ pass0 ! $
       assigns ! (of-opd ! (lit ! tt)) (from ! (stop !)) (init ! 8 refl (tt, record { fits = lit< tt })) $
-      move ! (15 ∷ []) $ fsplit ! $ move ! (1 ∷ []) $ drop ! $ move ! (15 ∷ []) $ split ! $ move ! (2 ∷ 0 ∷ []) $ opens-row ! tt T.the-row (named 0) κ q γ b o ys $
+      move ! (15 ∷ []) $ fsplit ! $ move ! (1 ∷ []) $ drop ! $ move ! (15 ∷ []) $ split ! $ move ! (2 ∷ 0 ∷ []) $ opens-row ! tt T.the-row
+      (named 0) κ q γ b o ys $
       move ! (2 ∷ []) $ drop ! $ looped 𝓣 l₀ l₁ l₂ l₃ l₄ l₅ l₆ (record { i = 0; rest = ys; len = omega arith }))))))))
 
 module _ {M : Type 1} (𝓤 : URA M) (H : Heap 𝓤) (A : Atoms 𝓤) (W : Given 𝓤 H A) (mem : Memory → SProp 𝓤) (run : Routine → Fun 𝓤) where

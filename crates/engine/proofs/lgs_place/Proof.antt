@@ -18,9 +18,11 @@ use prog.Wp.{Heap, Calls, Loops, WpFn, Tables}
 use ghost.Atoms.{Atoms, sem}
 use contract.Monad.{Fun, fact}
 use contract.Running.{givenOf, tables, tablesOf}
-use types.Kit.{Given, Item, ‵, raw, some, _⊛_, ⋆, _$_, _∵_, !, qed, by, move, keep, drop, use1, group, split, join, pick, fsplit, fjoin, feqL, suffices, frame, done}
+use types.Kit.{Given, Item, ‵, raw, some, _⊛_, ⋆, _$_, _∵_, !, qed, by, move, keep, drop, use1, group, split, join, pick, fsplit, fjoin, feqL}
+use types.Kit.{suffices, frame, done}
 use types.Part.{agg, whole, sub, look-in}
-use types.Run.{look, init, forget, stop, hop, fld, from, load, addr, and-then, no-more, assigns, land, returns, enter, alloc1, alloc0, params1, pass1, pass0, free1, free0}
+use types.Run.{look, init, forget, stop, hop, fld, from, load, addr, and-then, no-more, assigns, land, returns, enter, alloc1, alloc0, params1}
+use types.Run.{pass1, pass0, free1, free0}
 use sound.WpLaws.{FmC, fmOf, WpFn-mono}
 use denote.RattleType.{owns}
 use denote.Laws.{Is}
@@ -66,7 +68,25 @@ use Rattle.engine.proofs.lgs_place.Statement as stated
 use Rattle.engine.proofs.lgs_place.Code as code
 
 abbrev stayed : Stays (lgs-place.ended .signature .params) (lgs-place.ended .kept)
-stayed = (stay-none-slice (0 ∷ []) tt (plain (λ _. u8)) yes, (stay-none-slice (1 ∷ []) tt (plain (λ _. u8)) yes, (stay-slice (2 ∷ []) tt (plain (λ _. u16)), (stay-slice (3 ∷ []) tt (plain (λ _. u16)), (stay-slice (4 ∷ []) tt (plain (λ _. u16)), (stay-slice (5 ∷ []) tt (plain (λ _. u16)), (stay-slice (6 ∷ []) tt (plain (λ _. T.the-row)), tt)))))))
+stayed = (
+  stay-none-slice (0 ∷ []) tt (plain (λ _. u8)) yes,
+  (
+    stay-none-slice (1 ∷ []) tt (plain (λ _. u8)) yes,
+    (
+      stay-slice (2 ∷ []) tt (plain (λ _. u16)),
+      (
+        stay-slice (3 ∷ []) tt (plain (λ _. u16)),
+        (
+          stay-slice (4 ∷ []) tt (plain (λ _. u16)),
+          (
+            stay-slice (5 ∷ []) tt (plain (λ _. u16)),
+            (stay-slice (6 ∷ []) tt (plain (λ _. T.the-row)), tt),
+          ),
+        ),
+      ),
+    ),
+  ),
+)
 
 module _ {M : Type 1} (𝓤 : URA M) (H : Heap 𝓤) (A : Atoms 𝓤) (mem : Memory → SProp 𝓤) (run : Routine → Fun 𝓤) where
   -- the contracts that the proof cites
@@ -134,7 +154,8 @@ module _ {M : Type 1} (𝓤 : URA M) (H : Heap 𝓤) (A : Atoms 𝓤) (W : Given
       (R′.lowered r) r (tt, (tt, (places₁, (visits₁, (seats₁, (index₁, (states₁, tt))))))) (tt, (tt, (len₂, (len₃, (len₄, (len₅, (len₆, tt)))))))) $
       says2 ! f₁ f₂ $
       -- the tokens
-      nothing ! $ move ! (2 ∷ 0 ∷ []) $ join ! $ move ! (3 ∷ 0 ∷ []) $ join ! $ move ! (4 ∷ 0 ∷ []) $ join ! $ move ! (5 ∷ 0 ∷ []) $ join ! $ move ! (6 ∷ 0 ∷ []) $
+      nothing ! $ move ! (2 ∷ 0 ∷ []) $ join ! $ move ! (3 ∷ 0 ∷ []) $ join ! $ move ! (4 ∷ 0 ∷ []) $ join ! $ move ! (5 ∷ 0 ∷ []) $ join ! $ move !
+      (6 ∷ 0 ∷ []) $
       join ! $ move ! (9 ∷ 0 ∷ []) $ join ! $ move ! (7 ∷ 0 ∷ []) $ join ! $ frame ! $
       -- what is had of the parameters, and the result
       nothing ! $ move ! (1 ∷ 0 ∷ []) $ fjoin ! $ move ! (1 ∷ 0 ∷ []) $ fjoin ! $ move ! (1 ∷ 0 ∷ []) $ fjoin ! $ move ! (1 ∷ 0 ∷ []) $ fjoin ! $
@@ -150,7 +171,16 @@ module _ {M : Type 1} (𝓤 : URA M) (H : Heap 𝓤) (A : Atoms 𝓤) (W : Given
   passed a₂ a₃ a₄ a₅ a₆ = (ref p₀ case, (ref p₁ book, (anew p₂ a₂ places, (anew p₃ a₃ visits, (anew p₄ a₄ seats, (anew p₅ a₅ index, (anew p₆ a₆ ys, tt)))))))
 
   abbrev to-place : Loan → Loan → Loan → Loan → Loan → PlaceOf 𝓤 H A mem run .Ghost
-  to-place a₂ a₃ a₄ a₅ a₆ = ((lives a₂ a₃ a₄ a₅ a₆, (q₀, (q₁, (fullShare, (fullShare, (fullShare, (fullShare, (fullShare, tt))))))), tt, passed a₂ a₃ a₄ a₅ a₆, at), tt)
+  to-place a₂ a₃ a₄ a₅ a₆ = (
+    (
+      lives a₂ a₃ a₄ a₅ a₆,
+      (q₀, (q₁, (fullShare, (fullShare, (fullShare, (fullShare, (fullShare, tt))))))),
+      tt,
+      passed a₂ a₃ a₄ a₅ a₆,
+      at,
+    ),
+    tt,
+  )
 
   abbrev Asked : Loan → Loan → Loan → Loan → Loan → List (Item 𝓤)
   Asked a₂ a₃ a₄ a₅ a₆ = Case ∷ ‵ (flft κ₀ q₀) ∷ Book ∷ ‵ (flft κ₁ q₁) ∷ ‵ (MutSlice (named 2) (a₂ .ν ∷ []) u16 .own (anew p₂ a₂ places) (sv p₂ places ∷ []))
@@ -160,7 +190,8 @@ module _ {M : Type 1} (𝓤 : URA M) (H : Heap 𝓤) (A : Atoms 𝓤) (W : Given
       ∷ ‵ (MutSlice (named 6) (a₆ .ν ∷ []) T.the-row .own (anew p₆ a₆ ys) (sv p₆ ys ∷ [])) ∷ ‵ (flft (a₆ .ν ∷ []) fullShare) ∷ []
 
   goes : (a₂ a₃ a₄ a₅ a₆ : Loan) → ent 𝓤 (⋆ 𝓤 H A (Asked a₂ a₃ a₄ a₅ a₆)) (PlaceOf 𝓤 H A mem run .pre (to-place a₂ a₃ a₄ a₅ a₆))
-  goes a₂ a₃ a₄ a₅ a₆ = qed W (Asked a₂ a₃ a₄ a₅ a₆) ∵ nothing ! $ move ! (13 ∷ 0 ∷ []) $ fjoin ! $ move ! (11 ∷ 0 ∷ []) $ fjoin ! $ move ! (9 ∷ 0 ∷ []) $ fjoin ! $
+  goes a₂ a₃ a₄ a₅ a₆ = qed W (Asked a₂ a₃ a₄ a₅ a₆) ∵ nothing ! $ move ! (13 ∷ 0 ∷ []) $ fjoin ! $ move ! (11 ∷ 0 ∷ []) $ fjoin ! $ move !
+      (9 ∷ 0 ∷ []) $ fjoin ! $
       move ! (7 ∷ 0 ∷ []) $ fjoin ! $ move ! (5 ∷ 0 ∷ []) $ fjoin ! $ move ! (3 ∷ 0 ∷ []) $ fjoin ! $ move ! (1 ∷ 0 ∷ []) $ fjoin ! $ nothing ! $
       move ! (8 ∷ 0 ∷ []) $ join ! $ move ! (7 ∷ 0 ∷ []) $ join ! $ move ! (6 ∷ 0 ∷ []) $ join ! $ move ! (5 ∷ 0 ∷ []) $ join ! $ move ! (4 ∷ 0 ∷ []) $ join ! $
       move ! (3 ∷ 0 ∷ []) $ join ! $ move ! (2 ∷ 0 ∷ []) $ join ! $ join ! $ frame ! $ done !
@@ -201,7 +232,8 @@ module _ {M : Type 1} (𝓤 : URA M) (H : Heap 𝓤) (A : Atoms 𝓤) (W : Given
         -- what the parameters own, and the tokens, one by one
         move ! (39 ∷ []) $ fsplit ! $ move ! (1 ∷ []) $ fsplit ! $ move ! (1 ∷ []) $ fsplit ! $ move ! (1 ∷ []) $ fsplit ! $ move ! (1 ∷ []) $ fsplit ! $
         move ! (1 ∷ []) $ fsplit ! $ move ! (1 ∷ []) $ fsplit ! $ move ! (1 ∷ []) $ drop ! $ move ! (45 ∷ []) $ split ! $ move ! (1 ∷ []) $ split ! $
-        move ! (1 ∷ []) $ split ! $ move ! (1 ∷ []) $ split ! $ move ! (1 ∷ []) $ split ! $ move ! (1 ∷ []) $ split ! $ move ! (1 ∷ []) $ split ! $ move ! (1 ∷ []) $
+        move ! (1 ∷ []) $ split ! $ move ! (1 ∷ []) $ split ! $ move ! (1 ∷ []) $ split ! $ move ! (1 ∷ []) $ split ! $ move !
+        (1 ∷ []) $ split ! $ move ! (1 ∷ []) $
         drop ! $ move ! (7 ∷ 0 ∷ 8 ∷ 1 ∷ 9 ∷ 2 ∷ 10 ∷ 3 ∷ 11 ∷ 4 ∷ 13 ∷ 6 ∷ 12 ∷ 5 ∷ []) $
         assigns ! (addr ! (from ! (fld ! refl (hop ! (look-in ! 44 (sub ! 0 refl (whole !))) (stop !))))) (from ! (stop !)) (init ! 32 refl (tt, tt)) $
         assigns ! (agg ! (and-then ! (load ! (from ! (stop !)) (look ! 32 refl)) (and-then ! (load ! (from ! (fld ! refl (stop !)))
@@ -252,11 +284,13 @@ module _ {M : Type 1} (𝓤 : URA M) (H : Heap 𝓤) (A : Atoms 𝓤) (W : Given
         move ! (5 ∷ 14 ∷ 11 ∷ []) $ back-on ! tt u16 (named 3) κ₃ q₃ (p₃ .γ) (p₃ .b) (p₃ .o) (length visits) ν₃ δ₃ visits (ws .1 .1 .1 .0) room₃ refl e₃ $
         move ! (6 ∷ 14 ∷ 11 ∷ []) $ back-on ! tt u16 (named 4) κ₄ q₄ (p₄ .γ) (p₄ .b) (p₄ .o) (length seats) ν₄ δ₄ seats (ws .1 .1 .1 .1 .0) room₄ refl e₄ $
         move ! (7 ∷ 14 ∷ 11 ∷ []) $ back-on ! tt u16 (named 5) κ₅ q₅ (p₅ .γ) (p₅ .b) (p₅ .o) (length index) ν₅ δ₅ index (ws .1 .1 .1 .1 .1 .0) room₅ refl e₅ $
-        move ! (8 ∷ 14 ∷ 11 ∷ []) $ back-on ! tt T.the-row (named 6) κ₆ q₆ (p₆ .γ) (p₆ .b) (p₆ .o) (length ys) ν₆ δ₆ ys (ws .1 .1 .1 .1 .1 .1 .0) room₆ refl e₆ $
+        move ! (8 ∷ 14 ∷ 11 ∷ []) $ back-on ! tt T.the-row (named 6) κ₆ q₆ (p₆ .γ) (p₆ .b) (p₆ .o) (length ys) ν₆ δ₆ ys
+        (ws .1 .1 .1 .1 .1 .1 .0) room₆ refl e₆ $
         move ! (0 ∷ 1 ∷ 2 ∷ 3 ∷ 4 ∷ 5 ∷ 6 ∷ 7 ∷ 8 ∷ 9 ∷ 13 ∷ 11 ∷ 12 ∷ 10 ∷ []) $
         land ! (from ! (stop !)) (init ! 34 refl (EL.lawful N.the-type N′.the-laws 𝓤 H A W tt .typed a _ made .0)) $
         -- its numbers
-        calls-plain ! fm numbers.signature (numbers.spec 𝓤 H A mem run) known-numbers (to-numbers a) (λ r. r ≡ reportOf a) (told a) R′.lowered (R′.lowers .val-is)
+        calls-plain ! fm numbers.signature (numbers.spec 𝓤 H A mem run) known-numbers (to-numbers a) (λ r. r ≡ reportOf a) (told a) R′.lowered
+        (R′.lowers .val-is)
         (asks a made) (and-then ! (load ! (from ! (stop !)) (look ! 35 refl)) (no-more !)) (λ r e made′.
         land ! (from ! (stop !)) (init ! 50 refl (LL.lawful R.the-type R′.the-laws 𝓤 H A W .typed r _ made′ .0)) $
         returns ! (look ! 50 refl) $ forget ! 14 refl $ forget ! 16 refl $ forget ! 18 refl $ forget ! 20 refl $ forget ! 22 refl $ forget ! 24 refl $
@@ -275,10 +309,29 @@ module _ {M : Type 1} (𝓤 : URA M) (H : Heap 𝓤) (A : Atoms 𝓤) (W : Given
 
 module _ {M : Type 1} (𝓤 : URA M) (H : Heap 𝓤) (A : Atoms 𝓤) (W : Given 𝓤 H A) (mem : Memory → SProp 𝓤) (run : Routine → Fun 𝓤) where
   lgs-place-walks : (C : Calls 𝓤 H) (Λ : Loops 𝓤 H) → FmC 𝓤 H (W .laws) C → Triple 𝓤 (C #engine·place) (PlaceOf 𝓤 H A mem run)
-      → Triple 𝓤 (C #answering·numbers) (NumbersOf 𝓤 H A mem run) → Walks 𝓤 H A lgs-place.ended stayed (WpFn 𝓤 H C Λ code.function) (lgs-place.clauses 𝓤 H A mem run)
+      → Triple 𝓤 (C #answering·numbers) (NumbersOf 𝓤 H A mem run) → Walks 𝓤 H A lgs-place.ended stayed (WpFn 𝓤 H C Λ code.function)
+      (lgs-place.clauses 𝓤 H A mem run)
   lgs-place-walks C Λ fm known-place known-numbers = walked 𝓤 H A lgs-place.ended stayed (lgs-place.clauses 𝓤 H A mem run) (WpFn 𝓤 H C Λ code.function)
       (λ κs. (slice-vals, (slice-vals, (slice-vals, (slice-vals, (slice-vals, (slice-vals, (slice-vals, tt))))))))
-      (λ κs. (shr-slice-tells (named 0) (κs .0) u8, (shr-slice-tells (named 1) (κs .1 .0) u8, (mut-slice-tells (named 2) (κs .1 .1 .0) u16, (mut-slice-tells (named 3) (κs .1 .1 .1 .0) u16, (mut-slice-tells (named 4) (κs .1 .1 .1 .1 .0) u16, (mut-slice-tells (named 5) (κs .1 .1 .1 .1 .1 .0) u16, (mut-slice-tells (named 6) (κs .1 .1 .1 .1 .1 .1 .0) T.the-row, tt))))))))
+      (λ κs. (
+        shr-slice-tells (named 0) (κs .0) u8,
+        (
+          shr-slice-tells (named 1) (κs .1 .0) u8,
+          (
+            mut-slice-tells (named 2) (κs .1 .1 .0) u16,
+            (
+              mut-slice-tells (named 3) (κs .1 .1 .1 .0) u16,
+              (
+                mut-slice-tells (named 4) (κs .1 .1 .1 .1 .0) u16,
+                (
+                  mut-slice-tells (named 5) (κs .1 .1 .1 .1 .1 .0) u16,
+                  (mut-slice-tells (named 6) (κs .1 .1 .1 .1 .1 .1 .0) T.the-row, tt),
+                ),
+              ),
+            ),
+          ),
+        ),
+      ))
       (λ κs qs bounds a g are. via 𝓤 _ (fst∗ 𝓤 _ (emp 𝓤)) (walk 𝓤 H A W mem run (κs .0) (κs .1 .0) (κs .1 .1 .0) (κs .1 .1 .1 .0) (κs .1 .1 .1 .1 .0)
       (κs .1 .1 .1 .1 .1 .0) (κs .1 .1 .1 .1 .1 .1 .0) (qs .0) (qs .1 .0) (qs .1 .1 .0) (qs .1 .1 .1 .0) (qs .1 .1 .1 .1 .0) (qs .1 .1 .1 .1 .1 .0)
       (qs .1 .1 .1 .1 .1 .1 .0) (spot-of (a .0)) (spot-of (a .1 .0)) (spot-of (a .1 .1 .0)) (spot-of (a .1 .1 .1 .0)) (spot-of (a .1 .1 .1 .1 .0))
@@ -291,7 +344,22 @@ lgs-place-meets : {M : Type 1} (𝓤 : URA M) (H : Heap 𝓤) (A : Atoms 𝓤) �
     → Triple 𝓤 (𝓣 .C #engine·place) (PlaceOf 𝓤 H A mem run) → Triple 𝓤 (𝓣 .C #answering·numbers) (NumbersOf 𝓤 H A mem run)
     → Meets 𝓤 H A lgs-place.signature (WpFn 𝓤 H (𝓣 .C) (𝓣 .Λ) code.function) (lgs-place.spec 𝓤 H A mem run)
 lgs-place-meets 𝓤 H A W mem run 𝓣 known-place known-numbers =
-    walk-meets 𝓤 H A lgs-place.ended stayed W (goes-none-slice 𝓤 H A W 7 (0 ∷ []) tt (plain (λ _. u8)) yes, (goes-none-slice 𝓤 H A W 7 (1 ∷ []) tt (plain (λ _. u8)) yes, (goes-slice 𝓤 H A W 7 2 tt (plain (λ _. u16)), (goes-slice 𝓤 H A W 7 3 tt (plain (λ _. u16)), (goes-slice 𝓤 H A W 7 4 tt (plain (λ _. u16)), (goes-slice 𝓤 H A W 7 5 tt (plain (λ _. u16)), (goes-slice 𝓤 H A W 7 6 tt (plain (λ _. T.the-row)), tt))))))) (lgs-place.clauses 𝓤 H A mem run)
+    walk-meets 𝓤 H A lgs-place.ended stayed W (
+      goes-none-slice 𝓤 H A W 7 (0 ∷ []) tt (plain (λ _. u8)) yes,
+      (
+        goes-none-slice 𝓤 H A W 7 (1 ∷ []) tt (plain (λ _. u8)) yes,
+        (
+          goes-slice 𝓤 H A W 7 2 tt (plain (λ _. u16)),
+          (
+            goes-slice 𝓤 H A W 7 3 tt (plain (λ _. u16)),
+            (
+              goes-slice 𝓤 H A W 7 4 tt (plain (λ _. u16)),
+              (goes-slice 𝓤 H A W 7 5 tt (plain (λ _. u16)), (goes-slice 𝓤 H A W 7 6 tt (plain (λ _. T.the-row)), tt)),
+            ),
+          ),
+        ),
+      ),
+    ) (lgs-place.clauses 𝓤 H A mem run)
     (WpFn 𝓤 H (𝓣 .C) (𝓣 .Λ) code.function) (WpFn-mono 𝓤 H (W .laws) 𝓣 code.function) (lgs-place-walks 𝓤 H A W mem run (𝓣 .C) (𝓣 .Λ)
     (fmOf 𝓤 H (W .laws) 𝓣) known-place known-numbers)
 

@@ -20,9 +20,11 @@ use prog.Wp.{Heap, Env, Calls, Loops, WpFn, Tables}
 use ghost.Atoms.{Atoms, sem}
 use contract.Monad.{Fun, fact}
 use contract.Running.{givenOf, tables, tablesOf}
-use types.Kit.{Given, Item, ‵, raw, some, _⊛_, ⋆, _$_, _∵_, !, qed, by, move, keep, drop, use1, group, split, join, pick, rewrite, fsplit, fjoin, feqL, suffices, frame, done, Sq, runs, atRet}
+use types.Kit.{Given, Item, ‵, raw, some, _⊛_, ⋆, _$_, _∵_, !, qed, by, move, keep, drop, use1, group, split, join, pick, rewrite, fsplit, fjoin}
+use types.Kit.{feqL, suffices, frame, done, Sq, runs, atRet}
 use types.Part.{agg, whole, sub, look-in}
-use types.Run.{look, init, forget, stop, hop, fld, from, load, addr, of-opd, and-then, no-more, assigns, land, returns, enter, alloc1, alloc0, params1, pass1, pass0, free1, free0}
+use types.Run.{look, init, forget, stop, hop, fld, from, load, addr, of-opd, and-then, no-more, assigns, land, returns, enter, alloc1, alloc0}
+use types.Run.{params1, pass1, pass0, free1, free0}
 use sound.WpLaws.{FmC, fmOf, WpFn-mono}
 use denote.RattleType.{owns}
 use denote.Laws.{Is}
@@ -93,7 +95,25 @@ use Rattle.engine.proofs.place.Code as code
 use Rattle.engine.proofs.place.Code.Mir as code-mir
 
 abbrev stayed : Stays (place.ended .signature .params) (place.ended .kept)
-stayed = (stay-none-slice (0 ∷ []) tt (plain (λ _. u8)) yes, (stay-none-slice (1 ∷ []) tt (plain (λ _. u8)) yes, (stay-slice (2 ∷ []) tt (plain (λ _. u16)), (stay-slice (3 ∷ []) tt (plain (λ _. u16)), (stay-slice (4 ∷ []) tt (plain (λ _. u16)), (stay-slice (5 ∷ []) tt (plain (λ _. u16)), (stay-slice (6 ∷ []) tt (plain (λ _. T.the-row)), tt)))))))
+stayed = (
+  stay-none-slice (0 ∷ []) tt (plain (λ _. u8)) yes,
+  (
+    stay-none-slice (1 ∷ []) tt (plain (λ _. u8)) yes,
+    (
+      stay-slice (2 ∷ []) tt (plain (λ _. u16)),
+      (
+        stay-slice (3 ∷ []) tt (plain (λ _. u16)),
+        (
+          stay-slice (4 ∷ []) tt (plain (λ _. u16)),
+          (
+            stay-slice (5 ∷ []) tt (plain (λ _. u16)),
+            (stay-slice (6 ∷ []) tt (plain (λ _. T.the-row)), tt),
+          ),
+        ),
+      ),
+    ),
+  ),
+)
 
 module _ {M : Type 1} (𝓤 : URA M) (H : Heap 𝓤) (A : Atoms 𝓤) (mem : Memory → SProp 𝓤) (run : Routine → Fun 𝓤) where
   -- the contracts that the proof cites
@@ -197,9 +217,11 @@ module _ {M : Type 1} (𝓤 : URA M) (H : Heap 𝓤) (A : Atoms 𝓤) (W : Given
       qed W (States zeros ∷ ‵ (flft κ₆ q₆) ∷ Index index₃ ∷ ‵ (flft κ₅ q₅) ∷ Seats seats₃ ∷ ‵ (flft κ₄ q₄) ∷ Visits visits₂ ∷ ‵ (flft κ₃ q₃) ∷ Places places₃
       ∷ ‵ (flft κ₂ q₂) ∷ Case ∷ ‵ (flft κ₀ q₀) ∷ Book ∷ ‵ (flft κ₁ q₁) ∷ []) ∵
       suffices ! _ (ends-at 𝓤 H A place.ended stayed (place.clauses 𝓤 H A mem run) W ((κs, qs, tt, x, at), tt)
-      (N′.lowered a) a (tt, (tt, (places₃, (visits₂, (seats₃, (index₃, (zeros, tt))))))) (tt, (tt, (len₂, (len₃, (len₄, (len₅, (zeros-long, tt)))))))) $ says ! e $
+      (N′.lowered a) a (tt, (tt, (places₃, (visits₂, (seats₃, (index₃, (zeros, tt))))))) (tt, (tt, (len₂, (len₃, (len₄, (len₅, (zeros-long, tt))))))))
+      $ says ! e $
       -- the tokens
-      nothing ! $ move ! (2 ∷ 0 ∷ []) $ join ! $ move ! (3 ∷ 0 ∷ []) $ join ! $ move ! (4 ∷ 0 ∷ []) $ join ! $ move ! (5 ∷ 0 ∷ []) $ join ! $ move ! (6 ∷ 0 ∷ []) $
+      nothing ! $ move ! (2 ∷ 0 ∷ []) $ join ! $ move ! (3 ∷ 0 ∷ []) $ join ! $ move ! (4 ∷ 0 ∷ []) $ join ! $ move ! (5 ∷ 0 ∷ []) $ join ! $ move !
+      (6 ∷ 0 ∷ []) $
       join ! $ move ! (9 ∷ 0 ∷ []) $ join ! $ move ! (7 ∷ 0 ∷ []) $ join ! $ frame ! $
       -- what is had of the parameters, and the result
       nothing ! $ move ! (1 ∷ 0 ∷ []) $ fjoin ! $ move ! (1 ∷ 0 ∷ []) $ fjoin ! $ move ! (1 ∷ 0 ∷ []) $ fjoin ! $ move ! (1 ∷ 0 ∷ []) $ fjoin ! $
@@ -214,16 +236,40 @@ module _ {M : Type 1} (𝓤 : URA M) (H : Heap 𝓤) (A : Atoms 𝓤) (W : Given
   passed-prepare a₄ a₅ = (ref p₀ case, (ref p₁ book, (length places, (length visits, (anew p₄ a₄ seats, (anew p₅ a₅ index, (length ys, tt)))))))
 
   abbrev to-prepare : Loan → Loan → PrepareOf 𝓤 H A mem run .Ghost
-  to-prepare a₄ a₅ = ((lives-prepare a₄ a₅, (q₀, (q₁, (fullShare, (fullShare, tt)))), tt, passed-prepare a₄ a₅, (sv p₀ case ∷ [], (sv p₁ book ∷ [], (vint w64 (length places) ∷ [], (vint w64 (length visits) ∷ [], (sv p₄ seats ∷ [], (sv p₅ index ∷ [], (vint w64 (length ys) ∷ [], tt)))))))), tt)
+  to-prepare a₄ a₅ = (
+    (
+      lives-prepare a₄ a₅,
+      (q₀, (q₁, (fullShare, (fullShare, tt)))),
+      tt,
+      passed-prepare a₄ a₅,
+      (
+        sv p₀ case ∷ [],
+        (
+          sv p₁ book ∷ [],
+          (
+            vint w64 (length places) ∷ [],
+            (
+              vint w64 (length visits) ∷ [],
+              (sv p₄ seats ∷ [], (sv p₅ index ∷ [], (vint w64 (length ys) ∷ [], tt))),
+            ),
+          ),
+        ),
+      ),
+    ),
+    tt,
+  )
 
   abbrev Asked-prepare : Loan → Loan → List (Item 𝓤)
   Asked-prepare a₄ a₅ = Case ∷ ‵ (flft κ₀ q₀) ∷ Book ∷ ‵ (flft κ₁ q₁) ∷ ‵ (MutSlice (named 2) (a₄ .ν ∷ []) u16 .own (anew p₄ a₄ seats) (sv p₄ seats ∷ []))
-      ∷ ‵ (flft (a₄ .ν ∷ []) fullShare) ∷ ‵ (MutSlice (named 3) (a₅ .ν ∷ []) u16 .own (anew p₅ a₅ index) (sv p₅ index ∷ [])) ∷ ‵ (flft (a₅ .ν ∷ []) fullShare) ∷ []
+      ∷ ‵ (flft (a₄ .ν ∷ []) fullShare) ∷ ‵ (MutSlice (named 3) (a₅ .ν ∷ []) u16 .own (anew p₅ a₅ index) (sv p₅ index ∷ [])) ∷ ‵
+      (flft (a₅ .ν ∷ []) fullShare) ∷ []
 
   goes-prepare : (a₄ a₅ : Loan) → ent 𝓤 (⋆ 𝓤 H A (Asked-prepare a₄ a₅)) (PrepareOf 𝓤 H A mem run .pre (to-prepare a₄ a₅))
   goes-prepare a₄ a₅ = qed W (Asked-prepare a₄ a₅) ∵ nothing ! $ owned ! usize (Is usize) (uint-makes 𝓤 H A W w64) (length ys) _ (refl, room₆ .0) $ fjoin ! $
-      move ! (7 ∷ 0 ∷ []) $ fjoin ! $ move ! (5 ∷ 0 ∷ []) $ fjoin ! $ owned ! usize (Is usize) (uint-makes 𝓤 H A W w64) (length visits) _ (refl, room₃ .0) $ fjoin ! $
-      owned ! usize (Is usize) (uint-makes 𝓤 H A W w64) (length places) _ (refl, room₂ .0) $ fjoin ! $ move ! (3 ∷ 0 ∷ []) $ fjoin ! $ move ! (1 ∷ 0 ∷ []) $ fjoin ! $
+      move ! (7 ∷ 0 ∷ []) $ fjoin ! $ move ! (5 ∷ 0 ∷ []) $ fjoin ! $ owned ! usize (Is usize) (uint-makes 𝓤 H A W w64) (length visits) _
+      (refl, room₃ .0) $ fjoin ! $
+      owned ! usize (Is usize) (uint-makes 𝓤 H A W w64) (length places) _ (refl, room₂ .0) $ fjoin ! $ move ! (3 ∷ 0 ∷ []) $ fjoin ! $ move !
+      (1 ∷ 0 ∷ []) $ fjoin ! $
       nothing ! $ move ! (5 ∷ 0 ∷ []) $ join ! $ move ! (4 ∷ 0 ∷ []) $ join ! $ move ! (3 ∷ 0 ∷ []) $ join ! $ move ! (2 ∷ 0 ∷ []) $ join ! $ join ! $ frame ! $
       done !
 
@@ -247,7 +293,8 @@ module _ {M : Type 1} (𝓤 : URA M) (H : Heap 𝓤) (A : Atoms 𝓤) (W : Given
   Asked-clear a₆ zs = ‵ (MutSlice (named 0) (a₆ .ν ∷ []) T.the-row .own (anew p₆ a₆ zs) (sv p₆ ys ∷ [])) ∷ ‵ (flft (a₆ .ν ∷ []) fullShare) ∷ []
 
   goes-clear : (a₆ : Loan) (zs : List StudentState) → ent 𝓤 (⋆ 𝓤 H A (Asked-clear a₆ zs)) (ClearOf 𝓤 H A mem run .pre (to-clear a₆ zs))
-  goes-clear a₆ zs = qed W (Asked-clear a₆ zs) ∵ nothing ! $ move ! (1 ∷ 0 ∷ []) $ fjoin ! $ nothing ! $ move ! (2 ∷ 0 ∷ []) $ join ! $ join ! $ frame ! $ done !
+  goes-clear a₆ zs = qed W (Asked-clear a₆ zs) ∵ nothing ! $ move ! (1 ∷ 0 ∷ []) $ fjoin ! $ nothing ! $ move !
+      (2 ∷ 0 ∷ []) $ join ! $ join ! $ frame ! $ done !
 
   -- what is had once it has returned
   abbrev Fin-clear : Loan → List StudentState → Unit {0} → Item 𝓤
@@ -260,10 +307,50 @@ module _ {M : Type 1} (𝓤 : URA M) (H : Heap 𝓤) (A : Atoms 𝓤) (W : Given
 
   abbrev passed-run : Loan → Loan → Loan → Loan → List ℕ → List ℕ → Prepared
       → RefT (List ℕ) × (RefT (List ℕ) × (RefT (List ℕ) × (RefT (List ℕ) × (RefT (List ℕ) × (RefT (List StudentState) × (Run × (ℕ × (ℕ × Unit {0}))))))))
-  passed-run a₅ a₃ a₄ a₆ index₁ seats₁ p = (ref p₀ case, (ref p₁ book, (anew p₅ a₅ index₁, (anew p₃ a₃ visits, (anew p₄ a₄ seats₁, (anew p₆ a₆ zeros, (p .run, (p .students, (p .workshops, tt)))))))))
+  passed-run a₅ a₃ a₄ a₆ index₁ seats₁ p = (
+    ref p₀ case,
+    (
+      ref p₁ book,
+      (
+        anew p₅ a₅ index₁,
+        (anew p₃ a₃ visits, (anew p₄ a₄ seats₁, (anew p₆ a₆ zeros, (p .run, (p .students, (p .workshops, tt)))))),
+      ),
+    ),
+  )
 
   abbrev to-run : Loan → Loan → Loan → Loan → List ℕ → List ℕ → Prepared → RunOf 𝓤 H A mem run .Ghost
-  to-run a₅ a₃ a₄ a₆ index₁ seats₁ p = ((lives-run a₅ a₃ a₄ a₆, (q₀, (q₁, (fullShare, (fullShare, (fullShare, (fullShare, tt)))))), tt, passed-run a₅ a₃ a₄ a₆ index₁ seats₁ p, (sv p₀ case ∷ [], (sv p₁ book ∷ [], (sv p₅ index ∷ [], (sv p₃ visits ∷ [], (sv p₄ seats ∷ [], (sv p₆ ys ∷ [], (S′.lowered (p .run) ∷ [], (vint w64 (p .students) ∷ [], (vint w64 (p .workshops) ∷ [], tt)))))))))), tt)
+  to-run a₅ a₃ a₄ a₆ index₁ seats₁ p = (
+    (
+      lives-run a₅ a₃ a₄ a₆,
+      (q₀, (q₁, (fullShare, (fullShare, (fullShare, (fullShare, tt)))))),
+      tt,
+      passed-run a₅
+          a₃ a₄ a₆ index₁ seats₁ p,
+      (
+        sv p₀ case ∷ [],
+        (
+          sv p₁ book ∷ [],
+          (
+            sv p₅ index ∷ [],
+            (
+              sv p₃ visits ∷ [],
+              (
+                sv p₄ seats ∷ [],
+                (
+                  sv p₆ ys ∷ [],
+                  (
+                    S′.lowered (p .run) ∷ [],
+                    (vint w64 (p .students) ∷ [], (vint w64 (p .workshops) ∷ [], tt)),
+                  ),
+                ),
+              ),
+            ),
+          ),
+        ),
+      ),
+    ),
+    tt,
+  )
 
   abbrev Asked-run : Loan → Loan → Loan → Loan → List ℕ → List ℕ → Prepared → List (Item 𝓤)
   Asked-run a₅ a₃ a₄ a₆ index₁ seats₁ p = Case ∷ ‵ (flft κ₀ q₀) ∷ Book ∷ ‵ (flft κ₁ q₁) ∷ ‵ (MutSlice (named 2) (a₅ .ν ∷ []) u16 .own (anew p₅ a₅ index₁)
@@ -275,18 +362,21 @@ module _ {M : Type 1} (𝓤 : URA M) (H : Heap 𝓤) (A : Atoms 𝓤) (W : Given
       → CanRun case book index₁ visits seats₁ zeros (p .run) (p .students) (p .workshops) → ent 𝓤 (⋆ 𝓤 H A (Asked-run a₅ a₃ a₄ a₆ index₁ seats₁ p))
       (RunOf 𝓤 H A mem run .pre (to-run a₅ a₃ a₄ a₆ index₁ seats₁ p))
   goes-run a₅ a₃ a₄ a₆ index₁ seats₁ p is-p ok = qed W (Asked-run a₅ a₃ a₄ a₆ index₁ seats₁ p) ∵ says ! ok $ nothing ! $ move ! (12 ∷ 0 ∷ []) $ join ! $
-      move ! (10 ∷ 0 ∷ []) $ join ! $ move ! (8 ∷ 0 ∷ []) $ join ! $ move ! (6 ∷ 0 ∷ []) $ join ! $ move ! (4 ∷ 0 ∷ []) $ join ! $ move ! (2 ∷ 0 ∷ []) $ join ! $
+      move ! (10 ∷ 0 ∷ []) $ join ! $ move ! (8 ∷ 0 ∷ []) $ join ! $ move ! (6 ∷ 0 ∷ []) $ join ! $ move ! (4 ∷ 0 ∷ []) $ join ! $ move !
+      (2 ∷ 0 ∷ []) $ join ! $
       frame ! $ nothing ! $ owned ! usize (Is usize) (uint-makes 𝓤 H A W w64) (p .workshops) _ (refl, (workshops-fit p is-p)) $ fjoin ! $
       owned ! usize (Is usize) (uint-makes 𝓤 H A W w64) (p .students) _ (refl, (students-fit p is-p)) $ fjoin ! $
       owned ! S.the-row (Is S.the-row) (LL.makes S.the-type S′.the-plain 𝓤 H A) (p .run) _ (is-run p is-p) $ fjoin ! $ move ! (6 ∷ 0 ∷ []) $ fjoin ! $
-      move ! (5 ∷ 0 ∷ []) $ fjoin ! $ move ! (4 ∷ 0 ∷ []) $ fjoin ! $ move ! (3 ∷ 0 ∷ []) $ fjoin ! $ move ! (2 ∷ 0 ∷ []) $ fjoin ! $ move ! (1 ∷ 0 ∷ []) $ fjoin ! $
+      move ! (5 ∷ 0 ∷ []) $ fjoin ! $ move ! (4 ∷ 0 ∷ []) $ fjoin ! $ move ! (3 ∷ 0 ∷ []) $ fjoin ! $ move ! (2 ∷ 0 ∷ []) $ fjoin ! $ move !
+      (1 ∷ 0 ∷ []) $ fjoin ! $
       done !
 
   -- what is had once it has returned
   abbrev Fin-run : Loan → Loan → Loan → Loan → List ℕ → List ℕ → Prepared → Run → Item 𝓤
   Fin-run a₅ a₃ a₄ a₆ index₁ seats₁ p a = some (λ (ws : Lasts run-all.ended (lives-run a₅ a₃ a₄ a₆)
       (passed-run a₅ a₃ a₄ a₆ index₁ seats₁ p)). ‵ (lasts run-all.ended (lives-run a₅ a₃ a₄ a₆)
-      (passed-run a₅ a₃ a₄ a₆ index₁ seats₁ p) ws) ⊛ raw (fact 𝓤 (((ws .1 .1 .1 .0, (ws .1 .1 .1 .1 .0, (ws .1 .1 .1 .1 .1 .0, a))) ≡ after seats₁ p) × (ws .1 .1 .0 ≡ index₁))))
+      (passed-run a₅ a₃ a₄ a₆ index₁ seats₁ p) ws) ⊛ raw
+      (fact 𝓤 (((ws .1 .1 .1 .0, (ws .1 .1 .1 .1 .0, (ws .1 .1 .1 .1 .1 .0, a))) ≡ after seats₁ p) × (ws .1 .1 .0 ≡ index₁))))
 
   -- ---- the call of `to_place`, which borrows nothing
   abbrev to-to-place : Prepared → Run → ToPlaceOf 𝓤 H A mem run .Ghost
@@ -308,7 +398,16 @@ module _ {M : Type 1} (𝓤 : URA M) (H : Heap 𝓤) (A : Atoms 𝓤) (W : Given
   passed-read a₆ a₂ zs n = (anew p₆ a₆ zs, (anew p₂ a₂ places, (n, tt)))
 
   abbrev to-read : Loan → Loan → List StudentState → ℕ → ReadOf 𝓤 H A mem run .Ghost
-  to-read a₆ a₂ zs n = ((lives-read a₆ a₂, (fullShare, (fullShare, tt)), tt, passed-read a₆ a₂ zs n, (sv p₆ ys ∷ [], (sv p₂ places ∷ [], (vint w64 n ∷ [], tt)))), tt)
+  to-read a₆ a₂ zs n = (
+    (
+      lives-read a₆ a₂,
+      (fullShare, (fullShare, tt)),
+      tt,
+      passed-read a₆ a₂ zs n,
+      (sv p₆ ys ∷ [], (sv p₂ places ∷ [], (vint w64 n ∷ [], tt))),
+    ),
+    tt,
+  )
 
   abbrev Asked-read : Loan → Loan → List StudentState → List (Item 𝓤)
   Asked-read a₆ a₂ zs = ‵ (MutSlice (named 0) (a₆ .ν ∷ []) T.the-row .own (anew p₆ a₆ zs) (sv p₆ ys ∷ [])) ∷ ‵ (flft (a₆ .ν ∷ []) fullShare)
@@ -317,7 +416,8 @@ module _ {M : Type 1} (𝓤 : URA M) (H : Heap 𝓤) (A : Atoms 𝓤) (W : Given
   goes-read : (a₆ a₂ : Loan) (zs : List StudentState) (n : ℕ) → n < 2 ^ 64 → CanRead zs places n
       → ent 𝓤 (⋆ 𝓤 H A (Asked-read a₆ a₂ zs)) (ReadOf 𝓤 H A mem run .pre (to-read a₆ a₂ zs n))
   goes-read a₆ a₂ zs n n-fits ok = qed W (Asked-read a₆ a₂ zs) ∵ says ! ok $ nothing ! $ move ! (4 ∷ 0 ∷ []) $ join ! $ move ! (2 ∷ 0 ∷ []) $ join ! $ frame ! $
-      nothing ! $ owned ! usize (Is usize) (uint-makes 𝓤 H A W w64) n _ (refl, n-fits) $ fjoin ! $ move ! (2 ∷ 0 ∷ []) $ fjoin ! $ move ! (1 ∷ 0 ∷ []) $ fjoin ! $
+      nothing ! $ owned ! usize (Is usize) (uint-makes 𝓤 H A W w64) n _ (refl, n-fits) $ fjoin ! $ move ! (2 ∷ 0 ∷ []) $ fjoin ! $ move !
+      (1 ∷ 0 ∷ []) $ fjoin ! $
       done !
 
   -- what is had once it has returned
@@ -352,7 +452,8 @@ module _ {M : Type 1} (𝓤 : URA M) (H : Heap 𝓤) (A : Atoms 𝓤) (W : Given
       → ent 𝓤 (⋆ 𝓤 H A (Asked-finish a₄ a₅ index₁ seats₂)) (FinishOf 𝓤 H A mem run .pre (to-finish a₄ a₅ index₁ seats₂ p r))
   goes-finish a₄ a₅ index₁ seats₂ p r is-p is-r = qed W (Asked-finish a₄ a₅ index₁ seats₂) ∵ nothing ! $
       owned ! S.the-row (Is S.the-row) (LL.makes S.the-type S′.the-plain 𝓤 H A) r _ is-r $ fjoin ! $
-      owned ! P.the-row (Is P.the-row) (LL.makes P.the-type P′.the-plain 𝓤 H A) p _ is-p $ fjoin ! $ move ! (3 ∷ 0 ∷ []) $ fjoin ! $ move ! (1 ∷ 0 ∷ []) $ fjoin ! $
+      owned ! P.the-row (Is P.the-row) (LL.makes P.the-type P′.the-plain 𝓤 H A) p _ is-p $ fjoin ! $ move ! (3 ∷ 0 ∷ []) $ fjoin ! $ move !
+      (1 ∷ 0 ∷ []) $ fjoin ! $
       nothing ! $ move ! (3 ∷ 0 ∷ []) $ join ! $ move ! (2 ∷ 0 ∷ []) $ join ! $ join ! $ frame ! $ done !
 
   -- what is had once it has returned
@@ -390,7 +491,8 @@ module _ {M : Type 1} (𝓤 : URA M) (H : Heap 𝓤) (A : Atoms 𝓤) (W : Given
   }
 
   ready-read : (g : Prep) (h : Ran g) → CanRead (h .states₂) places (toPlace (g .p) (h .r))
-  ready-read g h = can-read case book places visits seats index ys (g .p) (g .seats₁) (g .index₁) (g .prepared) (h .visits₂) (h .seats₂) (h .states₂) (h .r) (h .ran)
+  ready-read g h = can-read case book places visits seats index ys (g .p) (g .seats₁) (g .index₁) (g .prepared) (h .visits₂) (h .seats₂) (h .states₂)
+      (h .r) (h .ran)
 
   -- the places at the end
   abbrev read-at : (g : Prep) → Ran g → List ℕ
@@ -403,7 +505,8 @@ module _ {M : Type 1} (𝓤 : URA M) (H : Heap 𝓤) (A : Atoms 𝓤) (W : Given
       (known-clear : Triple 𝓤 (C #engine·clear-states) (ClearOf 𝓤 H A mem run)) (known-run : Triple 𝓤 (C #engine·run-all) (RunOf 𝓤 H A mem run))
       (known-to-place : Triple 𝓤 (C #answering·to-place) (ToPlaceOf 𝓤 H A mem run)) (known-read : Triple 𝓤 (C #engine·read-places) (ReadOf 𝓤 H A mem run))
       (known-finish : Triple 𝓤 (C #answering·finish) (FinishOf 𝓤 H A mem run))
-      (l₀ l₁ l₂ l₃ l₄ l₅ l₆ l₇ l₈ l₉ l₁₀ l₁₁ l₁₂ l₁₃ l₁₄ l₁₅ l₁₆ l₁₇ l₁₈ l₁₉ l₂₀ l₂₁ l₂₂ l₂₃ l₂₄ l₂₅ l₂₆ l₂₇ l₂₈ l₂₉ l₃₀ l₃₁ l₃₂ l₃₃ l₃₄ l₃₅ l₃₆ l₃₇ l₃₈ l₃₉ l₄₀ l₄₁ : ℕ) where
+      (l₀ l₁ l₂ l₃ l₄ l₅ l₆ l₇ l₈ l₉ l₁₀ l₁₁ l₁₂ l₁₃ l₁₄ l₁₅ l₁₆ l₁₇ l₁₈ l₁₉ l₂₀ l₂₁ l₂₂ l₂₃ l₂₄ l₂₅ l₂₆ l₂₇ l₂₈ l₂₉ l₃₀ l₃₁ l₃₂ l₃₃ l₃₄ l₃₅ l₃₆ l₃₇
+      l₃₈ l₃₉ l₄₀ l₄₁ : ℕ) where
     abbrev En : Env 𝓤 H
     En = (N′.mir, l₀) ∷ (bytes-ty 0, l₁) ∷ (bytes-ty 1, l₂) ∷ (words-ty 2, l₃) ∷ (words-ty 3, l₄) ∷ (words-ty 4, l₅) ∷ (words-ty 5, l₆)
         ∷ (states-ty, l₇) ∷ (word, l₈) ∷ (word, l₉) ∷ (word, l₁₀) ∷ (P′.mir, l₁₁) ∷ (S′.mir, l₁₂) ∷ (word, l₁₃) ∷ (word, l₁₄) ∷ (S′.mir, l₁₅)
@@ -456,7 +559,8 @@ module _ {M : Type 1} (𝓤 : URA M) (H : Heap 𝓤) (A : Atoms 𝓤) (W : Given
         (goes-finish (record { ν = ν₄; δ = δ₄ }) (record { ν = ν₅; δ = δ₅ }) (g .index₁) (h .seats₂) (g .p) (h .r) (g .is-p) (h .is-r)) $
         -- [what is asked; what is kept of the seats; what is kept of the index; the states; κ₆'s token; the visits; κ₃'s token; the places; κ₂'s
         -- token; the case; κ₀'s token; the book; κ₁'s token; _41; …]
-        calls-out ! fm finish.signature (finish.spec 𝓤 H A mem run) known-finish (to-finish (record { ν = ν₄; δ = δ₄ }) (record { ν = ν₅; δ = δ₅ }) (g .index₁) (h .seats₂) (g .p) (h .r))
+        calls-out ! fm finish.signature (finish.spec 𝓤 H A mem run) known-finish
+        (to-finish (record { ν = ν₄; δ = δ₄ }) (record { ν = ν₅; δ = δ₅ }) (g .index₁) (h .seats₂) (g .p) (h .r))
         (Fin-finish (record { ν = ν₄; δ = δ₄ }) (record { ν = ν₅; δ = δ₅ }) (g .index₁) (h .seats₂) (g .p) (h .r)) (λ _. id⊢ 𝓤 _) N′.lowered (N′.lowers .val-is)
         (and-then ! (load ! (from ! (stop !)) (look ! 17 refl)) (and-then ! (load ! (from ! (stop !)) (look ! 13 refl))
         (and-then ! (load ! (from ! (stop !)) (look ! 73 refl)) (and-then ! (load ! (from ! (stop !)) (look ! 65 refl)) (no-more !))))) (λ a made.
@@ -493,7 +597,8 @@ module _ {M : Type 1} (𝓤 : URA M) (H : Heap 𝓤) (A : Atoms 𝓤) (W : Given
         (h .ran) a (ws .0) (ws .1 .0) (read-at g h) f₁ refl (f₂ ∙ ap zero-words (h .long₄)) (f₃ ∙ ap zero-words (g .long₅))) made))))))))))
 
     -- the states are cleared again
-    clearing-again : (g : Prep) (h : Ran g) → Sq W (Ctx (h .states₂) (g .index₁) (h .seats₂) (h .visits₂) (read-at g h) (‵ (fat fullShare P′.mir l₁₁ 0 (P′.lowered (g .p))))
+    clearing-again : (g : Prep) (h : Ran g) → Sq W
+        (Ctx (h .states₂) (g .index₁) (h .seats₂) (h .visits₂) (read-at g h) (‵ (fat fullShare P′.mir l₁₁ 0 (P′.lowered (g .p))))
         (‵ (fat fullShare S′.mir l₁₅ 0 (S′.lowered (h .r))))) (runs C Λ En code-mir.t-30 (atRet En Post))
     clearing-again g h =
         assigns ! (addr ! (from ! (fld ! refl (hop ! (look-in ! 82 (sub ! 0 refl (whole !))) (stop !))))) (from ! (stop !)) (init ! 24 refl (tt, tt)) $
@@ -535,7 +640,8 @@ module _ {M : Type 1} (𝓤 : URA M) (H : Heap 𝓤) (A : Atoms 𝓤) (W : Given
         move ! (9 ∷ 10 ∷ []) $ lends-on ! tt u16 (named 2) (named 1) κ₂ q₂ (p₂ .γ) (p₂ .b) (p₂ .o) (length places) places refl (λ ν₂ δ₂.
         move ! (3 ∷ 4 ∷ 0 ∷ 1 ∷ []) $ group ! 4 $
         use1 W (raw (ReadOf 𝓤 H A mem run .pre (to-read (record { ν = ν₆; δ = δ₆ }) (record { ν = ν₂; δ = δ₂ }) (h .states₂) n)))
-        (goes-read (record { ν = ν₆; δ = δ₆ }) (record { ν = ν₂; δ = δ₂ }) (h .states₂) n (made .1) (subst (CanRead (h .states₂) places) (sym e) (ready-read g h))) $
+        (goes-read (record { ν = ν₆; δ = δ₆ }) (record { ν = ν₂; δ = δ₂ }) (h .states₂) n (made .1)
+        (subst (CanRead (h .states₂) places) (sym e) (ready-read g h))) $
         -- [what is asked; what is kept of the places; what is kept of the states; the index; κ₅'s token; the seats; κ₄'s token; the visits; κ₃'s
         -- token; the case; κ₀'s token; the book; κ₁'s token; _41; …]
         calls-out ! fm read.signature (read.spec 𝓤 H A mem run) known-read (to-read (record { ν = ν₆; δ = δ₆ }) (record { ν = ν₂; δ = δ₂ }) (h .states₂) n)
@@ -553,7 +659,8 @@ module _ {M : Type 1} (𝓤 : URA M) (H : Heap 𝓤) (A : Atoms 𝓤) (W : Given
         move ! (2 ∷ 4 ∷ 3 ∷ []) $ back-on ! tt T.the-row (named 6) κ₆ q₆ (p₆ .γ) (p₆ .b) (p₆ .o) (length ys) ν₆ δ₆ (h .states₂) (ws .0) room₆ (h .long₆)
         (e₆ ∙ (h .long₆)) $ rewrite ! 0 (λ (l : List StudentState). States l) (f .1) refl $
         move ! (0 ∷ 1 ∷ 4 ∷ 5 ∷ 6 ∷ 7 ∷ 8 ∷ 9 ∷ 2 ∷ 3 ∷ []) $
-        land ! (from ! (stop !)) (init ! 54 refl (tt, tt)) $ forget ! 26 refl $ forget ! 28 refl $ forget ! 30 refl $ forget ! 32 refl $ forget ! 54 refl $ forget ! 64 refl $ clearing-again g h))))))))
+        land ! (from ! (stop !)) (init ! 54 refl (tt, tt)) $ forget ! 26 refl $ forget ! 28 refl $ forget ! 30 refl $ forget ! 32 refl $ forget ! 54
+        refl $ forget ! 64 refl $ clearing-again g h))))))))
 
     -- the run
     running : (g : Prep) → Sq W (Ctx zeros (g .index₁) (g .seats₁) visits places (‵ (fat fullShare P′.mir l₁₁ 0 (P′.lowered (g .p)))) (‵ (froom S′.mir l₁₅ 0)))
@@ -584,8 +691,10 @@ module _ {M : Type 1} (𝓤 : URA M) (H : Heap 𝓤) (A : Atoms 𝓤) (W : Given
         move ! (14 ∷ []) $ use1 W (Case ⊛ Case) (shr-slice-copy 𝓤 H A W (named 0) κ₀ u8 .twice (ref p₀ case) (sv p₀ case ∷ [])) $ split ! $
         move ! (17 ∷ []) $ use1 W (Book ⊛ Book) (shr-slice-copy 𝓤 H A W (named 1) κ₁ u8 .twice (ref p₁ book) (sv p₁ book ∷ [])) $ split ! $
         move ! (2 ∷ 18 ∷ 0 ∷ 19 ∷ 4 ∷ 5 ∷ 7 ∷ 8 ∷ 10 ∷ 11 ∷ 13 ∷ 14 ∷ []) $ group ! 12 $
-        use1 W (raw (RunOf 𝓤 H A mem run .pre (to-run (record { ν = ν₅; δ = δ₅ }) (record { ν = ν₃; δ = δ₃ }) (record { ν = ν₄; δ = δ₄ }) (record { ν = ν₆; δ = δ₆ })
-        (g .index₁) (g .seats₁) (g .p)))) (goes-run (record { ν = ν₅; δ = δ₅ }) (record { ν = ν₃; δ = δ₃ }) (record { ν = ν₄; δ = δ₄ }) (record { ν = ν₆; δ = δ₆ })
+        use1 W (raw (RunOf 𝓤 H A mem run .pre
+        (to-run (record { ν = ν₅; δ = δ₅ }) (record { ν = ν₃; δ = δ₃ }) (record { ν = ν₄; δ = δ₄ }) (record { ν = ν₆; δ = δ₆ })
+        (g .index₁) (g .seats₁) (g .p))))
+        (goes-run (record { ν = ν₅; δ = δ₅ }) (record { ν = ν₃; δ = δ₃ }) (record { ν = ν₄; δ = δ₄ }) (record { ν = ν₆; δ = δ₆ })
         (g .index₁) (g .seats₁) (g .p) (g .is-p) (ready-run g)) $
         -- [what is asked; the book; the case; what is kept of the index; what is kept of the visits; what is kept of the seats; what is kept of
         -- the states; the places; κ₂'s token; _41; …]
@@ -604,7 +713,8 @@ module _ {M : Type 1} (𝓤 : URA M) (H : Heap 𝓤) (A : Atoms 𝓤) (W : Given
         feqL ! (λ e₃. move ! (1 ∷ []) $ fsplit ! $ fsplit ! $ move ! (1 ∷ []) $ feqL ! (λ e₄. move ! (1 ∷ []) $ fsplit ! $ move ! (1 ∷ []) $ drop ! $ fsplit ! $
         move ! (1 ∷ []) $ feqL ! (λ e₆.
         move ! (4 ∷ []) $ use1 W (‵ (flft κ₀ q₀) ⊛ ‵ (flft κ₁ q₁) ⊛ ‵ (flft (ν₅ ∷ []) fullShare) ⊛ ‵ (flft (ν₃ ∷ []) fullShare) ⊛ ‵ (flft (ν₄
-        ∷ []) fullShare) ⊛ ‵ (flft (ν₆ ∷ []) fullShare) ⊛ ‵ ftrue) (id⊢ 𝓤 _) $ split ! $ move ! (1 ∷ []) $ split ! $ move ! (1 ∷ []) $ split ! $ move ! (1 ∷ []) $
+        ∷ []) fullShare) ⊛ ‵ (flft (ν₆ ∷ []) fullShare) ⊛ ‵ ftrue) (id⊢ 𝓤 _) $ split ! $ move ! (1 ∷ []) $ split ! $ move !
+        (1 ∷ []) $ split ! $ move ! (1 ∷ []) $
         split ! $ move ! (1 ∷ []) $ split ! $ move ! (1 ∷ []) $ split ! $ move ! (1 ∷ []) $ drop ! $
         -- [the token for the states; the token for the seats; the token for the visits; the token for the index; the token for the book; the
         -- token for the case; the last list of the states; the last list of the seats; the last list of the visits; the last list of the index;
@@ -613,7 +723,8 @@ module _ {M : Type 1} (𝓤 : URA M) (H : Heap 𝓤) (A : Atoms 𝓤) (W : Given
         move ! (3 ∷ 12 ∷ 9 ∷ []) $ back-on ! tt u16 (named 5) κ₅ q₅ (p₅ .γ) (p₅ .b) (p₅ .o) (length index) ν₅ δ₅ (g .index₁) (ws .1 .1 .0) room₅ (g .long₅)
         (e₅ ∙ (g .long₅)) $ rewrite ! 0 (λ (l : List ℕ). Index l) (f .1) refl $
         move ! (4 ∷ 12 ∷ 9 ∷ []) $ back-on ! tt u16 (named 3) κ₃ q₃ (p₃ .γ) (p₃ .b) (p₃ .o) (length visits) ν₃ δ₃ visits (ws .1 .1 .1 .0) room₃ refl e₃ $
-        move ! (5 ∷ 12 ∷ 9 ∷ []) $ back-on ! tt u16 (named 4) κ₄ q₄ (p₄ .γ) (p₄ .b) (p₄ .o) (length seats) ν₄ δ₄ (g .seats₁) (ws .1 .1 .1 .1 .0) room₄ (g .long₄)
+        move ! (5 ∷ 12 ∷ 9 ∷ []) $ back-on ! tt u16 (named 4) κ₄ q₄ (p₄ .γ) (p₄ .b) (p₄ .o) (length seats) ν₄ δ₄ (g .seats₁) (ws .1 .1 .1 .1 .0) room₄
+        (g .long₄)
         (e₄ ∙ (g .long₄)) $
         move ! (6 ∷ 12 ∷ 9 ∷ []) $ back-on ! tt T.the-row (named 6) κ₆ q₆ (p₆ .γ) (p₆ .b) (p₆ .o)
         (length ys) ν₆ δ₆ zeros (ws .1 .1 .1 .1 .1 .0) room₆ zeros-long (e₆ ∙ zeros-long) $
@@ -621,7 +732,17 @@ module _ {M : Type 1} (𝓤 : URA M) (H : Heap 𝓤) (A : Atoms 𝓤) (W : Given
         land ! (from ! (stop !)) (init ! 66 refl (LL.lawful S.the-type S′.the-laws 𝓤 H A W .typed r _ made .0)) $
         forget ! 34 refl $ forget ! 36 refl $ forget ! 38 refl $ forget ! 40 refl $ forget ! 42 refl $ forget ! 44 refl $ forget ! 46 refl $ forget ! 48 refl $
         forget ! 68 refl $ forget ! 70 refl $ forget ! 72 refl $
-        reading g (record { visits₂ = ws .1 .1 .1 .0; seats₂ = ws .1 .1 .1 .1 .0; states₂ = ws .1 .1 .1 .1 .1 .0; r = r; is-r = made; long₃ = e₃; long₄ = e₄ ∙ g .long₄; long₆ = e₆ ∙ zeros-long; ran = f .0 }))))))))))))
+        reading g (record {
+          visits₂ = ws .1 .1 .1 .0;
+          seats₂ = ws .1 .1 .1 .1 .0;
+          states₂ = ws .1 .1 .1 .1 .1 .0;
+          r = r;
+          is-r = made;
+          long₃ = e₃;
+          long₄ = e₄ ∙ g .long₄;
+          long₆ = e₆ ∙ zeros-long;
+          ran = f .0;
+        }))))))))))))
 
     -- the states are cleared
     clearing : (g : Prep) → Sq W (Ctx ys (g .index₁) (g .seats₁) visits places (‵ (fat fullShare P′.mir l₁₁ 0 (P′.lowered (g .p)))) (‵ (froom S′.mir l₁₅ 0)))
@@ -635,7 +756,8 @@ module _ {M : Type 1} (𝓤 : URA M) (H : Heap 𝓤) (A : Atoms 𝓤) (W : Given
         use1 W (raw (ClearOf 𝓤 H A mem run .pre (to-clear (record { ν = ν₆; δ = δ₆ }) ys))) (goes-clear (record { ν = ν₆; δ = δ₆ }) ys) $
         -- [what is asked; what is kept of the states; the index; κ₅'s token; the seats; κ₄'s token; the visits; κ₃'s token; the places; κ₂'s
         -- token; the case; κ₀'s token; the book; κ₁'s token; _41; …]
-        calls-out ! fm clear.signature (clear.spec 𝓤 H A mem run) known-clear (to-clear (record { ν = ν₆; δ = δ₆ }) ys) (Fin-clear (record { ν = ν₆; δ = δ₆ }) ys)
+        calls-out ! fm clear.signature (clear.spec 𝓤 H A mem run) known-clear (to-clear (record { ν = ν₆; δ = δ₆ }) ys)
+        (Fin-clear (record { ν = ν₆; δ = δ₆ }) ys)
         (λ _. id⊢ 𝓤 _) (λ _. vunit) nothing-tells
         (and-then ! (load ! (from ! (stop !)) (look ! 50 refl)) (no-more !)) (λ _ _.
         pick ! (λ ws. split ! $ move ! (1 ∷ []) $ heard ! (ws .0 ≡ replicate (length ys) zeroState) (λ f.
@@ -715,7 +837,8 @@ module _ {M : Type 1} (𝓤 : URA M) (H : Heap 𝓤) (A : Atoms 𝓤) (W : Given
         -- what the parameters own, and the tokens, one by one
         move ! (85 ∷ []) $ fsplit ! $ move ! (1 ∷ []) $ fsplit ! $ move ! (1 ∷ []) $ fsplit ! $ move ! (1 ∷ []) $ fsplit ! $ move ! (1 ∷ []) $ fsplit ! $
         move ! (1 ∷ []) $ fsplit ! $ move ! (1 ∷ []) $ fsplit ! $ move ! (1 ∷ []) $ drop ! $
-        move ! (91 ∷ []) $ split ! $ move ! (1 ∷ []) $ split ! $ move ! (1 ∷ []) $ split ! $ move ! (1 ∷ []) $ split ! $ move ! (1 ∷ []) $ split ! $ move ! (1 ∷ []) $
+        move ! (91 ∷ []) $ split ! $ move ! (1 ∷ []) $ split ! $ move ! (1 ∷ []) $ split ! $ move ! (1 ∷ []) $ split ! $ move !
+        (1 ∷ []) $ split ! $ move ! (1 ∷ []) $
         split ! $ move ! (1 ∷ []) $ split ! $ move ! (1 ∷ []) $ drop ! $
         move ! (7 ∷ 0 ∷ 8 ∷ 1 ∷ 9 ∷ 2 ∷ 10 ∷ 3 ∷ 11 ∷ 4 ∷ 13 ∷ 6 ∷ 12 ∷ 5 ∷ []) $
         preparing C Λ fm known-prepare known-clear known-run known-to-place known-read known-finish
@@ -728,9 +851,28 @@ module _ {M : Type 1} (𝓤 : URA M) (H : Heap 𝓤) (A : Atoms 𝓤) (W : Given
       → Triple 𝓤 (C #answering·to-place) (ToPlaceOf 𝓤 H A mem run) → Triple 𝓤 (C #engine·read-places) (ReadOf 𝓤 H A mem run)
       → Triple 𝓤 (C #answering·finish) (FinishOf 𝓤 H A mem run)
       → Walks 𝓤 H A place.ended stayed (WpFn 𝓤 H C Λ code.function) (place.clauses 𝓤 H A mem run)
-  place-walks C Λ fm known-prepare known-clear known-run known-to-place known-read known-finish = walked 𝓤 H A place.ended stayed (place.clauses 𝓤 H A mem run) (WpFn 𝓤 H C Λ code.function)
+  place-walks C Λ fm known-prepare known-clear known-run known-to-place known-read known-finish = walked 𝓤 H A place.ended stayed
+      (place.clauses 𝓤 H A mem run) (WpFn 𝓤 H C Λ code.function)
       (λ κs. (slice-vals, (slice-vals, (slice-vals, (slice-vals, (slice-vals, (slice-vals, (slice-vals, tt))))))))
-      (λ κs. (shr-slice-tells (named 0) (κs .0) u8, (shr-slice-tells (named 1) (κs .1 .0) u8, (mut-slice-tells (named 2) (κs .1 .1 .0) u16, (mut-slice-tells (named 3) (κs .1 .1 .1 .0) u16, (mut-slice-tells (named 4) (κs .1 .1 .1 .1 .0) u16, (mut-slice-tells (named 5) (κs .1 .1 .1 .1 .1 .0) u16, (mut-slice-tells (named 6) (κs .1 .1 .1 .1 .1 .1 .0) T.the-row, tt))))))))
+      (λ κs. (
+        shr-slice-tells (named 0) (κs .0) u8,
+        (
+          shr-slice-tells (named 1) (κs .1 .0) u8,
+          (
+            mut-slice-tells (named 2) (κs .1 .1 .0) u16,
+            (
+              mut-slice-tells (named 3) (κs .1 .1 .1 .0) u16,
+              (
+                mut-slice-tells (named 4) (κs .1 .1 .1 .1 .0) u16,
+                (
+                  mut-slice-tells (named 5) (κs .1 .1 .1 .1 .1 .0) u16,
+                  (mut-slice-tells (named 6) (κs .1 .1 .1 .1 .1 .1 .0) T.the-row, tt),
+                ),
+              ),
+            ),
+          ),
+        ),
+      ))
       (λ κs qs bounds a g are. via 𝓤 _ (fst∗ 𝓤 _ (emp 𝓤)) (walk 𝓤 H A W mem run (κs .0) (κs .1 .0) (κs .1 .1 .0) (κs .1 .1 .1 .0) (κs .1 .1 .1 .1 .0)
       (κs .1 .1 .1 .1 .1 .0) (κs .1 .1 .1 .1 .1 .1 .0) (qs .0) (qs .1 .0) (qs .1 .1 .0) (qs .1 .1 .1 .0) (qs .1 .1 .1 .1 .0) (qs .1 .1 .1 .1 .1 .0)
       (qs .1 .1 .1 .1 .1 .1 .0) (spot-of (a .0)) (spot-of (a .1 .0)) (spot-of (a .1 .1 .0)) (spot-of (a .1 .1 .1 .0)) (spot-of (a .1 .1 .1 .1 .0))
@@ -745,7 +887,22 @@ place-meets : {M : Type 1} (𝓤 : URA M) (H : Heap 𝓤) (A : Atoms 𝓤) → G
     → Triple 𝓤 (𝓣 .C #engine·read-places) (ReadOf 𝓤 H A mem run) → Triple 𝓤 (𝓣 .C #answering·finish) (FinishOf 𝓤 H A mem run)
     → Meets 𝓤 H A place.signature (WpFn 𝓤 H (𝓣 .C) (𝓣 .Λ) code.function) (place.spec 𝓤 H A mem run)
 place-meets 𝓤 H A W mem run 𝓣 known-prepare known-clear known-run known-to-place known-read known-finish =
-    walk-meets 𝓤 H A place.ended stayed W (goes-none-slice 𝓤 H A W 7 (0 ∷ []) tt (plain (λ _. u8)) yes, (goes-none-slice 𝓤 H A W 7 (1 ∷ []) tt (plain (λ _. u8)) yes, (goes-slice 𝓤 H A W 7 2 tt (plain (λ _. u16)), (goes-slice 𝓤 H A W 7 3 tt (plain (λ _. u16)), (goes-slice 𝓤 H A W 7 4 tt (plain (λ _. u16)), (goes-slice 𝓤 H A W 7 5 tt (plain (λ _. u16)), (goes-slice 𝓤 H A W 7 6 tt (plain (λ _. T.the-row)), tt))))))) (place.clauses 𝓤 H A mem run)
+    walk-meets 𝓤 H A place.ended stayed W (
+      goes-none-slice 𝓤 H A W 7 (0 ∷ []) tt (plain (λ _. u8)) yes,
+      (
+        goes-none-slice 𝓤 H A W 7 (1 ∷ []) tt (plain (λ _. u8)) yes,
+        (
+          goes-slice 𝓤 H A W 7 2 tt (plain (λ _. u16)),
+          (
+            goes-slice 𝓤 H A W 7 3 tt (plain (λ _. u16)),
+            (
+              goes-slice 𝓤 H A W 7 4 tt (plain (λ _. u16)),
+              (goes-slice 𝓤 H A W 7 5 tt (plain (λ _. u16)), (goes-slice 𝓤 H A W 7 6 tt (plain (λ _. T.the-row)), tt)),
+            ),
+          ),
+        ),
+      ),
+    ) (place.clauses 𝓤 H A mem run)
     (WpFn 𝓤 H (𝓣 .C) (𝓣 .Λ) code.function) (WpFn-mono 𝓤 H (W .laws) 𝓣 code.function) (place-walks 𝓤 H A W mem run (𝓣 .C) (𝓣 .Λ)
     (fmOf 𝓤 H (W .laws) 𝓣) known-prepare known-clear known-run known-to-place known-read known-finish)
 
@@ -755,9 +912,13 @@ place-spec 𝓤 H 𝓜 𝓖 𝓡 =
     entered 𝓤 H (tripleOf 𝓤 H (𝓖 .A) place.signature (place.spec 𝓤 H (𝓖 .A) (𝓜 .mem) (𝓡 .run)))
     (tables 𝓤 H 𝓜 𝓡 code.env .C) (tables 𝓤 H 𝓜 𝓡 code.env .Λ) #engine·place code.function (code.unfolded 𝓤 H 𝓜 𝓡)
     (place-meets 𝓤 H (𝓖 .A) (givenOf 𝓤 H 𝓜 𝓖) (𝓜 .mem) (𝓡 .run) (tablesOf 𝓤 H 𝓜 (tables 𝓤 H 𝓜 𝓡 code.env))
-    (cited 𝓤 H (PrepareOf 𝓤 H (𝓖 .A) (𝓜 .mem) (𝓡 .run)) 𝓜 𝓡 code.env #answering·prepare prepare-def.routine code.calls-answering·prepare (prepare-thm.met 𝓤 H 𝓜 𝓖 𝓡))
-    (cited 𝓤 H (ClearOf 𝓤 H (𝓖 .A) (𝓜 .mem) (𝓡 .run)) 𝓜 𝓡 code.env #engine·clear-states clear-def.routine code.calls-engine·clear-states (clear-thm.met 𝓤 H 𝓜 𝓖 𝓡))
+    (cited 𝓤 H (PrepareOf 𝓤 H (𝓖 .A) (𝓜 .mem) (𝓡 .run)) 𝓜 𝓡 code.env #answering·prepare prepare-def.routine code.calls-answering·prepare
+    (prepare-thm.met 𝓤 H 𝓜 𝓖 𝓡))
+    (cited 𝓤 H (ClearOf 𝓤 H (𝓖 .A) (𝓜 .mem) (𝓡 .run)) 𝓜 𝓡 code.env #engine·clear-states clear-def.routine code.calls-engine·clear-states
+    (clear-thm.met 𝓤 H 𝓜 𝓖 𝓡))
     (cited 𝓤 H (RunOf 𝓤 H (𝓖 .A) (𝓜 .mem) (𝓡 .run)) 𝓜 𝓡 code.env #engine·run-all run-all-def.routine code.calls-engine·run-all (run-all-thm.met 𝓤 H 𝓜 𝓖 𝓡))
-    (cited 𝓤 H (ToPlaceOf 𝓤 H (𝓖 .A) (𝓜 .mem) (𝓡 .run)) 𝓜 𝓡 code.env #answering·to-place to-place-def.routine code.calls-answering·to-place (to-place-thm.met 𝓤 H 𝓜 𝓖 𝓡))
+    (cited 𝓤 H (ToPlaceOf 𝓤 H (𝓖 .A) (𝓜 .mem) (𝓡 .run)) 𝓜 𝓡 code.env #answering·to-place to-place-def.routine code.calls-answering·to-place
+    (to-place-thm.met 𝓤 H 𝓜 𝓖 𝓡))
     (cited 𝓤 H (ReadOf 𝓤 H (𝓖 .A) (𝓜 .mem) (𝓡 .run)) 𝓜 𝓡 code.env #engine·read-places read-def.routine code.calls-engine·read-places (read-thm.met 𝓤 H 𝓜 𝓖 𝓡))
-    (cited 𝓤 H (FinishOf 𝓤 H (𝓖 .A) (𝓜 .mem) (𝓡 .run)) 𝓜 𝓡 code.env #answering·finish finish-def.routine code.calls-answering·finish (finish-thm.met 𝓤 H 𝓜 𝓖 𝓡)))
+    (cited 𝓤 H (FinishOf 𝓤 H (𝓖 .A) (𝓜 .mem) (𝓡 .run)) 𝓜 𝓡 code.env #answering·finish finish-def.routine code.calls-answering·finish
+    (finish-thm.met 𝓤 H 𝓜 𝓖 𝓡)))

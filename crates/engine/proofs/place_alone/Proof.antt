@@ -19,9 +19,11 @@ use prog.Wp.{Heap, Calls, Loops, WpFn, Tables}
 use ghost.Atoms.{Atoms}
 use contract.Monad.{Fun, fact}
 use contract.Running.{givenOf, tables, tablesOf}
-use types.Kit.{Given, Item, ‵, raw, some, _⊛_, ⋆, _$_, _∵_, !, qed, by, move, keep, drop, use1, group, split, join, pick, rewrite, fsplit, fjoin, feqL, suffices, frame, done}
+use types.Kit.{Given, Item, ‵, raw, some, _⊛_, ⋆, _$_, _∵_, !, qed, by, move, keep, drop, use1, group, split, join, pick, rewrite, fsplit, fjoin}
+use types.Kit.{feqL, suffices, frame, done}
 use types.Part.{agg, rep, whole, sub, look-in}
-use types.Run.{look, init, forget, stop, hop, fld, from, load, addr, lit, and-then, no-more, assigns, land, returns, enter, alloc1, alloc0, params1, pass1, pass0, free1, free0}
+use types.Run.{look, init, forget, stop, hop, fld, from, load, addr, lit, and-then, no-more, assigns, land, returns, enter, alloc1, alloc0, params1}
+use types.Run.{pass1, pass0, free1, free0}
 use sound.WpLaws.{FmC, fmOf, WpFn-mono}
 use denote.RattleType.{owns}
 use denote.Array.{array-lawful}
@@ -62,7 +64,19 @@ use Rattle.engine.proofs.place_alone.Statement as stated
 use Rattle.engine.proofs.place_alone.Code as code
 
 abbrev stayed : Stays (place-alone.ended .signature .params) (place-alone.ended .kept)
-stayed = (stay-none-slice (0 ∷ []) tt (plain (λ _. u8)) yes, (stay-none-slice (1 ∷ []) tt (plain (λ _. u8)) yes, (stay-slice (2 ∷ []) tt (plain (λ _. u16)), (stay-slice (3 ∷ []) tt (plain (λ _. u16)), (stay-slice (4 ∷ []) tt (plain (λ _. u16)), (stay-slice (5 ∷ []) tt (plain (λ _. u16)), tt))))))
+stayed = (
+  stay-none-slice (0 ∷ []) tt (plain (λ _. u8)) yes,
+  (
+    stay-none-slice (1 ∷ []) tt (plain (λ _. u8)) yes,
+    (
+      stay-slice (2 ∷ []) tt (plain (λ _. u16)),
+      (
+        stay-slice (3 ∷ []) tt (plain (λ _. u16)),
+        (stay-slice (4 ∷ []) tt (plain (λ _. u16)), (stay-slice (5 ∷ []) tt (plain (λ _. u16)), tt)),
+      ),
+    ),
+  ),
+)
 
 -- the states, and their number
 abbrev zeros : List StudentState
@@ -130,7 +144,8 @@ module _ {M : Type 1} (𝓤 : URA M) (H : Heap 𝓤) (A : Atoms 𝓤) (W : Given
       suffices ! _ (ends-at 𝓤 H A place-alone.ended stayed (place-alone.clauses 𝓤 H A mem run) W ((κs, qs, tt, x, at), tt)
       (N′.lowered a) a (tt, (tt, (places₁, (visits₁, (seats₁, (index₁, tt)))))) (tt, (tt, (len₂, (len₃, (len₄, (len₅, tt))))))) $ says ! e $
       -- the tokens
-      nothing ! $ move ! (2 ∷ 0 ∷ []) $ join ! $ move ! (3 ∷ 0 ∷ []) $ join ! $ move ! (4 ∷ 0 ∷ []) $ join ! $ move ! (5 ∷ 0 ∷ []) $ join ! $ move ! (8 ∷ 0 ∷ []) $
+      nothing ! $ move ! (2 ∷ 0 ∷ []) $ join ! $ move ! (3 ∷ 0 ∷ []) $ join ! $ move ! (4 ∷ 0 ∷ []) $ join ! $ move ! (5 ∷ 0 ∷ []) $ join ! $ move !
+      (8 ∷ 0 ∷ []) $
       join ! $ move ! (6 ∷ 0 ∷ []) $ join ! $ frame ! $
       -- what is had of the parameters, and the result
       nothing ! $ move ! (1 ∷ 0 ∷ []) $ fjoin ! $ move ! (1 ∷ 0 ∷ []) $ fjoin ! $ move ! (1 ∷ 0 ∷ []) $ fjoin ! $ move ! (1 ∷ 0 ∷ []) $ fjoin ! $
@@ -146,7 +161,29 @@ module _ {M : Type 1} (𝓤 : URA M) (H : Heap 𝓤) (A : Atoms 𝓤) (W : Given
   passed l a₂ a₃ a₄ a₅ a₆ = (ref p₀ case, (ref p₁ book, (anew p₂ a₂ places, (anew p₃ a₃ visits, (anew p₄ a₄ seats, (anew p₅ a₅ index, (made-at l a₆, tt)))))))
 
   abbrev to-place : ℕ → Loan → Loan → Loan → Loan → Loan → PlaceOf 𝓤 H A mem run .Ghost
-  to-place l a₂ a₃ a₄ a₅ a₆ = ((lives a₂ a₃ a₄ a₅ a₆, (q₀, (q₁, (fullShare, (fullShare, (fullShare, (fullShare, (fullShare, tt))))))), tt, passed l a₂ a₃ a₄ a₅ a₆, (sv p₀ case ∷ [], (sv p₁ book ∷ [], (sv p₂ places ∷ [], (sv p₃ visits ∷ [], (sv p₄ seats ∷ [], (sv p₅ index ∷ [], (sliceVal (l, 0) 512 ∷ [], tt)))))))), tt)
+  to-place l a₂ a₃ a₄ a₅ a₆ = (
+    (
+      lives a₂ a₃ a₄ a₅ a₆,
+      (q₀, (q₁, (fullShare, (fullShare, (fullShare, (fullShare, (fullShare, tt))))))),
+      tt,
+      passed l a₂
+          a₃ a₄ a₅ a₆,
+      (
+        sv p₀ case ∷ [],
+        (
+          sv p₁ book ∷ [],
+          (
+            sv p₂ places ∷ [],
+            (
+              sv p₃ visits ∷ [],
+              (sv p₄ seats ∷ [], (sv p₅ index ∷ [], (sliceVal (l, 0) 512 ∷ [], tt))),
+            ),
+          ),
+        ),
+      ),
+    ),
+    tt,
+  )
 
   abbrev Asked : ℕ → Loan → Loan → Loan → Loan → Loan → List (Item 𝓤)
   Asked l a₂ a₃ a₄ a₅ a₆ = Case ∷ ‵ (flft κ₀ q₀) ∷ Book ∷ ‵ (flft κ₁ q₁) ∷ ‵ (MutSlice (named 2) (a₂ .ν ∷ []) u16 .own (anew p₂ a₂ places) (sv p₂ places ∷ []))
@@ -171,7 +208,8 @@ module _ {M : Type 1} (𝓤 : URA M) (H : Heap 𝓤) (A : Atoms 𝓤) (W : Given
     zeros-room : Room T.the-row (length zeros)
     zeros-room = (lit< tt, lit< tt)
 
-    walk : ent 𝓤 (onEntry 𝓤 H A place-alone.signature κs qs x at) (WpFn 𝓤 H C Λ code.function (sv p₀ case ∷ sv p₁ book ∷ sv p₂ places ∷ sv p₃ visits ∷ sv p₄ seats
+    walk : ent 𝓤 (onEntry 𝓤 H A place-alone.signature κs qs x at)
+        (WpFn 𝓤 H C Λ code.function (sv p₀ case ∷ sv p₁ book ∷ sv p₂ places ∷ sv p₃ visits ∷ sv p₄ seats
         ∷ sv p₅ index ∷ []) Post)
     walk =
         qed W ((‵ (flft κ₀ q₀) ⊛ ‵ (flft κ₁ q₁) ⊛ ‵ (flft κ₂ q₂) ⊛ ‵ (flft κ₃ q₃) ⊛ ‵ (flft κ₄ q₄) ⊛ ‵ (flft κ₅ q₅) ⊛ ‵ ftrue)
@@ -183,15 +221,19 @@ module _ {M : Type 1} (𝓤 : URA M) (H : Heap 𝓤) (A : Atoms 𝓤) (W : Given
         alloc1 ! (λ l₁₈. alloc0 ! $ params1 ! $
         pass1 ! (init ! 34 refl (tt, (tt, (record { fits = room₀ .0 }, tt)))) $ pass1 ! (init ! 32 refl (tt, (tt, (record { fits = room₁ .0 }, tt)))) $
         pass1 ! (init ! 30 refl (tt, (tt, (record { fits = room₂ .0 }, tt)))) $ pass1 ! (init ! 28 refl (tt, (tt, (record { fits = room₃ .0 }, tt)))) $
-        pass1 ! (init ! 26 refl (tt, (tt, (record { fits = room₄ .0 }, tt)))) $ pass1 ! (init ! 24 refl (tt, (tt, (record { fits = room₅ .0 }, tt)))) $ pass0 ! $
+        pass1 ! (init ! 26 refl (tt, (tt, (record { fits = room₄ .0 }, tt)))) $ pass1 !
+        (init ! 24 refl (tt, (tt, (record { fits = room₅ .0 }, tt)))) $ pass0 ! $
         -- what the parameters own, and the tokens, one by one
         move ! (39 ∷ []) $ fsplit ! $ move ! (1 ∷ []) $ fsplit ! $ move ! (1 ∷ []) $ fsplit ! $ move ! (1 ∷ []) $ fsplit ! $ move ! (1 ∷ []) $ fsplit ! $
-        move ! (1 ∷ []) $ fsplit ! $ move ! (1 ∷ []) $ drop ! $ move ! (44 ∷ []) $ split ! $ move ! (1 ∷ []) $ split ! $ move ! (1 ∷ []) $ split ! $ move ! (1 ∷ []) $
-        split ! $ move ! (1 ∷ []) $ split ! $ move ! (1 ∷ []) $ split ! $ move ! (1 ∷ []) $ drop ! $ move ! (6 ∷ 0 ∷ 7 ∷ 1 ∷ 8 ∷ 2 ∷ 9 ∷ 3 ∷ 11 ∷ 5 ∷ 10 ∷ 4 ∷ []) $
+        move ! (1 ∷ []) $ fsplit ! $ move ! (1 ∷ []) $ drop ! $ move ! (44 ∷ []) $ split ! $ move ! (1 ∷ []) $ split ! $ move !
+        (1 ∷ []) $ split ! $ move ! (1 ∷ []) $
+        split ! $ move ! (1 ∷ []) $ split ! $ move ! (1 ∷ []) $ split ! $ move ! (1 ∷ []) $ drop ! $ move !
+        (6 ∷ 0 ∷ 7 ∷ 1 ∷ 8 ∷ 2 ∷ 9 ∷ 3 ∷ 11 ∷ 5 ∷ 10 ∷ 4 ∷ []) $
         assigns ! (agg ! (and-then ! (lit ! tt) (and-then ! (lit ! tt) (and-then ! (lit ! tt) (no-more !))))) (from ! (stop !))
         (init ! 34 refl (LL.lawful T.the-type T′.the-laws 𝓤 H A W .typed zeroState _ is-zero .0)) $
         assigns ! (rep ! 512 (load ! (from ! (stop !)) (look ! 34 refl))) (from ! (stop !))
-        (init ! 32 refl (array-lawful 𝓤 H A W T.the-row (LL.lawful T.the-type T′.the-laws 𝓤 H A W) 512 .typed zeros _ (is-repeat T.the-row 512 zeroState (T′.lowered zeroState) is-zero) .0)) $
+        (init ! 32 refl (array-lawful 𝓤 H A W T.the-row (LL.lawful T.the-type T′.the-laws 𝓤 H A W) 512 .typed zeros _
+        (is-repeat T.the-row 512 zeroState (T′.lowered zeroState) is-zero) .0)) $
         assigns ! (addr ! (from ! (fld ! refl (hop ! (look-in ! 42 (sub ! 0 refl (whole !))) (stop !))))) (from ! (stop !)) (init ! 30 refl (tt, tt)) $
         assigns ! (agg ! (and-then ! (load ! (from ! (stop !)) (look ! 30 refl)) (and-then ! (load ! (from ! (fld ! refl (stop !)))
         (look-in ! 42 (sub ! 1 refl (whole !)))) (no-more !)))) (from ! (stop !)) (init ! 28 refl (tt, (tt, (record { fits = room₂ .0 }, tt)))) $
@@ -230,7 +272,8 @@ module _ {M : Type 1} (𝓤 : URA M) (H : Heap 𝓤) (A : Atoms 𝓤) (W : Given
         (and-then ! (load ! (from ! (stop !)) (look ! 24 refl)) (and-then ! (load ! (from ! (stop !)) (look ! 20 refl))
         (and-then ! (load ! (from ! (stop !)) (look ! 16 refl)) (and-then ! (load ! (from ! (stop !)) (look ! 12 refl))
         (and-then ! (load ! (from ! (stop !)) (look ! 8 refl)) (no-more !)))))))) (λ a made.
-        pick ! (λ ws. split ! $ move ! (1 ∷ []) $ heard ! (Answered case book places visits seats index zeros a (ws .1 .1 .0) (ws .1 .1 .1 .0) (ws .1 .1 .1 .1 .0)
+        pick ! (λ ws. split ! $ move ! (1 ∷ []) $ heard !
+        (Answered case book places visits seats index zeros a (ws .1 .1 .0) (ws .1 .1 .1 .0) (ws .1 .1 .1 .1 .0)
         (ws .1 .1 .1 .1 .1 .0) (ws .1 .1 .1 .1 .1 .1 .0)) (λ f.
         -- the last lists are taken out of what is said of the parameters, and the tokens come back
         fsplit ! $ drop ! $ fsplit ! $ drop ! $ fsplit ! $ fsplit ! $ move ! (1 ∷ []) $ feqL ! (λ e₂. move ! (1 ∷ []) $ fsplit ! $ fsplit ! $ move ! (1 ∷ []) $
@@ -258,7 +301,8 @@ module _ {M : Type 1} (𝓤 : URA M) (H : Heap 𝓤) (A : Atoms 𝓤) (W : Given
         move ! (16 ∷ 17 ∷ []) $ free1 ! $ move ! (14 ∷ 15 ∷ []) $ free1 ! $ move ! (12 ∷ 13 ∷ []) $ free1 ! $ free0 ! $
         keep ! (0 ∷ 1 ∷ 2 ∷ 3 ∷ 4 ∷ 5 ∷ 6 ∷ 7 ∷ 8 ∷ 9 ∷ 10 ∷ 11 ∷ []) $
         by ! (exits (ws .1 .1 .0) (ws .1 .1 .1 .0) (ws .1 .1 .1 .1 .0)
-        (ws .1 .1 .1 .1 .1 .0) a e₂ e₃ e₄ e₅ (subst (λ (l : List StudentState). Answered case book places visits seats index zeros a (ws .1 .1 .0) (ws .1 .1 .1 .0)
+        (ws .1 .1 .1 .1 .1 .0) a e₂ e₃ e₄ e₅
+        (subst (λ (l : List StudentState). Answered case book places visits seats index zeros a (ws .1 .1 .0) (ws .1 .1 .1 .0)
         (ws .1 .1 .1 .1 .0) (ws .1 .1 .1 .1 .1 .0) l) (f .inStates ∙ ap (λ (m : ℕ). replicate m zeroState) zeros-long) f) made)))))))))))))))))))))))))))))))))
 
 module _ {M : Type 1} (𝓤 : URA M) (H : Heap 𝓤) (A : Atoms 𝓤) (W : Given 𝓤 H A) (mem : Memory → SProp 𝓤) (run : Routine → Fun 𝓤) where
@@ -266,7 +310,19 @@ module _ {M : Type 1} (𝓤 : URA M) (H : Heap 𝓤) (A : Atoms 𝓤) (W : Given
       → Walks 𝓤 H A place-alone.ended stayed (WpFn 𝓤 H C Λ code.function) (place-alone.clauses 𝓤 H A mem run)
   place-alone-walks C Λ fm known = walked 𝓤 H A place-alone.ended stayed (place-alone.clauses 𝓤 H A mem run) (WpFn 𝓤 H C Λ code.function)
       (λ κs. (slice-vals, (slice-vals, (slice-vals, (slice-vals, (slice-vals, (slice-vals, tt)))))))
-      (λ κs. (shr-slice-tells (named 0) (κs .0) u8, (shr-slice-tells (named 1) (κs .1 .0) u8, (mut-slice-tells (named 2) (κs .1 .1 .0) u16, (mut-slice-tells (named 3) (κs .1 .1 .1 .0) u16, (mut-slice-tells (named 4) (κs .1 .1 .1 .1 .0) u16, (mut-slice-tells (named 5) (κs .1 .1 .1 .1 .1 .0) u16, tt)))))))
+      (λ κs. (
+        shr-slice-tells (named 0) (κs .0) u8,
+        (
+          shr-slice-tells (named 1) (κs .1 .0) u8,
+          (
+            mut-slice-tells (named 2) (κs .1 .1 .0) u16,
+            (
+              mut-slice-tells (named 3) (κs .1 .1 .1 .0) u16,
+              (mut-slice-tells (named 4) (κs .1 .1 .1 .1 .0) u16, (mut-slice-tells (named 5) (κs .1 .1 .1 .1 .1 .0) u16, tt)),
+            ),
+          ),
+        ),
+      ))
       (λ κs qs bounds a g are. via 𝓤 _ (fst∗ 𝓤 _ (emp 𝓤)) (walk 𝓤 H A W mem run (κs .0) (κs .1 .0) (κs .1 .1 .0) (κs .1 .1 .1 .0) (κs .1 .1 .1 .1 .0)
       (κs .1 .1 .1 .1 .1 .0) (qs .0) (qs .1 .0) (qs .1 .1 .0) (qs .1 .1 .1 .0) (qs .1 .1 .1 .1 .0) (qs .1 .1 .1 .1 .1 .0) (spot-of (a .0)) (spot-of (a .1 .0))
       (spot-of (a .1 .1 .0)) (spot-of (a .1 .1 .1 .0)) (spot-of (a .1 .1 .1 .1 .0)) (spot-of (a .1 .1 .1 .1 .1 .0))
@@ -277,8 +333,24 @@ place-alone-meets : {M : Type 1} (𝓤 : URA M) (H : Heap 𝓤) (A : Atoms 𝓤)
     → Triple 𝓤 (𝓣 .C #engine·place) (PlaceOf 𝓤 H A mem run)
     → Meets 𝓤 H A place-alone.signature (WpFn 𝓤 H (𝓣 .C) (𝓣 .Λ) code.function) (place-alone.spec 𝓤 H A mem run)
 place-alone-meets 𝓤 H A W mem run 𝓣 known =
-    walk-meets 𝓤 H A place-alone.ended stayed W (goes-none-slice 𝓤 H A W 6 (0 ∷ []) tt (plain (λ _. u8)) yes, (goes-none-slice 𝓤 H A W 6 (1 ∷ []) tt (plain (λ _. u8)) yes, (goes-slice 𝓤 H A W 6 2 tt (plain (λ _. u16)), (goes-slice 𝓤 H A W 6 3 tt (plain (λ _. u16)), (goes-slice 𝓤 H A W 6 4 tt (plain (λ _. u16)), (goes-slice 𝓤 H A W 6 5 tt (plain (λ _. u16)), tt)))))) (place-alone.clauses 𝓤 H A mem run)
-    (WpFn 𝓤 H (𝓣 .C) (𝓣 .Λ) code.function) (WpFn-mono 𝓤 H (W .laws) 𝓣 code.function) (place-alone-walks 𝓤 H A W mem run (𝓣 .C) (𝓣 .Λ) (fmOf 𝓤 H (W .laws) 𝓣) known)
+    walk-meets 𝓤 H A place-alone.ended stayed W (
+      goes-none-slice 𝓤 H A W 6 (0 ∷ []) tt (plain (λ _. u8)) yes,
+      (
+        goes-none-slice 𝓤 H A W 6 (1 ∷ []) tt (plain (λ _. u8)) yes,
+        (
+          goes-slice 𝓤 H A W 6 2 tt (plain (λ _. u16)),
+          (
+            goes-slice 𝓤 H A W 6 3 tt (plain (λ _. u16)),
+            (
+              goes-slice 𝓤 H A W 6 4 tt (plain (λ _. u16)),
+              (goes-slice 𝓤 H A W 6 5 tt (plain (λ _. u16)), tt),
+            ),
+          ),
+        ),
+      ),
+    ) (place-alone.clauses 𝓤 H A mem run)
+    (WpFn 𝓤 H (𝓣 .C) (𝓣 .Λ) code.function) (WpFn-mono 𝓤 H (W .laws) 𝓣 code.function)
+    (place-alone-walks 𝓤 H A W mem run (𝓣 .C) (𝓣 .Λ) (fmOf 𝓤 H (W .laws) 𝓣) known)
 
 pub place-alone-spec : {M : Type 1} → stated.statement M
 unfolding code.routine tablesOf

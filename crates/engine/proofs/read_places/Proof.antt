@@ -3,7 +3,7 @@
 -- The variant is the number of places read, with that it is no more than asked for.
 -- All that the proof knows of `put_place` is that it meets its contract.
 -- Assumes nothing.
-use mathlib.Core.Path.{_≡_, refl, sym, ap, _∙_}
+use mathlib.Core.Path.{_≡_, refl, sym, _∙_}
 use Prim.Native.Nat.{ℕ, _+_, _-_, _<_, _≤_, _^_, _*_}
 use native.Mathlib.Omega.{arith}
 use mathlib.Core.Bool.{Bool, true, false}
@@ -25,9 +25,12 @@ use prog.Wp.{Heap, Out, Env, Calls, Loops, Wp, atReturn, afterTurn, afterBlock, 
 use ghost.Atoms.{Atoms}
 use contract.Monad.{Fun, fact}
 use contract.Running.{givenOf, tables, tablesOf}
-use types.Kit.{Given, Item, ‵, raw, some, _⊛_, ⋆, _$_, _∵_, !, qed, by, move, keep, drop, use1, group, split, join, pick, rewrite, fsplit, fjoin, feqL, feqI, suffices, frame, done, Sq, runs, anyQ, atRet}
+use types.Kit.{Given, Item, ‵, raw, some, _⊛_, ⋆, _$_, _∵_, !, qed, by, move, keep, drop, use1, group, split, join, pick, rewrite, fsplit, fjoin}
+use types.Kit.{feqL, feqI, suffices, frame, done, Sq, runs, anyQ, atRet}
 use types.Part.{agg, whole, sub, look-in}
-use types.Run.{look, look-raw, init, store, forget, stop, hop, fld, from, load, addr, lit, unit-lit, of-opd, bin, and-then, no-more, assigns, assigns-last, land, first, blocks, stays, leaves-loop, loops, again, Below, exec, returns, enter, alloc1, alloc0, params1, pass1, pass0, free1, free0}
+use types.Run.{look, look-raw, init, store, forget, stop, hop, fld, from, load, addr, lit, unit-lit, of-opd, bin, and-then, no-more, assigns}
+use types.Run.{assigns-last, land, first, blocks, stays, leaves-loop, loops, again, Below, exec, returns, enter, alloc1, alloc0, params1, pass1}
+use types.Run.{pass0, free1, free0}
 use sound.WpLaws.{FmC, fmOf, WpFn-mono}
 use denote.RattleType.{owns}
 use denote.Laws.{Is}
@@ -79,7 +82,8 @@ abbrev states-ty : Ty
 states-ty = sliceTy (tyRef (named 0) mut (pointee (T.the-row .written)))
 
 module _ {M : Type 1} (𝓤 : URA M) (H : Heap 𝓤) (A : Atoms 𝓤) (W : Given 𝓤 H A) (mem : Memory → SProp 𝓤) (run : Routine → Fun 𝓤) (κ₀ κ₁ : Lft) (q₀ q₁ : Share)
-    (p₀ p₁ : Spot) (ys : List StudentState) (places : List ℕ) (n : ℕ) (n-fits : n < 2 ^ 64) (room₀ : Room T.the-row (length ys)) (room₁ : Room u16 (length places))
+    (p₀ p₁ : Spot) (ys : List StudentState) (places : List ℕ) (n : ℕ) (n-fits : n < 2 ^ 64) (room₀ : Room T.the-row (length ys))
+    (room₁ : Room u16 (length places))
     (can : CanRead ys places n) where
   abbrev x : RefT (List StudentState) × (RefT (List ℕ) × (ℕ × Unit {0}))
   x = (ref p₀ ys, (ref p₁ places, (n, tt)))
@@ -112,7 +116,8 @@ module _ {M : Type 1} (𝓤 : URA M) (H : Heap 𝓤) (A : Atoms 𝓤) (W : Given
       vunit tt (ys, (after n, (tt, tt))) (refl, (after-long n (omega arith), (tt, tt)))) $ says ! (refl, refl) $
       -- the tokens, and what is had of the parameters
       nothing ! $ move ! (4 ∷ 0 ∷ []) $ join ! $ move ! (2 ∷ 0 ∷ []) $ join ! $ frame ! $
-      nothing ! $ owned ! usize (Is usize) (uint-makes 𝓤 H A W w64) n _ (refl, n-fits) $ fjoin ! $ move ! (2 ∷ 0 ∷ []) $ fjoin ! $ move ! (1 ∷ 0 ∷ []) $ fjoin ! $
+      nothing ! $ owned ! usize (Is usize) (uint-makes 𝓤 H A W w64) n _ (refl, n-fits) $ fjoin ! $ move ! (2 ∷ 0 ∷ []) $ fjoin ! $ move !
+      (1 ∷ 0 ∷ []) $ fjoin ! $
       feqI ! (List Val) (vunit ∷ []) (vunit ∷ []) refl $ move ! (1 ∷ 0 ∷ []) $ done !
 
   -- ---- the call of `put_place`, with the places lent again
@@ -186,7 +191,8 @@ module _ {M : Type 1} (𝓤 : URA M) (H : Heap 𝓤) (A : Atoms 𝓤) (W : Given
     more : (t : Here) → ltb (t .i) n ≡ true → Sq W (At t) (runs C Λ En code-mir.turn-1 (anyQ (Turned t)))
     unfolding afterTurn
     more t e =
-        assigns ! (bin ! (load ! (from ! (stop !)) (look ! 18 refl)) (load ! (from ! (stop !)) (look ! 20 refl)) tt) (from ! (stop !)) (init ! 16 refl (tt, tt)) $
+        assigns ! (bin ! (load ! (from ! (stop !)) (look ! 18 refl)) (load ! (from ! (stop !)) (look ! 20 refl)) tt) (from ! (stop !))
+        (init ! 16 refl (tt, tt)) $
         rewrite ! 16 (λ (y : Bool). ‵ (fat fullShare tyBool l₅ 0 (vbool y))) e refl $ stays ! (load ! (from ! (stop !)) (look ! 16 refl)) $
         assigns ! (addr ! (from ! (fld ! refl (hop ! (look-in ! 22 (sub ! 0 refl (whole !))) (stop !))))) (from ! (stop !)) (init ! 12 refl (tt, tt)) $
         assigns ! (agg ! (and-then ! (load ! (from ! (stop !)) (look ! 12 refl)) (and-then ! (load ! (from ! (fld ! refl (stop !)))
@@ -200,7 +206,8 @@ module _ {M : Type 1} (𝓤 : URA M) (H : Heap 𝓤) (A : Atoms 𝓤) (W : Given
         -- [states[i]; the others; what is left of the states' reference; the places; their token; _11; …]
         assigns ! (of-opd ! (load ! (from ! (hop ! (look ! 7 refl) (stop !))) (look-raw ! 0 refl))) (from ! (stop !))
         (init ! 5 refl (LL.lawful T.the-type T′.the-laws 𝓤 H A W .typed (state (t .i)) _ is-c .0)) $
-        move ! (3 ∷ 4 ∷ []) $ lends-on ! tt u16 (named 1) (named 0) κ₁ q₁ (p₁ .γ) (p₁ .b) (p₁ .o) (length places) (after (t .i)) (after-long (t .i) (t .below)) (λ ν δ.
+        move ! (3 ∷ 4 ∷ []) $ lends-on ! tt u16 (named 1) (named 0) κ₁ q₁ (p₁ .γ) (p₁ .b) (p₁ .o) (length places) (after (t .i))
+        (after-long (t .i) (t .below)) (λ ν δ.
         group ! 2 $ use1 W (raw (PutOf 𝓤 H A mem run .pre (to-put (record { ν = ν; δ = δ }) (t .i)))) (goes (record { ν = ν; δ = δ }) (t .i) less i-fits is-c) $
         -- [what is asked; what is kept of the places; states[i]; the others; what is left of the states' reference; _11; …]
         calls-out ! fm put.signature (put.spec 𝓤 H A mem run) known (to-put (record { ν = ν; δ = δ }) (t .i)) (Fin (record { ν = ν; δ = δ }) (t .i))
@@ -211,7 +218,8 @@ module _ {M : Type 1} (𝓤 : URA M) (H : Heap 𝓤) (A : Atoms 𝓤) (W : Given
         fsplit ! $ move ! (1 ∷ []) $ drop ! $ fsplit ! $ move ! (1 ∷ []) $ feqL ! (λ e₁.
         move ! (1 ∷ []) $ use1 W (‵ (flft (ν ∷ []) fullShare) ⊛ ‵ ftrue) (id⊢ 𝓤 _) $ split ! $ move ! (1 ∷ []) $ drop ! $
         -- [the token; the places' last list; what is kept of them; states[i]; …]: the places come back
-        move ! (0 ∷ 2 ∷ 1 ∷ []) $ back-on ! tt u16 (named 1) κ₁ q₁ (p₁ .γ) (p₁ .b) (p₁ .o) (length places) ν δ (after (t .i)) (ws .0) room₁ (after-long (t .i) (t .below))
+        move ! (0 ∷ 2 ∷ 1 ∷ []) $ back-on ! tt u16 (named 1) κ₁ q₁ (p₁ .γ) (p₁ .b) (p₁ .o) (length places) ν δ (after (t .i)) (ws .0) room₁
+        (after-long (t .i) (t .below))
         (e₁ ∙ after-long (t .i) (t .below)) $ rewrite ! 0 (λ (l : List ℕ). Places l) (f ∙ on) refl $
         move ! (2 ∷ 3 ∷ 4 ∷ 0 ∷ 1 ∷ []) $ land ! (from ! (stop !)) (init ! 15 refl (tt, tt)) $
         puts-back ! T.the-row kind fullShare ys (t .i) zeroState (p₀ .b) (p₀ .o) in-states is-c $
@@ -245,7 +253,8 @@ module _ {M : Type 1} (𝓤 : URA M) (H : Heap 𝓤) (A : Atoms 𝓤) (W : Given
     ends : (t : Here) → ltb (t .i) n ≡ false → Sq W (At t) (runs C Λ En code-mir.turn-1 (anyQ (Turned t)))
     unfolding afterTurn
     ends t e =
-        assigns ! (bin ! (load ! (from ! (stop !)) (look ! 18 refl)) (load ! (from ! (stop !)) (look ! 20 refl)) tt) (from ! (stop !)) (init ! 16 refl (tt, tt)) $
+        assigns ! (bin ! (load ! (from ! (stop !)) (look ! 18 refl)) (load ! (from ! (stop !)) (look ! 20 refl)) tt) (from ! (stop !))
+        (init ! 16 refl (tt, tt)) $
         rewrite ! 16 (λ (y : Bool). ‵ (fat fullShare tyBool l₅ 0 (vbool y))) e refl $ leaves-loop ! (load ! (from ! (stop !)) (look ! 16 refl)) $
         exec ! C Λ En code-mir.t-3 (atRet En Post) $
         closes-row ! tt T.the-row (named 0) κ₀ q₀ (p₀ .γ) (p₀ .b) (p₀ .o) ys ys room₀ refl $
@@ -271,7 +280,8 @@ module _ {M : Type 1} (𝓤 : URA M) (H : Heap 𝓤) (A : Atoms 𝓤) (W : Given
 
   -- the MIR, up to the loop: the borrow of the states is opened
   walk : (𝓣 : Tables 𝓤 H) → Triple 𝓤 (𝓣 .C #answering·put-place) (PutOf 𝓤 H A mem run)
-      → ent 𝓤 (onEntry 𝓤 H A read.signature (κ₀, (κ₁, tt)) (q₀, (q₁, tt)) x at) (WpFn 𝓤 H (𝓣 .C) (𝓣 .Λ) code.function (sv p₀ ys ∷ sv p₁ places ∷ vint w64 n ∷ []) Post)
+      → ent 𝓤 (onEntry 𝓤 H A read.signature (κ₀, (κ₁, tt)) (q₀, (q₁, tt)) x at)
+      (WpFn 𝓤 H (𝓣 .C) (𝓣 .Λ) code.function (sv p₀ ys ∷ sv p₁ places ∷ vint w64 n ∷ []) Post)
   walk 𝓣 known =
       qed W ((‵ (flft κ₀ q₀) ⊛ ‵ (flft κ₁ q₁) ⊛ ‵ ftrue) ∷ ‵ (owns (MutSlice (named 0) κ₀ T.the-row ∷ MutSlice (named 1) κ₁ u16 ∷ usize ∷ []) x at) ∷ []) ∵
       enter ! (𝓣 .C) (𝓣 .Λ) code.function (sv p₀ ys ∷ sv p₁ places ∷ vint w64 n ∷ []) _ $
@@ -303,8 +313,10 @@ read-meets : {M : Type 1} (𝓤 : URA M) (H : Heap 𝓤) (A : Atoms 𝓤) → Gi
     → Triple 𝓤 (𝓣 .C #answering·put-place) (PutOf 𝓤 H A mem run)
     → Meets 𝓤 H A read.signature (WpFn 𝓤 H (𝓣 .C) (𝓣 .Λ) code.function) (read.spec 𝓤 H A mem run)
 read-meets 𝓤 H A W mem run 𝓣 known =
-    walk-meets 𝓤 H A read.ended stayed W
-    (goes-slice 𝓤 H A W 2 0 tt (plain (λ _. T.the-row)), (goes-slice 𝓤 H A W 2 1 tt (plain (λ _. u16)), (goes-none 𝓤 H A W 2 (λ _. usize) yes (λ κs x f. refl), tt)))
+    walk-meets 𝓤 H A read.ended stayed W (
+      goes-slice 𝓤 H A W 2 0 tt (plain (λ _. T.the-row)),
+      (goes-slice 𝓤 H A W 2 1 tt (plain (λ _. u16)), (goes-none 𝓤 H A W 2 (λ _. usize) yes (λ κs x f. refl), tt)),
+    )
     (read.clauses 𝓤 H A mem run)
     (WpFn 𝓤 H (𝓣 .C) (𝓣 .Λ) code.function) (WpFn-mono 𝓤 H (W .laws) 𝓣 code.function) (read-walks 𝓤 H A W mem run 𝓣 known)
 

@@ -26,9 +26,11 @@ use prog.Wp.{Heap, Out, Env, Calls, Loops, Wp, atReturn, afterTurn, afterBlock, 
 use ghost.Atoms.{Atoms}
 use contract.Monad.{Fun, fact}
 use contract.Running.{givenOf, tables, tablesOf}
-use types.Kit.{Given, Item, ‵, raw, some, _⊛_, ⋆, _$_, _∵_, !, qed, by, move, keep, drop, use1, group, split, join, pick, rewrite, fsplit, fjoin, feqL, suffices, frame, done, Sq, runs, anyQ, atRet}
+use types.Kit.{Given, Item, ‵, raw, some, _⊛_, ⋆, _$_, _∵_, !, qed, by, move, keep, drop, use1, group, split, join, pick, rewrite, fsplit, fjoin}
+use types.Kit.{feqL, suffices, frame, done, Sq, runs, anyQ, atRet}
 use types.Part.{agg, whole, sub, look-in}
-use types.Run.{look, init, store, forget, stop, hop, fld, from, load, addr, lit, of-opd, bin, and-then, no-more, assigns, assigns-last, land, first, blocks, stays, leaves-loop, loops, again, Below, exec, returns, enter, alloc1, alloc0, params1, pass1, pass0, free1, free0}
+use types.Run.{look, init, store, forget, stop, hop, fld, from, load, addr, lit, of-opd, bin, and-then, no-more, assigns, assigns-last, land, first}
+use types.Run.{blocks, stays, leaves-loop, loops, again, Below, exec, returns, enter, alloc1, alloc0, params1, pass1, pass0, free1, free0}
 use sound.WpLaws.{FmC, fmOf, WpFn-mono}
 use denote.RattleType.{owns}
 use denote.Laws.{Is}
@@ -46,7 +48,8 @@ use denote.Triple.Spec.{Meets, tripleOf}
 use denote.Triple.Statement.{Contract, Triple}
 use denote.Triple.Clauses.{Lasts, lasts}
 use denote.Triple.Table.{entered, cited}
-use denote.Triple.Walked.{says, needs, Stays, stay-slice, stay-none-slice, stay-none, walkOf, goes-slice, goes-none-slice, goes-none, Walks, ends-at, walked, walk-meets}
+use denote.Triple.Walked.{says, needs, Stays, stay-slice, stay-none-slice, stay-none, walkOf, goes-slice, goes-none-slice, goes-none, Walks, ends-at}
+use denote.Triple.Walked.{walked, walk-meets}
 use Rattle.walks.proofs.Slices.{Spot, spot-of, ref, sv, Loan, anew, word, words-ty, bytes-ty, ptr-ty}
 use Rattle.walks.proofs.Calls.{calls-out}
 use Rattle.walks.proofs.Again.{lends-on, back-on}
@@ -72,7 +75,25 @@ use Rattle.engine.proofs.run_all.Code as code
 use Rattle.engine.proofs.run_all.Code.Mir as code-mir
 
 abbrev stayed : Stays (run-all.ended .signature .params) (run-all.ended .kept)
-stayed = (stay-none-slice (0 ∷ []) tt (plain (λ _. u8)) yes, (stay-none-slice (1 ∷ []) tt (plain (λ _. u8)) yes, (stay-slice (2 ∷ []) tt (plain (λ _. u16)), (stay-slice (3 ∷ []) tt (plain (λ _. u16)), (stay-slice (4 ∷ []) tt (plain (λ _. u16)), (stay-slice (5 ∷ []) tt (plain (λ _. T.the-row)), (stay-none (λ _. S.the-row) yes, (stay-none (λ _. usize) yes, (stay-none (λ _. usize) yes, tt)))))))))
+stayed = (
+  stay-none-slice (0 ∷ []) tt (plain (λ _. u8)) yes,
+  (
+    stay-none-slice (1 ∷ []) tt (plain (λ _. u8)) yes,
+    (
+      stay-slice (2 ∷ []) tt (plain (λ _. u16)),
+      (
+        stay-slice (3 ∷ []) tt (plain (λ _. u16)),
+        (
+          stay-slice (4 ∷ []) tt (plain (λ _. u16)),
+          (
+            stay-slice (5 ∷ []) tt (plain (λ _. T.the-row)),
+            (stay-none (λ _. S.the-row) yes, (stay-none (λ _. usize) yes, (stay-none (λ _. usize) yes, tt))),
+          ),
+        ),
+      ),
+    ),
+  ),
+)
 
 -- the contract that the proof cites
 abbrev TurnOf : {M : Type 1} (𝓤 : URA M) (H : Heap 𝓤) (A : Atoms 𝓤) (mem : Memory → SProp 𝓤) (run : Routine → Fun 𝓤) → Contract 𝓤
@@ -105,7 +126,22 @@ module _ {M : Type 1} (𝓤 : URA M) (H : Heap 𝓤) (A : Atoms 𝓤) (W : Given
 
   -- the machine values, which stay
   abbrev at : Vals run-all.signature κs
-  at = (sv p₀ case ∷ [], (sv p₁ book ∷ [], (sv p₂ index ∷ [], (sv p₃ visits ∷ [], (sv p₄ seats ∷ [], (sv p₅ ys ∷ [], (S′.lowered start ∷ [], (vint w64 students ∷ [], (vint w64 workshops ∷ [], tt)))))))))
+  at = (
+    sv p₀ case ∷ [],
+    (
+      sv p₁ book ∷ [],
+      (
+        sv p₂ index ∷ [],
+        (
+          sv p₃ visits ∷ [],
+          (
+            sv p₄ seats ∷ [],
+            (sv p₅ ys ∷ [], (S′.lowered start ∷ [], (vint w64 students ∷ [], (vint w64 workshops ∷ [], tt)))),
+          ),
+        ),
+      ),
+    ),
+  )
 
   abbrev Post : Val → SProp 𝓤
   Post = walkOf 𝓤 H A run-all.ended stayed (run-all.clauses 𝓤 H A mem run) .post ((κs, qs, tt, x, at), tt)
@@ -144,7 +180,8 @@ module _ {M : Type 1} (𝓤 : URA M) (H : Heap 𝓤) (A : Atoms 𝓤) (W : Given
 
   exits : (vs us : List ℕ) (zs : List StudentState) (r : Run) → length vs ≡ length visits → length us ≡ length seats → length zs ≡ length ys
       → (vs, (us, (zs, r))) ≡ after last → Is S.the-row r (S′.lowered r ∷ [])
-      → ent 𝓤 (⋆ 𝓤 H A (States zs ∷ ‵ (flft κ₅ q₅) ∷ Seats us ∷ ‵ (flft κ₄ q₄) ∷ Visits vs ∷ ‵ (flft κ₃ q₃) ∷ Index index ∷ ‵ (flft κ₂ q₂) ∷ Case ∷ ‵ (flft κ₀ q₀)
+      → ent 𝓤 (⋆ 𝓤 H A (States zs ∷ ‵ (flft κ₅ q₅) ∷ Seats us ∷ ‵ (flft κ₄ q₄) ∷ Visits vs ∷ ‵ (flft κ₃ q₃) ∷ Index index ∷ ‵ (flft κ₂ q₂) ∷ Case ∷ ‵
+      (flft κ₀ q₀)
       ∷ Book ∷ ‵ (flft κ₁ q₁) ∷ [])) (Post (S′.lowered r))
   exits vs us zs r len₃ len₄ len₅ e is =
       qed W (States zs ∷ ‵ (flft κ₅ q₅) ∷ Seats us ∷ ‵ (flft κ₄ q₄) ∷ Visits vs ∷ ‵ (flft κ₃ q₃) ∷ Index index ∷ ‵ (flft κ₂ q₂) ∷ Case ∷ ‵ (flft κ₀ q₀) ∷ Book
@@ -153,12 +190,14 @@ module _ {M : Type 1} (𝓤 : URA M) (H : Heap 𝓤) (A : Atoms 𝓤) (W : Given
       (S′.lowered r) r (tt, (tt, (index, (vs, (us, (zs, (tt, (tt, (tt, tt))))))))) (tt, (tt, (refl, (len₃, (len₄, (len₅, (tt, (tt, (tt, tt)))))))))) $
       says ! (e, refl) $
       -- the tokens
-      nothing ! $ move ! (2 ∷ 0 ∷ []) $ join ! $ move ! (3 ∷ 0 ∷ []) $ join ! $ move ! (4 ∷ 0 ∷ []) $ join ! $ move ! (5 ∷ 0 ∷ []) $ join ! $ move ! (8 ∷ 0 ∷ []) $
+      nothing ! $ move ! (2 ∷ 0 ∷ []) $ join ! $ move ! (3 ∷ 0 ∷ []) $ join ! $ move ! (4 ∷ 0 ∷ []) $ join ! $ move ! (5 ∷ 0 ∷ []) $ join ! $ move !
+      (8 ∷ 0 ∷ []) $
       join ! $ move ! (6 ∷ 0 ∷ []) $ join ! $ frame ! $
       -- [states; seats; visits; index; case; book]: what is had of the parameters, and the result
       nothing ! $ owned ! usize (Is usize) (uint-makes 𝓤 H A W w64) workshops _ (refl, workshops-fit) $ fjoin ! $
       owned ! usize (Is usize) (uint-makes 𝓤 H A W w64) students _ (refl, students-fit) $ fjoin ! $
-      owned ! S.the-row (Is S.the-row) (LL.makes S.the-type S′.the-plain 𝓤 H A) start _ start-is $ fjoin ! $ move ! (1 ∷ 0 ∷ []) $ fjoin ! $ move ! (1 ∷ 0 ∷ []) $
+      owned ! S.the-row (Is S.the-row) (LL.makes S.the-type S′.the-plain 𝓤 H A) start _ start-is $ fjoin ! $ move ! (1 ∷ 0 ∷ []) $ fjoin ! $ move !
+      (1 ∷ 0 ∷ []) $
       fjoin ! $ move ! (1 ∷ 0 ∷ []) $ fjoin ! $ move ! (1 ∷ 0 ∷ []) $ fjoin ! $ move ! (2 ∷ 0 ∷ []) $ fjoin ! $ move ! (1 ∷ 0 ∷ []) $ fjoin ! $
       owned ! S.the-row (Is S.the-row) (LL.makes S.the-type S′.the-plain 𝓤 H A) r _ is $ move ! (1 ∷ 0 ∷ []) $ done !
 
@@ -177,13 +216,29 @@ module _ {M : Type 1} (𝓤 : URA M) (H : Heap 𝓤) (A : Atoms 𝓤) (W : Given
       (q₀, (q₁, (fullShare, (fullShare, (fullShare, (fullShare, tt)))))),
       tt,
       passed a₂ a₃ a₄ a₅ vs us zs st,
-      (sv p₀ case ∷ [], (sv p₁ book ∷ [], (sv p₂ index ∷ [], (sv p₃ visits ∷ [], (sv p₄ seats ∷ [], (sv p₅ ys ∷ [], (S′.lowered st ∷ [], (vint w64 students ∷ [], (vint w64 workshops ∷ [], tt))))))))),
+      (
+        sv p₀ case ∷ [],
+        (
+          sv p₁ book ∷ [],
+          (
+            sv p₂ index ∷ [],
+            (
+              sv p₃ visits ∷ [],
+              (
+                sv p₄ seats ∷ [],
+                (sv p₅ ys ∷ [], (S′.lowered st ∷ [], (vint w64 students ∷ [], (vint w64 workshops ∷ [], tt)))),
+              ),
+            ),
+          ),
+        ),
+      ),
     ),
     tt,
   )
 
   abbrev Asked : Loan → Loan → Loan → Loan → List ℕ → List ℕ → List StudentState → List (Item 𝓤)
-  Asked a₂ a₃ a₄ a₅ vs us zs = Case ∷ ‵ (flft κ₀ q₀) ∷ Book ∷ ‵ (flft κ₁ q₁) ∷ ‵ (MutSlice (named 2) (a₂ .ν ∷ []) u16 .own (anew p₂ a₂ index) (sv p₂ index ∷ []))
+  Asked a₂ a₃ a₄ a₅ vs us zs = Case ∷ ‵ (flft κ₀ q₀) ∷ Book ∷ ‵ (flft κ₁ q₁) ∷ ‵
+      (MutSlice (named 2) (a₂ .ν ∷ []) u16 .own (anew p₂ a₂ index) (sv p₂ index ∷ []))
       ∷ ‵ (flft (a₂ .ν ∷ []) fullShare) ∷ ‵ (MutSlice (named 3) (a₃ .ν ∷ []) u16 .own (anew p₃ a₃ vs) (sv p₃ visits ∷ [])) ∷ ‵ (flft (a₃ .ν ∷ []) fullShare)
       ∷ ‵ (MutSlice (named 4) (a₄ .ν ∷ []) u16 .own (anew p₄ a₄ us) (sv p₄ seats ∷ [])) ∷ ‵ (flft (a₄ .ν ∷ []) fullShare)
       ∷ ‵ (MutSlice (named 5) (a₅ .ν ∷ []) T.the-row .own (anew p₅ a₅ zs) (sv p₅ ys ∷ [])) ∷ ‵ (flft (a₅ .ν ∷ []) fullShare) ∷ []
@@ -193,12 +248,14 @@ module _ {M : Type 1} (𝓤 : URA M) (H : Heap 𝓤) (A : Atoms 𝓤) (W : Given
       → ent 𝓤 (⋆ 𝓤 H A (Asked a₂ a₃ a₄ a₅ vs us zs)) (TurnOf 𝓤 H A mem run .pre (to-turn a₂ a₃ a₄ a₅ vs us zs st))
   goes a₂ a₃ a₄ a₅ vs us zs st is-st ok =
       qed W (Asked a₂ a₃ a₄ a₅ vs us zs) ∵ says ! ok $
-      nothing ! $ move ! (12 ∷ 0 ∷ []) $ join ! $ move ! (10 ∷ 0 ∷ []) $ join ! $ move ! (8 ∷ 0 ∷ []) $ join ! $ move ! (6 ∷ 0 ∷ []) $ join ! $ move ! (4 ∷ 0 ∷ []) $
+      nothing ! $ move ! (12 ∷ 0 ∷ []) $ join ! $ move ! (10 ∷ 0 ∷ []) $ join ! $ move ! (8 ∷ 0 ∷ []) $ join ! $ move ! (6 ∷ 0 ∷ []) $ join ! $ move !
+      (4 ∷ 0 ∷ []) $
       join ! $ move ! (2 ∷ 0 ∷ []) $ join ! $ frame ! $
       -- [case; book; the index; the visits; the seats; the states]
       nothing ! $ owned ! usize (Is usize) (uint-makes 𝓤 H A W w64) workshops _ (refl, workshops-fit) $ fjoin ! $
       owned ! usize (Is usize) (uint-makes 𝓤 H A W w64) students _ (refl, students-fit) $ fjoin ! $
-      owned ! S.the-row (Is S.the-row) (LL.makes S.the-type S′.the-plain 𝓤 H A) st _ is-st $ fjoin ! $ move ! (6 ∷ 0 ∷ []) $ fjoin ! $ move ! (5 ∷ 0 ∷ []) $ fjoin ! $
+      owned ! S.the-row (Is S.the-row) (LL.makes S.the-type S′.the-plain 𝓤 H A) st _ is-st $ fjoin ! $ move ! (6 ∷ 0 ∷ []) $ fjoin ! $ move !
+      (5 ∷ 0 ∷ []) $ fjoin ! $
       move ! (4 ∷ 0 ∷ []) $ fjoin ! $ move ! (3 ∷ 0 ∷ []) $ fjoin ! $ move ! (2 ∷ 0 ∷ []) $ fjoin ! $ move ! (1 ∷ 0 ∷ []) $ fjoin ! $ done !
 
   -- what is had once it has returned r
@@ -238,7 +295,8 @@ module _ {M : Type 1} (𝓤 : URA M) (H : Heap 𝓤) (A : Atoms 𝓤) (W : Given
   more-left t l = runs-less market results visits seats ys start (t .k) last (t .below) (can .ends) (held t l)
 
   -- after a turn
-  abbrev next : (t : Here) → 0 < t .st .hand → (r : Run) (index′ vs′ us′ : List ℕ) (zs′ : List StudentState) → Says (t .vs) (t .us) (t .zs) (t .st) r index′ vs′ us′ zs′
+  abbrev next : (t : Here) → 0 < t .st .hand → (r : Run) (index′ vs′ us′ : List ℕ) (zs′ : List StudentState) → Says (t .vs) (t .us) (t .zs)
+      (t .st) r index′ vs′ us′ zs′
       → length vs′ ≡ length visits → length us′ ≡ length seats → length zs′ ≡ length ys → Is S.the-row r (S′.lowered r ∷ []) → Here
   next t l r index′ vs′ us′ zs′ e e₃ e₄ e₅ is = record {
     k = suc (t .k);
@@ -304,7 +362,8 @@ module _ {M : Type 1} (𝓤 : URA M) (H : Heap 𝓤) (A : Atoms 𝓤) (W : Given
     more : (t : Here) → ltb 0 (t .st .hand) ≡ true → Sq W (At t) (runs C Λ En code-mir.turn-1 (anyQ (Ended t)))
     unfolding afterTurn
     more t e =
-        assigns ! (bin ! (lit ! tt) (load ! (from ! (fld ! refl (stop !))) (look-in ! 32 (sub ! 0 refl (whole !)))) tt) (from ! (stop !)) (init ! 28 refl (tt, tt)) $
+        assigns ! (bin ! (lit ! tt) (load ! (from ! (fld ! refl (stop !))) (look-in ! 32 (sub ! 0 refl (whole !)))) tt) (from ! (stop !))
+        (init ! 28 refl (tt, tt)) $
         rewrite ! 28 (λ (y : Bool). ‵ (fat fullShare tyBool l₁₂ 0 (vbool y))) e refl $ stays ! (load ! (from ! (stop !)) (look ! 28 refl)) $
         assigns ! (addr ! (from ! (fld ! refl (hop ! (look-in ! 46 (sub ! 0 refl (whole !))) (stop !))))) (from ! (stop !)) (init ! 26 refl (tt, tt)) $
         assigns ! (agg ! (and-then ! (load ! (from ! (stop !)) (look ! 26 refl)) (and-then ! (load ! (from ! (fld ! refl (stop !)))
@@ -328,12 +387,14 @@ module _ {M : Type 1} (𝓤 : URA M) (H : Heap 𝓤) (A : Atoms 𝓤) (W : Given
         -- [the book; the book; the case; the case; for index, visits, seats and states: the slice lent, its token, what is kept; κ₀'s token; κ₁'s
         -- token; _20; …]
         move ! (2 ∷ 16 ∷ 0 ∷ 17 ∷ 4 ∷ 5 ∷ 7 ∷ 8 ∷ 10 ∷ 11 ∷ 13 ∷ 14 ∷ []) $ group ! 12 $
-        use1 W (raw (TurnOf 𝓤 H A mem run .pre (to-turn (record { ν = ν₂; δ = δ₂ }) (record { ν = ν₃; δ = δ₃ }) (record { ν = ν₄; δ = δ₄ }) (record { ν = ν₅; δ = δ₅ })
+        use1 W (raw (TurnOf 𝓤 H A mem run .pre
+        (to-turn (record { ν = ν₂; δ = δ₂ }) (record { ν = ν₃; δ = δ₃ }) (record { ν = ν₄; δ = δ₄ }) (record { ν = ν₅; δ = δ₅ })
         (t .vs) (t .us) (t .zs) (t .st)))) (goes (record { ν = ν₂; δ = δ₂ }) (record { ν = ν₃; δ = δ₃ }) (record { ν = ν₄; δ = δ₄ }) (record { ν = ν₅; δ = δ₅ })
         (t .vs) (t .us) (t .zs) (t .st) (t .is) (ready t in-hand)) $
         -- [what is asked; the book; the case; what is kept of the index, of the visits, of the seats, of the states; _20; …]
         calls-out ! fm take-turn.signature (take-turn.spec 𝓤 H A mem run) known
-        (to-turn (record { ν = ν₂; δ = δ₂ }) (record { ν = ν₃; δ = δ₃ }) (record { ν = ν₄; δ = δ₄ }) (record { ν = ν₅; δ = δ₅ }) (t .vs) (t .us) (t .zs) (t .st))
+        (to-turn (record { ν = ν₂; δ = δ₂ }) (record { ν = ν₃; δ = δ₃ }) (record { ν = ν₄; δ = δ₄ }) (record { ν = ν₅; δ = δ₅ }) (t .vs) (t .us)
+        (t .zs) (t .st))
         (Fin (record { ν = ν₂; δ = δ₂ }) (record { ν = ν₃; δ = δ₃ }) (record { ν = ν₄; δ = δ₄ }) (record { ν = ν₅; δ = δ₅ }) (t .vs) (t .us) (t .zs) (t .st))
         (λ r. id⊢ 𝓤 _) S′.lowered (S′.lowers .val-is)
         (and-then ! (load ! (from ! (stop !)) (look ! 45 refl)) (and-then ! (load ! (from ! (stop !)) (look ! 43 refl))
@@ -359,7 +420,8 @@ module _ {M : Type 1} (𝓤 : URA M) (H : Heap 𝓤) (A : Atoms 𝓤) (W : Given
         (e₃ ∙ t .len₃) $
         move ! (5 ∷ 12 ∷ 9 ∷ []) $ back-on ! tt u16 (named 4) κ₄ q₄ (p₄ .γ) (p₄ .b) (p₄ .o) (length seats) ν₄ δ₄ (t .us) (ws .1 .1 .1 .1 .0) room₄ (t .len₄)
         (e₄ ∙ t .len₄) $
-        move ! (6 ∷ 12 ∷ 9 ∷ []) $ back-on ! tt T.the-row (named 5) κ₅ q₅ (p₅ .γ) (p₅ .b) (p₅ .o) (length ys) ν₅ δ₅ (t .zs) (ws .1 .1 .1 .1 .1 .0) room₅ (t .len₅)
+        move ! (6 ∷ 12 ∷ 9 ∷ []) $ back-on ! tt T.the-row (named 5) κ₅ q₅ (p₅ .γ) (p₅ .b) (p₅ .o) (length ys) ν₅ δ₅ (t .zs)
+        (ws .1 .1 .1 .1 .1 .0) room₅ (t .len₅)
         (e₅ ∙ t .len₅) $
         -- [the states; the seats; the visits; the index; κ₁'s token; κ₀'s; the book; the case; _20; …]
         move ! (0 ∷ 1 ∷ 2 ∷ 3 ∷ 4 ∷ 5 ∷ 6 ∷ 7 ∷ 11 ∷ 9 ∷ 10 ∷ 8 ∷ []) $
@@ -381,7 +443,8 @@ module _ {M : Type 1} (𝓤 : URA M) (H : Heap 𝓤) (A : Atoms 𝓤) (W : Given
     ends : (t : Here) → ltb 0 (t .st .hand) ≡ false → Sq W (At t) (runs C Λ En code-mir.turn-1 (anyQ (Ended t)))
     unfolding afterTurn
     ends t e =
-        assigns ! (bin ! (lit ! tt) (load ! (from ! (fld ! refl (stop !))) (look-in ! 32 (sub ! 0 refl (whole !)))) tt) (from ! (stop !)) (init ! 28 refl (tt, tt)) $
+        assigns ! (bin ! (lit ! tt) (load ! (from ! (fld ! refl (stop !))) (look-in ! 32 (sub ! 0 refl (whole !)))) tt) (from ! (stop !))
+        (init ! 28 refl (tt, tt)) $
         rewrite ! 28 (λ (y : Bool). ‵ (fat fullShare tyBool l₁₂ 0 (vbool y))) e refl $ leaves-loop ! (load ! (from ! (stop !)) (look ! 28 refl)) $
         exec ! C Λ En code-mir.t-3 (atRet En Post) $
         assigns ! (of-opd ! (load ! (from ! (stop !)) (look ! 32 refl))) (from ! (stop !))
@@ -412,7 +475,8 @@ module _ {M : Type 1} (𝓤 : URA M) (H : Heap 𝓤) (A : Atoms 𝓤) (W : Given
 
   -- the MIR, up to the loop
   walk : (𝓣 : Tables 𝓤 H) → Triple 𝓤 (𝓣 .C #engine·take-turn) (TurnOf 𝓤 H A mem run)
-      → ent 𝓤 (onEntry 𝓤 H A run-all.signature κs qs x at) (WpFn 𝓤 H (𝓣 .C) (𝓣 .Λ) code.function (sv p₀ case ∷ sv p₁ book ∷ sv p₂ index ∷ sv p₃ visits ∷ sv p₄ seats
+      → ent 𝓤 (onEntry 𝓤 H A run-all.signature κs qs x at)
+      (WpFn 𝓤 H (𝓣 .C) (𝓣 .Λ) code.function (sv p₀ case ∷ sv p₁ book ∷ sv p₂ index ∷ sv p₃ visits ∷ sv p₄ seats
       ∷ sv p₅ ys ∷ S′.lowered start ∷ vint w64 students ∷ vint w64 workshops ∷ []) Post)
   walk 𝓣 known =
       qed W ((‵ (flft κ₀ q₀) ⊛ ‵ (flft κ₁ q₁) ⊛ ‵ (flft κ₂ q₂) ⊛ ‵ (flft κ₃ q₃) ⊛ ‵ (flft κ₄ q₄) ⊛ ‵ (flft κ₅ q₅) ⊛ ‵ ftrue)
@@ -426,7 +490,8 @@ module _ {M : Type 1} (𝓤 : URA M) (H : Heap 𝓤) (A : Atoms 𝓤) (W : Given
       pass1 ! (init ! 38 refl (tt, (tt, (record { fits = room₀ .0 }, tt)))) $ pass1 ! (init ! 36 refl (tt, (tt, (record { fits = room₁ .0 }, tt)))) $
       pass1 ! (init ! 34 refl (tt, (tt, (record { fits = room₂ .0 }, tt)))) $ pass1 ! (init ! 32 refl (tt, (tt, (record { fits = room₃ .0 }, tt)))) $
       pass1 ! (init ! 30 refl (tt, (tt, (record { fits = room₄ .0 }, tt)))) $ pass1 ! (init ! 28 refl (tt, (tt, (record { fits = room₅ .0 }, tt)))) $
-      pass1 ! (init ! 26 refl (LL.lawful S.the-type S′.the-laws 𝓤 H A W .typed start _ start-is .0)) $ pass1 ! (init ! 24 refl (tt, record { fits = students-fit })) $
+      pass1 ! (init ! 26 refl (LL.lawful S.the-type S′.the-laws 𝓤 H A W .typed start _ start-is .0)) $ pass1 !
+      (init ! 24 refl (tt, record { fits = students-fit })) $
       pass1 ! (init ! 22 refl (tt, record { fits = workshops-fit })) $ pass0 ! $
       assigns ! (of-opd ! (load ! (from ! (stop !)) (look ! 26 refl))) (from ! (stop !))
       (init ! 20 refl (LL.lawful S.the-type S′.the-laws 𝓤 H A W .typed start _ start-is .0)) $
@@ -434,12 +499,26 @@ module _ {M : Type 1} (𝓤 : URA M) (H : Heap 𝓤) (A : Atoms 𝓤) (W : Given
       move ! (43 ∷ []) $ fsplit ! $ move ! (1 ∷ []) $ fsplit ! $ move ! (1 ∷ []) $ fsplit ! $ move ! (1 ∷ []) $ fsplit ! $ move ! (1 ∷ []) $ fsplit ! $
       move ! (1 ∷ []) $ fsplit ! $ move ! (1 ∷ []) $ drop ! $
       -- [states; seats; visits; index; book; case; locals; tokens]
-      move ! (48 ∷ []) $ split ! $ move ! (1 ∷ []) $ split ! $ move ! (1 ∷ []) $ split ! $ move ! (1 ∷ []) $ split ! $ move ! (1 ∷ []) $ split ! $ move ! (1 ∷ []) $
+      move ! (48 ∷ []) $ split ! $ move ! (1 ∷ []) $ split ! $ move ! (1 ∷ []) $ split ! $ move ! (1 ∷ []) $ split ! $ move !
+      (1 ∷ []) $ split ! $ move ! (1 ∷ []) $
       split ! $ move ! (1 ∷ []) $ drop ! $
       -- [κ₅; κ₄; κ₃; κ₂; κ₁; κ₀; states; seats; visits; index; book; case; locals]
       move ! (6 ∷ 0 ∷ 7 ∷ 1 ∷ 8 ∷ 2 ∷ 9 ∷ 3 ∷ 11 ∷ 5 ∷ 10 ∷ 4 ∷ []) $
       looped 𝓣 known l₀ l₁ l₂ l₃ l₄ l₅ l₆ l₇ l₈ l₉ l₁₀ l₁₁ l₁₂ l₁₃ l₁₄ l₁₅ l₁₆ l₁₇ l₁₈ l₁₉ l₂₀
-      (record { k = 0; vs = visits; us = seats; zs = ys; st = start; len₃ = refl; len₄ = refl; len₅ = refl; below = omega arith; is = start-is; same = begun }))))))))))))))))))))))
+      (record {
+        k = 0;
+        vs = visits;
+        us = seats;
+        zs = ys;
+        st = start;
+        len₃ = refl;
+        len₄ = refl;
+        len₅ = refl;
+        below = omega arith;
+        is = start-is;
+        same =
+            begun;
+      }))))))))))))))))))))))
     where
       begun : (visits, (seats, (ys, start))) ≡ after 0
       begun = runs-none market results visits seats ys start
@@ -448,9 +527,34 @@ module _ {M : Type 1} (𝓤 : URA M) (H : Heap 𝓤) (A : Atoms 𝓤) (W : Given
   run-all-walks : (𝓣 : Tables 𝓤 H) → Triple 𝓤 (𝓣 .C #engine·take-turn) (TurnOf 𝓤 H A mem run)
       → Walks 𝓤 H A run-all.ended stayed (WpFn 𝓤 H (𝓣 .C) (𝓣 .Λ) code.function) (run-all.clauses 𝓤 H A mem run)
   run-all-walks 𝓣 known = walked 𝓤 H A run-all.ended stayed (run-all.clauses 𝓤 H A mem run) (WpFn 𝓤 H (𝓣 .C) (𝓣 .Λ) code.function)
-      (λ κs. (slice-vals, (slice-vals, (slice-vals, (slice-vals, (slice-vals, (slice-vals, ((λ st. S′.lowered st ∷ []), (uint-vals w64, (uint-vals w64, tt))))))))))
-      (λ κs. (shr-slice-tells (named 0) (κs .0) u8, (shr-slice-tells (named 1) (κs .1 .0) u8, (mut-slice-tells (named 2) (κs .1 .1 .0) u16, (mut-slice-tells (named 3) (κs .1 .1 .1 .0) u16, (mut-slice-tells (named 4) (κs .1 .1 .1 .1 .0) u16, (mut-slice-tells (named 5) (κs .1 .1 .1 .1 .1 .0) T.the-row, (S′.lowers .val-is, (uint-tells w64, (uint-tells w64, tt))))))))))
-      (λ κs qs bounds a g are. needs 𝓤 (CanRun (a .0 .now) (a .1 .0 .now) (a .1 .1 .0 .now) (a .1 .1 .1 .0 .now) (a .1 .1 .1 .1 .0 .now) (a .1 .1 .1 .1 .1 .0 .now)
+      (λ κs. (
+        slice-vals,
+        (
+          slice-vals,
+          (slice-vals, (slice-vals, (slice-vals, (slice-vals, ((λ st. S′.lowered st ∷ []), (uint-vals w64, (uint-vals w64, tt))))))),
+        ),
+      ))
+      (λ κs. (
+        shr-slice-tells (named 0) (κs .0) u8,
+        (
+          shr-slice-tells (named 1) (κs .1 .0) u8,
+          (
+            mut-slice-tells (named 2) (κs .1 .1 .0) u16,
+            (
+              mut-slice-tells (named 3) (κs .1 .1 .1 .0) u16,
+              (
+                mut-slice-tells (named 4) (κs .1 .1 .1 .1 .0) u16,
+                (
+                  mut-slice-tells (named 5) (κs .1 .1 .1 .1 .1 .0) T.the-row,
+                  (S′.lowers .val-is, (uint-tells w64, (uint-tells w64, tt))),
+                ),
+              ),
+            ),
+          ),
+        ),
+      ))
+      (λ κs qs bounds a g are. needs 𝓤
+      (CanRun (a .0 .now) (a .1 .0 .now) (a .1 .1 .0 .now) (a .1 .1 .1 .0 .now) (a .1 .1 .1 .1 .0 .now) (a .1 .1 .1 .1 .1 .0 .now)
       (a .1 .1 .1 .1 .1 .1 .0) (a .1 .1 .1 .1 .1 .1 .1 .0) (a .1 .1 .1 .1 .1 .1 .1 .1 .0)) _ (λ can.
       walk 𝓤 H A W mem run (κs .0) (κs .1 .0) (κs .1 .1 .0) (κs .1 .1 .1 .0) (κs .1 .1 .1 .1 .0) (κs .1 .1 .1 .1 .1 .0) (qs .0) (qs .1 .0) (qs .1 .1 .0)
       (qs .1 .1 .1 .0) (qs .1 .1 .1 .1 .0) (qs .1 .1 .1 .1 .1 .0)
@@ -476,7 +580,13 @@ run-all-meets 𝓤 H A W mem run 𝓣 known =
               goes-slice 𝓤 H A W 6 4 tt (plain (λ _. u16)),
               (
                 goes-slice 𝓤 H A W 6 5 tt (plain (λ _. T.the-row)),
-                (goes-none 𝓤 H A W 6 (λ _. S.the-row) yes (λ κs x f. refl), (goes-none 𝓤 H A W 6 (λ _. usize) yes (λ κs x f. refl), (goes-none 𝓤 H A W 6 (λ _. usize) yes (λ κs x f. refl), tt))),
+                (
+                  goes-none 𝓤 H A W 6 (λ _. S.the-row) yes (λ κs x f. refl),
+                  (
+                    goes-none 𝓤 H A W 6 (λ _. usize) yes (λ κs x f. refl),
+                    (goes-none 𝓤 H A W 6 (λ _. usize) yes (λ κs x f. refl), tt),
+                  ),
+                ),
               ),
             ),
           ),
@@ -491,4 +601,5 @@ run-all-spec 𝓤 H 𝓜 𝓖 𝓡 =
     entered 𝓤 H (tripleOf 𝓤 H (𝓖 .A) run-all.signature (run-all.spec 𝓤 H (𝓖 .A) (𝓜 .mem) (𝓡 .run)))
     (tables 𝓤 H 𝓜 𝓡 code.env .C) (tables 𝓤 H 𝓜 𝓡 code.env .Λ) #engine·run-all code.function (code.unfolded 𝓤 H 𝓜 𝓡)
     (run-all-meets 𝓤 H (𝓖 .A) (givenOf 𝓤 H 𝓜 𝓖) (𝓜 .mem) (𝓡 .run) (tablesOf 𝓤 H 𝓜 (tables 𝓤 H 𝓜 𝓡 code.env))
-    (cited 𝓤 H (TurnOf 𝓤 H (𝓖 .A) (𝓜 .mem) (𝓡 .run)) 𝓜 𝓡 code.env #engine·take-turn take-turn-def.routine code.calls-engine·take-turn (take-turn-thm.met 𝓤 H 𝓜 𝓖 𝓡)))
+    (cited 𝓤 H (TurnOf 𝓤 H (𝓖 .A) (𝓜 .mem) (𝓡 .run)) 𝓜 𝓡 code.env #engine·take-turn take-turn-def.routine code.calls-engine·take-turn
+    (take-turn-thm.met 𝓤 H 𝓜 𝓖 𝓡)))

@@ -37,7 +37,8 @@ tested : (c : tie.After-lacks)
 tested c =
     let e = c .before .before .before in
     let a = entry e .args in
-    room-is (a .case .now) (lengthsOf (a .room) (length (a .index .now))) _ _ (c .before .seats-needed .result) (answer e .1) (answer e .3) (c .before .seats-needed .ensures)
+    room-is (a .case .now) (lengthsOf (a .room) (length (a .index .now))) _ _ (c .before .seats-needed .result) (answer e .1) (answer e .3)
+    (c .before .seats-needed .ensures)
     ∙ sym (c .lacks .ensures ∙ rw (e .before .before .before .before .before .clear .kept .0))
 
 clear-requires : tie.Need-clear-requires
@@ -72,7 +73,9 @@ returns c =
     let e = c .before .before .before .before .before in
     let a = entry e .args in
     let room = lengthsOf (a .room) (length (a .index .now)) in
-    refused-tested (a .case .now) (a .book .now) room (refusal-room (a .case .now) (a .book .now) room (answer e .0) (tested (c .before .before) ∙ c .before .if1 .taken)) (c .refused2 .ensures) (c .before .before .before .before .before .before .before .before .before .before .clear .ensures)
+    refused-tested (a .case .now) (a .book .now) room
+    (refusal-room (a .case .now) (a .book .now) room (answer e .0) (tested (c .before .before) ∙ c .before .if1 .taken)) (c .refused2 .ensures)
+    (c .before .before .before .before .before .before .before .before .before .before .clear .ensures)
 
 check-book-requires : tie.Need-check-book-requires
 check-book-requires c κs =
@@ -91,8 +94,10 @@ returns-2 c =
     let a = c .before .before .before .before .before .before .before .before .before .before .before .before .args in
     let room = lengthsOf (a .room) (length (a .index .now)) in
     let x = c .before .before .cause .given in
-    let r = as-refused (a .case .now) (caseRefusal (a .case .now)) (x .0 .0) (x .0 .1 .0) (sym (x .1) ∙ c .before .before .before .before .check-case .ensures) in
-    refused-tested (a .case .now) (a .book .now) room (refusal-case (a .case .now) (a .book .now) room _ r) (c .refused .ensures) (c .before .before .before .before .before .before .before .clear .ensures)
+    let r = as-refused (a .case .now) (caseRefusal (a .case .now)) (x .0 .0) (x .0 .1 .0)
+    (sym (x .1) ∙ c .before .before .before .before .check-case .ensures) in
+    refused-tested (a .case .now) (a .book .now) room (refusal-case (a .case .now) (a .book .now) room _ r) (c .refused .ensures)
+    (c .before .before .before .before .before .before .before .clear .ensures)
 
 same-length-3 : tie.Need-same-length-3
 same-length-3 c = search needs
@@ -103,10 +108,15 @@ returns-3 c =
     let a = entry e .args in
     let room = lengthsOf (a .room) (length (a .index .now)) in
     let done = c .before .before .check-book in
-    let o = refusal-book (a .case .now) (a .book .now) room (answer e .0) (tested (c .before .before .before .before .before) ∙ c .before .before .before .before .if1 .left) in
+    let o = refusal-book (a .case .now) (a .book .now) room (answer e .0)
+    (tested (c .before .before .before .before .before) ∙ c .before .before .before .before .if1 .left) in
     record {
       answer = done .ensures .0 ∙ ap (λ o. checkedOf o (a .case .now)) (sym o);
-      left = done .ensures .1 ∙ rw (c .before .before .before .before .before .before .before .before .before .before .before .before .before .clear .kept .0, o);
+      left = done .ensures .1 ∙ rw (
+        c .before .before .before .before .before .before .before .before .before .before .before .before .before .clear
+            .kept .0,
+        o,
+      );
     }
 
 pub check-spec : {M : Type 1} → statement M

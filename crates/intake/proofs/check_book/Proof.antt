@@ -25,7 +25,8 @@ fine : (d : tie.Else2) → firstBad (badAny (rows (entry d .args .case .now)) (e
 fine d =
     let a = entry d .args in
     let fill = d .before .before .before .fill in
-    none-by (badAny (rows (a .case .now)) (entries (a .book .now))) (entryCount (a .book .now)) (fill .result) (fill .ensures .0) (omega (arith, d .if2 .left, d .before .before .before .before .before .before .entry-count .ensures))
+    none-by (badAny (rows (a .case .now)) (entries (a .book .now))) (entryCount (a .book .now)) (fill .result) (fill .ensures .0)
+    (omega (arith, d .if2 .left, d .before .before .before .before .before .before .entry-count .ensures))
 
 -- the index when it is filled
 as-long : (d : tie.Else2) → length (d .before .before .before .fill .last .1 .1 .1 .1 .0) ≡ length (entry d .args .index .now)
@@ -40,7 +41,8 @@ made d =
     rw all at (fill .ensures .1)
 
 indexed : (d : tie.Else2)
-    → Indexed (entry d .args .case .now) (entry d .args .book .now) (d .before .before .before .fill .last .1 .1 .1 .1 .0) (entry d .args .students + entry d .args .workshops)
+    → Indexed (entry d .args .case .now) (entry d .args .book .now) (d .before .before .before .fill .last .1 .1 .1 .1 .0)
+    (entry d .args .students + entry d .args .workshops)
 indexed d =
     let start = entry d in
     let a = start .args in
@@ -63,7 +65,8 @@ returns : tie.Need-returns
 returns c =
     let start = c .before .before .before .before .before .before in
     let a = start .args in
-    refused-with (a .case .now) (a .book .now) _ 7 0 _ _ _ (book-7 (a .case .now) (a .book .now) (whole-some (length (a .book .now) % 8) (c .before .if1 .taken))) (c .refused .ensures) (start .pre .1 .2)
+    refused-with (a .case .now) (a .book .now) _ 7 0 _ _ _
+    (book-7 (a .case .now) (a .book .now) (whole-some (length (a .book .now) % 8) (c .before .if1 .taken))) (c .refused .ensures) (start .pre .1 .2)
 
 fill-requires : tie.Need-fill-requires
 fill-requires c κs = search needs
@@ -73,7 +76,8 @@ book-fault-requires c κs =
     let start = c .before .before .before .before .before .before .before .before .before .before .before in
     let a = start .args in
     let fill = c .before .before .before .before .fill in
-    let found = some-by (badAny (rows (a .case .now)) (entries (a .book .now))) (entryCount (a .book .now)) (fill .result) (fill .ensures .0) (omega (arith, c .before .if2 .taken, c .before .before .before .before .before .before .before .entry-count .ensures)) in
+    let found = some-by (badAny (rows (a .case .now)) (entries (a .book .now))) (entryCount (a .book .now)) (fill .result) (fill .ensures .0)
+    (omega (arith, c .before .if2 .taken, c .before .before .before .before .before .before .before .entry-count .ensures)) in
     (start .pre .0, ((c .before .before .before .before .before .before .if1 .left, omega (arith, start .pre .1, fill .kept .1 .1 .1 .1 .0)), found))
 
 same-length : tie.Need-same-length
@@ -82,8 +86,11 @@ same-length c = search needs
 returns-2 : tie.Need-returns-2
 returns-2 c =
     let a = c .before .before .before .before .before .before .before .before .before .before .before .before .before .before .args in
-    let fault = c .before .before .book-fault in
-    (fault .ensures .0, fault .ensures .1 ∙ ap (λ k. indexAfter (bookRefusal (a .case .now) (a .book .now)) (a .case .now) (a .book .now) k) (c .before .before .before .before .before .before .before .fill .kept .1 .1 .1 .1 .0))
+    let fault = c .before .before .book-fault in (
+      fault .ensures .0,
+      fault .ensures .1 ∙ ap (λ k. indexAfter (bookRefusal (a .case .now) (a .book .now)) (a .case .now) (a .book .now) k)
+          (c .before .before .before .before .before .before .before .fill .kept .1 .1 .1 .1 .0),
+    )
 
 first-tie-requires : tie.Need-first-tie-requires
 first-tie-requires c κs = let p = entry (c .before) .pre .0 in (indexed (c .before), (p .students, p .workshops))
@@ -102,9 +109,13 @@ returns-3 c =
     let d = c .before .before .before .before .before .before .before .before in
     let a = entry d .args in
     let tie = c .before .before .before .before .before .before .first-tie in
-    let found = some-by (badTie (rows (a .case .now)) (entries (a .book .now))) (entryCount (a .book .now)) (tie .result) (tie .ensures) (omega (arith, c .before .before .before .before .before .if3 .taken, d .before .before .before .before .before .before .entry-count .ensures)) in
-    let o = book-11 (a .case .now) (a .book .now) (whole-none _ (d .before .before .before .before .before .if1 .left)) (all-paired (a .case .now) (a .book .now) (fine d)) (all-scored (a .case .now) (a .book .now) (fine d)) (all-fresh (a .case .now) (a .book .now) (fine d)) (tie .result) found in
-    refused-with (a .case .now) (a .book .now) _ 11 (tie .result) _ _ _ o (c .refused2 .ensures) (c .before .before .before .clear .ensures ∙ ap (λ k. replicate k 0) (as-long d))
+    let found = some-by (badTie (rows (a .case .now)) (entries (a .book .now))) (entryCount (a .book .now)) (tie .result) (tie .ensures)
+    (omega (arith, c .before .before .before .before .before .if3 .taken, d .before .before .before .before .before .before .entry-count .ensures)) in
+    let o = book-11 (a .case .now) (a .book .now) (whole-none _ (d .before .before .before .before .before .if1 .left))
+    (all-paired (a .case .now) (a .book .now) (fine d)) (all-scored (a .case .now) (a .book .now) (fine d))
+    (all-fresh (a .case .now) (a .book .now) (fine d)) (tie .result) found in
+    refused-with (a .case .now) (a .book .now) _ 11 (tie .result) _ _ _ o (c .refused2 .ensures)
+    (c .before .before .before .clear .ensures ∙ ap (λ k. replicate k 0) (as-long d))
 
 same-length-3 : tie.Need-same-length-3
 same-length-3 c = search needs
@@ -115,9 +126,15 @@ returns-4 c =
     let start = entry d in
     let a = start .args in
     let tie = c .before .first-tie in
-    let none-tie = none-by (badTie (rows (a .case .now)) (entries (a .book .now))) (entryCount (a .book .now)) (tie .result) (tie .ensures) (omega (arith, c .if3 .left, d .before .before .before .before .before .before .entry-count .ensures)) in
-    let o = book-clean (a .case .now) (a .book .now) (whole-none _ (d .before .before .before .before .before .if1 .left)) (all-paired (a .case .now) (a .book .now) (fine d)) (all-scored (a .case .now) (a .book .now) (fine d)) (all-fresh (a .case .now) (a .book .now) (fine d)) none-tie in
-    (sym (clean-as (a .case .now) _ (a .students) (a .workshops) (a .pairs) o (start .pre .0 .students) (start .pre .0 .workshops) (start .pre .1 .0)), rw o (made d))
+    let none-tie = none-by (badTie (rows (a .case .now)) (entries (a .book .now))) (entryCount (a .book .now)) (tie .result) (tie .ensures)
+    (omega (arith, c .if3 .left, d .before .before .before .before .before .before .entry-count .ensures)) in
+    let o = book-clean (a .case .now) (a .book .now) (whole-none _ (d .before .before .before .before .before .if1 .left))
+    (all-paired (a .case .now) (a .book .now) (fine d)) (all-scored (a .case .now) (a .book .now) (fine d))
+    (all-fresh (a .case .now) (a .book .now) (fine d)) none-tie in (
+      sym (clean-as (a .case .now) _ (a .students) (a .workshops) (a .pairs) o (start .pre .0 .students) (start .pre .0 .workshops)
+          (start .pre .1 .0)),
+      rw o (made d),
+    )
 
 pub check-book-spec : {M : Type 1} → statement M
 check-book-spec =

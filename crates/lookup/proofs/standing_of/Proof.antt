@@ -9,7 +9,8 @@ use Rattle.lookup.proofs.standing_of.Statement.{statement}
 use Rattle.lookup.proofs.standing_of.Tie as tie
 
 pair-of-requires : tie.Need-pair-of-requires
-pair-of-requires c κs = let start = c .before .before .before in ((omega (arith, start .pre .0, start .pre .1), omega (arith, start .pre .0, start .pre .1)), start .pre .0 .found)
+pair-of-requires c κs = let start = c .before .before .before in
+    ((omega (arith, start .pre .0, start .pre .1), omega (arith, start .pre .0, start .pre .1)), start .pre .0 .found)
 
 workshop-tier-requires : tie.Need-workshop-tier-requires
 workshop-tier-requires c κs = let start = c .before .before .before .before in let p = pair-known (start .pre .0) (start .pre .1) in omega arith
@@ -23,14 +24,17 @@ entry-of-requires c κs = let start = c .before .before .before .before .before 
 workshop-score-requires : tie.Need-workshop-score-requires
 workshop-score-requires c κs =
     let start = c .before .before .before .before .before .before in
-    let e = entry-known (start .pre .0) (start .pre .1) (c .before .before .pair-of .result) (c .entry-of .result) (c .before .before .pair-of .ensures) (c .entry-of .ensures) in
+    let e = entry-known (start .pre .0) (start .pre .1) (c .before .before .pair-of .result) (c .entry-of .result)
+    (c .before .before .pair-of .ensures) (c .entry-of .ensures) in
     omega arith
 
 returns : tie.Need-returns
 returns c =
     let start = c .before .before .before .before .before .before .before in
-    let e = entry-known (start .pre .0) (start .pre .1) (c .before .before .before .pair-of .result) (c .before .entry-of .result) (c .before .before .before .pair-of .ensures) (c .before .entry-of .ensures) in (
-      tier-known (start .pre .0) (start .pre .1) (c .before .before .before .pair-of .result) (c .before .before .workshop-tier .result) (c .before .before .before .pair-of .ensures) (c .before .before .workshop-tier .ensures),
+    let e = entry-known (start .pre .0) (start .pre .1) (c .before .before .before .pair-of .result) (c .before .entry-of .result)
+    (c .before .before .before .pair-of .ensures) (c .before .entry-of .ensures) in (
+      tier-known (start .pre .0) (start .pre .1) (c .before .before .before .pair-of .result) (c .before .before .workshop-tier .result)
+          (c .before .before .before .pair-of .ensures) (c .before .before .workshop-tier .ensures),
       rw (toZ-ofZ w16 (c .workshop-score .result) (record { sfits = c .workshop-score .ok })) (c .workshop-score .ensures ∙ sym (e .workshopScore)),
     )
 

@@ -9,7 +9,8 @@ use Rattle.lookup.proofs.student_score_of.Statement.{statement}
 use Rattle.lookup.proofs.student_score_of.Tie as tie
 
 pair-of-requires : tie.Need-pair-of-requires
-pair-of-requires c κs = let start = c .before .before .before in ((omega (arith, start .pre .0, start .pre .1), omega (arith, start .pre .0, start .pre .1)), start .pre .0 .found)
+pair-of-requires c κs = let start = c .before .before .before in
+    ((omega (arith, start .pre .0, start .pre .1), omega (arith, start .pre .0, start .pre .1)), start .pre .0 .found)
 
 add-entry-of : tie.Need-add-entry-of
 add-entry-of c = search needs
@@ -20,13 +21,15 @@ entry-of-requires c κs = let start = c .before .before .before .before in let p
 student-score-requires : tie.Need-student-score-requires
 student-score-requires c κs =
     let start = c .before .before .before .before .before in
-    let e = entry-known (start .pre .0) (start .pre .1) (c .before .pair-of .result) (c .entry-of .result) (c .before .pair-of .ensures) (c .entry-of .ensures) in
+    let e = entry-known (start .pre .0) (start .pre .1) (c .before .pair-of .result) (c .entry-of .result) (c .before .pair-of .ensures)
+    (c .entry-of .ensures) in
     omega arith
 
 returns : tie.Need-returns
 returns c =
     let start = c .before .before .before .before .before .before in
-    let e = entry-known (start .pre .0) (start .pre .1) (c .before .before .pair-of .result) (c .before .entry-of .result) (c .before .before .pair-of .ensures) (c .before .entry-of .ensures) in
+    let e = entry-known (start .pre .0) (start .pre .1) (c .before .before .pair-of .result) (c .before .entry-of .result)
+    (c .before .before .pair-of .ensures) (c .before .entry-of .ensures) in
     rw (toZ-ofZ w16 (c .student-score .result) (record { sfits = c .student-score .ok })) (c .student-score .ensures ∙ sym (e .studentScore))
 
 pub student-score-of-spec : {M : Type 1} → statement M

@@ -53,17 +53,23 @@ count-requires : tie.Need-count-requires Inv-loop μ-loop
 count-requires c κs = search needs
 
 same-length-2 : tie.Need-same-length-2 Inv-loop μ-loop
-same-length-2 c = c .before .before .before .before .before .before .buf .given .1 ∙ c .before .before .before .before .before .before .before .before .before .before .loop .inv .1
+same-length-2 c =
+    let read = c .before .before .before .before .before .before in
+    read .buf .given .1 ∙ read .before .before .before .before .loop .inv .1
 
 returns-2 : tie.Need-returns-2 Inv-loop μ-loop
 returns-2 c = omega (arith, c .before .before .before .before .before .before .buf .given .1)
 
 -- what was read fits what is left
-left : (c : tie.Else2 Inv-loop μ-loop) → c .before .count .result ≤ length (c .before .before .before .before .before .before .before .before .before .before .before .before .args .buf .now) - c .before .before .before .before .before .before .before .before .before .before .loop .done
+left : (c : tie.Else2 Inv-loop μ-loop) → (let turn = c .before .before .before .before .before .before .before .before .before .before in
+    c .before .count .result ≤ length (turn .before .before .args .buf .now) - turn .loop .done)
 left c =
     let here = c .before .before .before .before .before .before .before .before .before .before .loop in
-    let after = putMid (here .done) (length (here .buf) - here .done) (here .buf) (c .before .before .before .before .before .before .before .read .last .1 .0) in
-    let h : c .before .count .result ≤ length after - here .done = part-bound (c .before .count .result) (length after - here .done) (here .done) after (c .before .count .ensures .0 .0) in
+    let got = c .before .count in
+    let read = c .before .before .before .before .before .before .before .read in
+    let after = putMid (here .done) (length (here .buf) - here .done) (here .buf) (read .last .1 .0) in
+    let h : got .result ≤ length after - here .done =
+    part-bound (got .result) (length after - here .done) (here .done) after (got .ensures .0 .0) in
     omega (arith, c .before .before .before .before .before .before .buf .given .1)
 
 add-done : tie.Need-add-done Inv-loop μ-loop
@@ -73,7 +79,10 @@ loop-less : tie.Need-loop-less Inv-loop μ-loop
 loop-less c = let b = left c in omega arith
 
 loop-again : tie.Need-loop-again Inv-loop μ-loop
-loop-again c = let b = left c in (omega arith, c .before .before .before .before .before .before .buf .given .1 ∙ c .before .before .before .before .before .before .before .before .before .before .loop .inv .1)
+loop-again c =
+    let b = left c in
+    let read = c .before .before .before .before .before .before in
+    (omega arith, read .buf .given .1 ∙ read .before .before .before .before .loop .inv .1)
 
 same-length-3 : tie.Need-same-length-3 Inv-loop μ-loop
 same-length-3 c = c .before .loop .inv .1

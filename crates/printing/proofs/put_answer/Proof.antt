@@ -18,10 +18,15 @@ enum-known-answer : tie.Need-enum-known-answer
 enum-known-answer c = search needs
 
 put-places-requires : tie.Need-put-places-requires
-put-places-requires c κs = (omega arith, (rw (c .before .before .answer .given .1) at (c .before .before .before .before .before .before .before .pre)) .0)
+put-places-requires c κs =
+    let start = c .before .before .before .before .before .before .before in
+    (omega arith, (rw (c .before .before .answer .given .1) at (start .pre)) .0)
 
 put-visits-requires : tie.Need-put-visits-requires
-put-visits-requires c κs = (put-within (c .before .before .before .put-places .ensures), (rw (c .before .before .before .before .before .before .answer .given .1) at (c .before .before .before .before .before .before .before .before .before .before .before .pre)) .1)
+put-visits-requires c κs =
+    let known = c .before .before .before .before .before .before in
+    let start = known .before .before .before .before .before in
+    (put-within (c .before .before .before .put-places .ensures), (rw (known .answer .given .1) at (start .pre)) .1)
 
 enum-known-answer-2 : tie.Need-enum-known-answer-2
 enum-known-answer-2 c = search needs
@@ -33,7 +38,10 @@ put-line2-requires : tie.Need-put-line2-requires
 put-line2-requires c κs = search needs
 
 put-visits-requires-2 : tie.Need-put-visits-requires-2
-put-visits-requires-2 c κs = (put-within (c .before .before .before .put-line2 .ensures .0), rw (c .before .before .before .before .before .before .before .answer2 .given .1) at (c .before .before .before .before .before .before .before .before .before .before .before .before .pre))
+put-visits-requires-2 c κs =
+    let known = c .before .before .before .before .before .before .before in
+    let start = known .before .before .before .before .before in
+    (put-within (c .before .before .before .put-line2 .ensures .0), rw (known .answer2 .given .1) at (start .pre))
 
 enum-known-answer-3 : tie.Need-enum-known-answer-3
 enum-known-answer-3 c = search needs
@@ -46,7 +54,8 @@ put-line2-requires-2 c κs = search needs
 
 -- the text's length, where the first line is short
 short : (c : tie.After-slice-known) → (let a = c .before .before .before .args in
-    FirstLine (a .answer) → length (textOf (a .answer) (a .n) (a .places .now) (a .visits .now)) ≤ 33 * length (a .places .now) + 9 * length (a .visits .now) + 100)
+    FirstLine (a .answer)
+    → length (textOf (a .answer) (a .n) (a .places .now) (a .visits .now)) ≤ 33 * length (a .places .now) + 9 * length (a .visits .now) + 100)
 short c f =
     let a = c .before .before .before .args in
     text-length (a .answer) (a .n) (a .places .now) (a .visits .now) (c .before .before .before .pre) f
@@ -61,8 +70,10 @@ same-length c = search needs
 returns : tie.Need-returns
 unfolding textOf
 returns c =
-    put-both (rw (c .before .before .before .before .before .before .before .before .before .answer .given .1) (put-then (omega arith) (c .before .before .before .before .before .before .put-places .ensures) (c .before .before .put-visits .ensures)))
-    (short (c .before .before .before .before .before .before .before .before .before .before .before) (rw (c .before .before .before .before .before .before .before .before .before .answer .given .1) tt))
+    let known = c .before .before .before .before .before .before .before .before .before in
+    let e = known .answer .given .1 in
+    let put = put-then (omega arith) (c .before .before .before .before .before .before .put-places .ensures) (c .before .before .put-visits .ensures) in
+    put-both (rw e put) (short (known .before .before) (rw e tt))
 
 same-length-2 : tie.Need-same-length-2
 same-length-2 c = search needs
@@ -70,8 +81,11 @@ same-length-2 c = search needs
 returns-2 : tie.Need-returns-2
 unfolding textOf
 returns-2 c =
-    put-both (rw (c .before .before .before .before .before .before .before .before .before .before .answer2 .given .1) (put-then (omega arith) (c .before .before .before .before .before .before .put-line2 .ensures .0) (c .before .before .put-visits2 .ensures)))
-    (short (c .before .before .before .before .before .before .before .before .before .before .before .before) (rw (c .before .before .before .before .before .before .before .before .before .before .answer2 .given .1) (c .before .before .before .before .before .before .put-line2 .ensures .1)))
+    let known = c .before .before .before .before .before .before .before .before .before .before in
+    let e = known .answer2 .given .1 in
+    let first = c .before .before .before .before .before .before .put-line2 .ensures in
+    let put = put-then (omega arith) (first .0) (c .before .before .put-visits2 .ensures) in
+    put-both (rw e put) (short (known .before .before) (rw e (first .1)))
 
 same-length-3 : tie.Need-same-length-3
 same-length-3 c = search needs
@@ -79,8 +93,10 @@ same-length-3 c = search needs
 returns-3 : tie.Need-returns-3
 unfolding textOf
 returns-3 c =
-    put-both (rw (c .before .before .before .before .before .before .answer3 .given .1) (c .before .before .put-line22 .ensures .0))
-    (short (c .before .before .before .before .before .before .before .before) (rw (c .before .before .before .before .before .before .answer3 .given .1) (c .before .before .put-line22 .ensures .1)))
+    let known = c .before .before .before .before .before .before in
+    let e = known .answer3 .given .1 in
+    let put = c .before .before .put-line22 .ensures in
+    put-both (rw e (put .0)) (short (known .before .before) (rw e (put .1)))
 
 pub put-answer-spec : {M : Type 1} → statement M
 put-answer-spec =

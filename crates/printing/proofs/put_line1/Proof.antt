@@ -24,8 +24,10 @@ same-length c = search needs
 
 returns : tie.Need-returns
 returns c =
-    let a = c .before .before .before .before .before .before .before .before .before .before .before .before .before .before .args in
-    rw (line-one (a .word .now) (a .n)) at (put-then (c .before .before .before .before .before .before .before .before .before .before .before .before .before .before .pre) (put-then (c .before .before .before .before .before .before .before .before .before .before .before .before .before .before .pre) (c .before .before .before .before .before .before .before .before .before .before .put-word .ensures) (c .before .before .before .before .before .before .put-number .ensures)) (c .before .before .put-byte .ensures))
+    let after-word = c .before .before .before .before .before .before .before .before .before .before in
+    let start = after-word .before .before .before .before in
+    let numbered = put-then (start .pre) (after-word .put-word .ensures) (c .before .before .before .before .before .before .put-number .ensures) in
+    rw (line-one (start .args .word .now) (start .args .n)) at (put-then (start .pre) numbered (c .before .before .put-byte .ensures))
 
 pub put-line1-spec : {M : Type 1} → statement M
 put-line1-spec =

@@ -29,10 +29,15 @@ same-length c = search needs
 
 returns : tie.Need-returns
 returns c =
-    let s = c .before .before .before .before .before .before .before .before .before .before .before .before .before .before .before .before .before .before in
-    let first = put-then (s .pre) (c .before .before .before .before .before .before .before .before .before .before .before .before .before .before .put-word .ensures) (c .before .before .before .before .before .before .before .before .before .before .put-number .ensures) in
-    let second = put-then (s .pre) first (c .before .before .before .before .before .before .put-number2 .ensures) in
-    (rw (line-two (s .args .word .now) (s .args .a) (s .args .b)) at (put-then (s .pre) second (c .before .before .put-byte .ensures)), long-line (s .args .word .now) (s .args .a) (s .args .b) (omega arith) (omega arith))
+    let after-word = c .before .before .before .before .before .before .before .before .before .before .before .before .before .before in
+    let after-first = c .before .before .before .before .before .before .before .before .before .before in
+    let start = after-word .before .before .before .before in
+    let a = start .args in
+    let first = put-then (start .pre) (after-word .put-word .ensures) (after-first .put-number .ensures) in
+    let second = put-then (start .pre) first (c .before .before .before .before .before .before .put-number2 .ensures) in (
+      rw (line-two (a .word .now) (a .a) (a .b)) at (put-then (start .pre) second (c .before .before .put-byte .ensures)),
+      long-line (a .word .now) (a .a) (a .b) (omega arith) (omega arith),
+    )
 
 pub put-line2-spec : {M : Type 1} → statement M
 put-line2-spec =

@@ -6,11 +6,10 @@ use native.Mathlib.Omega.{arith}
 use native.Mathlib.Numerals.{add-one}
 use borrow.Author.Needs.{needs}
 use lib.ListN.{length, getD, take}
-use Rattle.format.specs.Printed.{lineOf, placeWord, visitWord, placeLines, visitLines}
-use Rattle.api.specs.Text.{interviewsAt}
+use Rattle.format.specs.Printed.{lineOf, placeWord, placeLines}
 use Rattle.printing.specs.Text.{Put}
 use Rattle.printing.proofs.Laws.{put-none, put-then, put-within, put-length}
-use Rattle.printing.proofs.Lines.{places-on, places-none, visits-on, visits-none, visits-text}
+use Rattle.printing.proofs.Lines.{places-on, places-none}
 use Rattle.printing.proofs.put_places.Statement.{statement}
 use Rattle.printing.proofs.put_places.Tie as tie
 use Rattle.printing.proofs.put_places.Reads as reads
@@ -56,7 +55,9 @@ loop-again c =
     let here = c .before .before .before .before .before .before .before .before .loop in
     let start = c .before .before .before .before .before .before .before .before .before .before .before in
     let l = start .args .places .now in
-    let line : Put (lineOf placeWord ((here .i + 1) ∷ getD l (here .i) 0 ∷ [])) (here .end) (here .out) (c .before .before .put-line2 .last .0) (c .before .before .put-line2 .result) = rw (c .before .before .before .wide .ensures) at (c .before .before .put-line2 .ensures .0) in
+    let put = c .before .before .put-line2 in
+    let line : Put (lineOf placeWord ((here .i + 1) ∷ getD l (here .i) 0 ∷ [])) (here .end) (here .out) (put .last .0) (put .result) =
+    rw (c .before .before .before .wide .ensures) at (put .ensures .0) in
     (omega arith, rw (add-one (here .i), places-on l 1 (here .i) (omega arith)) (put-then (start .pre .0) (here .inv .1) line))
 
 same-length : tie.Need-same-length Inv-loop μ-loop

@@ -1,117 +1,39 @@
--- `printing::put_visits` meets its contract. The invariant: the lines of the first i interviews are put after the line with the count.
-use Prim.Native.Nat.{ℕ, _+_, _*_, _≤_, _-_}
-use mathlib.Core.Path.{_≡_, refl, ap, sym, _∙_}
-use mathlib.Core.List.{List, [], _∷_, _++_}
-use native.Mathlib.Omega.{arith}
-use native.Mathlib.Numerals.{add-one}
+-- `printing::put_visits` meets its contract: the line with the count, and then the lines of the interviews.
+use Rattle.printing.proofs.Laws.{put-then}
+use Rattle.printing.proofs.Lines.{visits-text}
 use borrow.Author.Needs.{needs}
-use lib.ListN.{length, getD, take}
-use Rattle.format.specs.Printed.{lineOf, placeWord, visitWord, placeLines, visitLines}
-use Rattle.api.specs.Text.{interviewsAt}
-use Rattle.printing.specs.Text.{Put}
-use Rattle.printing.proofs.Laws.{put-none, put-then, put-within, put-length}
-use Rattle.printing.proofs.Lines.{places-on, places-none, visits-on, visits-none, visits-text}
 use Rattle.printing.proofs.put_visits.Statement.{statement}
 use Rattle.printing.proofs.put_visits.Tie as tie
 use Rattle.printing.proofs.put_visits.Reads as reads
 use Rattle.printing.proofs.put_visits.Lts as lts
 use Rattle.printing.proofs.put_line1.Reads as put-line1-reads
-use Rattle.printing.proofs.put_line2.Reads as put-line2-reads
-use Rattle.printing.proofs.wide.Reads as wide-reads
+use Rattle.printing.proofs.put_visit_lines.Reads as put-visit-lines-reads
 
-abbrev Inv-loop : tie.InvT-loop
-Inv-loop out₀ at visits count end₀ i₀ t8 out end i = (i ≤ count) × Put (visitLines (interviewsAt i visits)) end₀ out₀ out end
-
-abbrev μ-loop : tie.MeasureT-loop
-μ-loop out₀ at visits count end₀ i₀ t8 out end i = count - i
-
-slice-aggregate-put-line1 : tie.Need-slice-aggregate-put-line1 Inv-loop μ-loop
+slice-aggregate-put-line1 : tie.Need-slice-aggregate-put-line1
 slice-aggregate-put-line1 c = search needs
 
-put-line1-requires : tie.Need-put-line1-requires Inv-loop μ-loop
+put-line1-requires : tie.Need-put-line1-requires
 put-line1-requires c κs = search needs
 
-loop-holds : tie.Need-loop-holds Inv-loop μ-loop
-loop-holds c = (omega arith, rw (visits-none (c .before .before .before .before .before .before .before .args .visits .now)) (put-none _ _ (put-within (c .before .before .put-line1 .ensures))))
+put-visit-lines-requires : tie.Need-put-visit-lines-requires
+put-visit-lines-requires c κs = search needs
 
-slice-aggregate-put-line2 : tie.Need-slice-aggregate-put-line2 Inv-loop μ-loop
-slice-aggregate-put-line2 c = search needs
+same-length : tie.Need-same-length
+same-length c = search needs
 
-mul-wide : tie.Need-mul-wide Inv-loop μ-loop
-mul-wide c = search needs
-
-mul-wide-2 : tie.Need-mul-wide-2 Inv-loop μ-loop
-mul-wide-2 c = search needs
-
-shared-slice-read-wide : tie.Need-shared-slice-read-wide Inv-loop μ-loop
-shared-slice-read-wide c = omega arith
-
-wide-requires : tie.Need-wide-requires Inv-loop μ-loop
-wide-requires c κs = search needs
-
-mul-wide-3 : tie.Need-mul-wide-3 Inv-loop μ-loop
-mul-wide-3 c = search needs
-
-add-wide : tie.Need-add-wide Inv-loop μ-loop
-add-wide c = search needs
-
-mul-wide-4 : tie.Need-mul-wide-4 Inv-loop μ-loop
-mul-wide-4 c = search needs
-
-shared-slice-read-wide-2 : tie.Need-shared-slice-read-wide-2 Inv-loop μ-loop
-shared-slice-read-wide-2 c = omega arith
-
-wide-requires-2 : tie.Need-wide-requires-2 Inv-loop μ-loop
-wide-requires-2 c κs = search needs
-
-put-line2-requires : tie.Need-put-line2-requires Inv-loop μ-loop
-put-line2-requires c κs = put-within (c .before .before .before .before .before .before .before .loop .inv .1)
-
-add-i : tie.Need-add-i Inv-loop μ-loop
-add-i c = omega arith
-
-loop-less : tie.Need-loop-less Inv-loop μ-loop
-loop-less c = omega arith
-
-loop-again : tie.Need-loop-again Inv-loop μ-loop
-loop-again c =
-    let here = c .before .before .before .before .before .before .before .before .before .before .loop in
-    let start = c .before .before .before .before .before .before .before .before .before .before .before .before .before .before .before .before .before .before in
-    let l = start .args .visits .now in
-    let line : Put (lineOf visitWord (getD l (2 * here .i) 0 ∷ getD l (2 * here .i + 1) 0 ∷ [])) (here .end) (here .out) (c .before .before .put-line2 .last .0) (c .before .before .put-line2 .result) = rw (c .before .before .before .before .before .wide .ensures, c .before .before .before .wide2 .ensures) at (c .before .before .put-line2 .ensures .0) in
-    (omega arith, rw (add-one (here .i), visits-on l (here .i)) (put-then (put-within (c .before .before .before .before .before .before .before .before .before .before .before .before .before .put-line1 .ensures)) (here .inv .1) line))
-
-same-length : tie.Need-same-length Inv-loop μ-loop
-same-length c = put-length (c .before .loop .inv .1) ∙ put-length (c .before .before .before .before .put-line1 .ensures)
-
-returns : tie.Need-returns Inv-loop μ-loop
+returns : tie.Need-returns
 returns c =
-    let start = c .before .before .before .before .before .before .before .before .before in
-    let e : c .before .loop .i ≡ start .args .count = omega arith in
-    rw (visits-text (start .args .visits .now) (start .args .count)) at (put-then (start .pre .0) (c .before .before .before .before .put-line1 .ensures) (rw e at (c .before .loop .inv .1)))
+    let after-count = c .before .before .before .before .before .before in
+    let start = after-count .before .before .before .before .before in
+    let both = put-then (start .pre .0) (after-count .put-line1 .ensures) (c .before .before .put-visit-lines .ensures) in
+    rw (visits-text (start .args .visits .now) (start .args .count)) at both
 
 pub put-visits-spec : {M : Type 1} → statement M
 put-visits-spec =
     tie.close
     (tie.spec
-    Inv-loop
-    μ-loop
     slice-aggregate-put-line1
     put-line1-requires
-    loop-holds
-    slice-aggregate-put-line2
-    mul-wide
-    mul-wide-2
-    shared-slice-read-wide
-    wide-requires
-    mul-wide-3
-    add-wide
-    mul-wide-4
-    shared-slice-read-wide-2
-    wide-requires-2
-    put-line2-requires
-    add-i
-    loop-less
-    loop-again
+    put-visit-lines-requires
     same-length
     returns)

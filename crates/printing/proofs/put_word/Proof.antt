@@ -40,7 +40,8 @@ loop-again c =
     let here = c .before .before .before .before .before .before .loop in
     let start = c .before .before .before .before .before .before .before .before .before in
     let word = start .args .word .now in
-    (omega arith, rw (add-one (here .i), take-suc word (here .i) 0 (omega arith)) (put-then (start .pre) (here .inv .1) (c .before .before .put-byte .ensures)))
+    let more = put-then (start .pre) (here .inv .1) (c .before .before .put-byte .ensures) in
+    (omega arith, rw (add-one (here .i), take-suc word (here .i) 0 (omega arith)) more)
 
 same-length : tie.Need-same-length Inv-loop μ-loop
 same-length c = put-length (c .before .loop .inv .1)

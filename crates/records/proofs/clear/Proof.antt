@@ -32,7 +32,8 @@ loop-less : tie.Need-loop-less Inv-loop μ-loop
 loop-less c = omega arith
 
 loop-again : tie.Need-loop-again Inv-loop μ-loop
-loop-again c = let d = c .before .before .args .s .now in let here = c .before .loop in (omega arith, simp length-set (here .inv .1), rw (here .inv .2) (fill-more (here .k) 0 d (omega arith)))
+loop-again c = let d = c .before .before .args .s .now in let here = c .before .loop in
+    (omega arith, simp length-set (here .inv .1), rw (here .inv .2) (fill-more (here .k) 0 d (omega arith)))
 
 same-length : tie.Need-same-length Inv-loop μ-loop
 same-length c = c .before .loop .inv .1

@@ -32,7 +32,11 @@ score-at-requires-2 c κs = search needs
 
 returns : tie.Need-returns
 unfolding entryAt
-returns c = rw (toZ-ofZ w16 (c .score-at2 .result) (record { sfits = c .score-at2 .ok }), toZ-ofZ w16 (c .before .score-at .result) (record { sfits = c .before .score-at .ok })) cc
+returns c = rw (
+  toZ-ofZ w16 (c .score-at2 .result) (record { sfits = c .score-at2 .ok }),
+  toZ-ofZ w16 (c .before .score-at .result)
+      (record { sfits = c .before .score-at .ok }),
+) cc
 
 pub entry-at-spec : {M : Type 1} → statement M
 entry-at-spec =

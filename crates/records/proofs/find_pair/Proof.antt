@@ -77,7 +77,8 @@ returns c =
     let k = c .before .before .before .before .before .before .before .before .key-of in
     let here = c .before .before .before .before .loop in
     let known = c .before .before .before .before .before .before .before .before .before .shared-slice-known in
-    found (a .case .now) (a .s) (a .w) (k .result) (λ i. omega (arith, known .given i)) (omega arith) (k .ensures) (here .lo) (here .hi) (here .inv) (omega arith) (omega (arith, c .before .key-at2 .ensures))
+    found (a .case .now) (a .s) (a .w) (k .result) (λ i. omega (arith, known .given i)) (omega arith) (k .ensures) (here .lo) (here .hi) (here .inv)
+    (omega arith) (omega (arith, c .before .key-at2 .ensures))
 
 returns-2 : tie.Need-returns-2 Inv-loop μ-loop
 returns-2 c =
@@ -86,7 +87,8 @@ returns-2 c =
     let k = c .before .before .before .before .before .before .before .before .key-of in
     let here = c .before .before .before .before .loop in
     let known = c .before .before .before .before .before .before .before .before .before .shared-slice-known in
-    start .pre .0 ∙ missing (a .case .now) (a .s) (a .w) (k .result) (λ i. omega (arith, known .given i)) (omega arith) (k .ensures) (here .lo) (here .hi) (here .inv) (start .pre .1 .0) (omega arith) (λ l q. c .if3 .left (c .before .key-at2 .ensures ∙ q))
+    start .pre .0 ∙ missing (a .case .now) (a .s) (a .w) (k .result) (λ i. omega (arith, known .given i)) (omega arith) (k .ensures) (here .lo)
+    (here .hi) (here .inv) (start .pre .1 .0) (omega arith) (λ l q. c .if3 .left (c .before .key-at2 .ensures ∙ q))
 
 returns-3 : tie.Need-returns-3 Inv-loop μ-loop
 returns-3 c =
@@ -95,7 +97,8 @@ returns-3 c =
     let k = c .before .before .before .before .before .before .key-of in
     let here = c .before .before .loop in
     let known = c .before .before .before .before .before .before .before .shared-slice-known in
-    start .pre .0 ∙ missing (a .case .now) (a .s) (a .w) (k .result) (λ i. omega (arith, known .given i)) (omega arith) (k .ensures) (here .lo) (here .hi) (here .inv) (start .pre .1 .0) (omega arith) (λ l q. omega arith)
+    start .pre .0 ∙ missing (a .case .now) (a .s) (a .w) (k .result) (λ i. omega (arith, known .given i)) (omega arith) (k .ensures) (here .lo)
+    (here .hi) (here .inv) (start .pre .1 .0) (omega arith) (λ l q. omega arith)
 
 pub find-pair-spec : {M : Type 1} → statement M
 find-pair-spec =

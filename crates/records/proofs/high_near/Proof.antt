@@ -23,8 +23,11 @@ returns-2 c = search needs
 returns-3 : tie.Need-returns-3
 returns-3 c =
     let start = c .before .before .before .before in
-    let a = start .args in
-    (omega (arith, start .pre .0), λ k l m. omega (arith, climb (keysOf (a .case .now)) (rowCount (a .case .now)) (start .pre .1 .0) (a .guess + 64) k l m, c .before .key-at .ensures, c .if2 .left))
+    let a = start .args in (
+      omega (arith, start .pre .0),
+      λ k l m. omega
+          (arith, climb (keysOf (a .case .now)) (rowCount (a .case .now)) (start .pre .1 .0) (a .guess + 64) k l m, c .before .key-at .ensures, c .if2 .left),
+    )
 
 pub high-near-spec : {M : Type 1} → statement M
 high-near-spec = tie.close (tie.spec add-end returns key-at-requires returns-2 returns-3)

@@ -24,7 +24,12 @@ returns : tie.Need-returns
 unfolding pairKey
 returns c =
     let a = c .before .before .before .before .before .before .args in
-    rw (eq-eqb (rowAt (a .case .now) (a .i) .kind) 3 (sym (c .before .before .before .before .kind-at .ensures) ∙ c .before .before .before .if1 .taken), c .key-of .ensures, add-one) cc
+    rw (
+      eq-eqb (rowAt (a .case .now) (a .i) .kind) 3
+          (sym (c .before .before .before .before .kind-at .ensures) ∙ c .before .before .before .if1 .taken),
+      c .key-of .ensures,
+      add-one,
+    ) cc
 
 returns-2 : tie.Need-returns-2
 unfolding pairKey

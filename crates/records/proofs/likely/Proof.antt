@@ -22,7 +22,8 @@ returns-3 : tie.Need-returns-3
 returns-3 c = search needs
 
 -- the pair's number
-number : (c : tie.Else3) → c .before .before .before .args .s * c .before .before .before .args .workshops + c .before .before .before .args .w ≤ 65535 * 64 + 65535
+number : (c : tie.Else3) → c .before .before .before .args .s * c .before .before .before .args .workshops + c .before .before .before .args .w ≤
+    65535 * 64 + 65535
 number c =
     let start = c .before .before .before in
     let few : start .args .s ≤ 65535 = omega (arith, start .pre .2) in
@@ -30,7 +31,8 @@ number c =
 
 -- as many times as there are pair records
 product : (c : tie.Else3)
-    → (c .before .before .before .args .rows - (c .before .before .before .args .students + c .before .before .before .args .workshops)) * (c .before .before .before .args .s * c .before .before .before .args .workshops + c .before .before .before .args .w) ≤ 65535 * (65535 * 64 + 65535)
+    → (c .before .before .before .args .rows - (c .before .before .before .args .students + c .before .before .before .args .workshops)) *
+    (c .before .before .before .args .s * c .before .before .before .args .workshops + c .before .before .before .args .w) ≤ 65535 * (65535 * 64 + 65535)
 product c = mul-le-mul {n₂ = 65535} {m₂ = 65535 * 64 + 65535} (omega (arith, c .before .if2 .left)) (number c)
 
 mul-result : tie.Need-mul-result
@@ -48,12 +50,24 @@ div-result c = omega (arith, c .if3 .left)
 add-result-2 : tie.Need-add-result-2
 add-result-2 c =
     let a = c .before .before .before .args in
-    omega (arith, product c, div-le-self ((a .rows - (a .students + a .workshops)) * (a .s * a .workshops + a .w)) (a .students * a .workshops), c .before .before .before .pre)
+    omega (
+      arith,
+      product c,
+      div-le-self ((a .rows - (a .students + a .workshops)) * (a .s * a .workshops + a .w))
+          (a .students * a .workshops),
+      c .before .before .before .pre,
+    )
 
 returns-4 : tie.Need-returns-4
 returns-4 c =
     let a = c .before .before .before .args in
-    omega (arith, product c, div-le-self ((a .rows - (a .students + a .workshops)) * (a .s * a .workshops + a .w)) (a .students * a .workshops), c .before .before .before .pre)
+    omega (
+      arith,
+      product c,
+      div-le-self ((a .rows - (a .students + a .workshops)) * (a .s * a .workshops + a .w))
+          (a .students * a .workshops),
+      c .before .before .before .pre,
+    )
 
 pub likely-spec : {M : Type 1} → statement M
 likely-spec =

@@ -23,8 +23,16 @@ sub-result c = search needs
 returns-3 : tie.Need-returns-3
 returns-3 c =
     let start = c .before .before .before .before .before in
-    let a = start .args in
-    (omega (arith, start .pre .0), λ k l. omega (arith, climb (keysOf (a .case .now)) (rowCount (a .case .now)) (start .pre .1) k (a .guess - 192) (omega arith) (omega (arith, start .pre .0)), c .before .key-at .ensures, c .if3 .taken))
+    let a = start .args in (
+      omega (arith, start .pre .0),
+      λ k l. omega (
+        arith,
+        climb (keysOf (a .case .now)) (rowCount (a .case .now)) (start .pre .1) k (a .guess - 192) (omega arith)
+            (omega (arith, start .pre .0)),
+        c .before .key-at .ensures,
+        c .if3 .taken,
+      ),
+    )
 
 returns-4 : tie.Need-returns-4
 returns-4 c = search needs

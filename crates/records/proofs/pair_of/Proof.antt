@@ -14,18 +14,25 @@ is-known-requires : tie.Need-is-known-requires
 is-known-requires c κs = search needs
 
 mul-result : tie.Need-mul-result
-mul-result c = let start = c .before .before .before .before in let h = mul-le-mul-left (start .args .s) (start .pre .1 .manyWorkshops) in omega (arith, start .pre .1)
+mul-result c = let start = c .before .before .before .before in let h = mul-le-mul-left (start .args .s) (start .pre .1 .manyWorkshops) in omega
+    (arith, start .pre .1)
 
 add-result : tie.Need-add-result
-add-result c = let start = c .before .before .before .before in let h = mul-le-mul-left (start .args .s) (start .pre .1 .manyWorkshops) in omega (arith, start .pre .1)
+add-result c = let start = c .before .before .before .before in let h = mul-le-mul-left (start .args .s) (start .pre .1 .manyWorkshops) in omega
+    (arith, start .pre .1)
 
 add-result-2 : tie.Need-add-result-2
-add-result-2 c = let start = c .before .before .before .before in let h = mul-le-mul-left (start .args .s) (start .pre .1 .manyWorkshops) in omega (arith, start .pre .1)
+add-result-2 c = let start = c .before .before .before .before in let h = mul-le-mul-left (start .args .s) (start .pre .1 .manyWorkshops) in omega
+    (arith, start .pre .1)
 
 sub-result : tie.Need-sub-result
 sub-result c =
     let a = c .before .before .before .before .args in
-    omega (arith, known-workshop (c .before .before .row-count .result) (a .students) (a .workshops) (a .s) (a .w) (sym (c .before .is-known .ensures) ∙ c .if1 .taken))
+    omega (
+      arith,
+      known-workshop (c .before .before .row-count .result) (a .students) (a .workshops) (a .s) (a .w)
+          (sym (c .before .is-known .ensures) ∙ c .if1 .taken),
+    )
 
 returns : tie.Need-returns
 returns c =

@@ -14,7 +14,8 @@ above-requires c κs = search needs
 returns : tie.Need-returns
 returns c =
     let a = c .before .args in
-    let e : c .above .result ≡ ltb (biased (a .b)) (biased (a .a)) = c .above .ensures ∙ rw (toZ-ofZ w16 (a .a) (c .before .fits .a), toZ-ofZ w16 (a .b) (c .before .fits .b)) in
+    let e : c .above .result ≡ ltb (biased (a .b)) (biased (a .a)) = c .above .ensures ∙ rw
+    (toZ-ofZ w16 (a .a) (c .before .fits .a), toZ-ofZ w16 (a .b) (c .before .fits .b)) in
     rw e
 
 pub ranks-before-spec : {M : Type 1} → statement M

@@ -14,22 +14,27 @@ use Rattle.seating.proofs.seat.Tie as tie
 
 abbrev Inv-loop : tie.InvT-loop
 Inv-loop part₀ case book index students workshops w x hand₀ tier₀ score₀ i₀ part hand tier score i =
-    Pushing (marketIn case) (resultsIn book) w x part₀ part i hand × Booked (marketIn case) (resultsIn book) hand w × Stands (marketIn case) (resultsIn book) w hand tier (toZ w16 score)
+    Pushing (marketIn case) (resultsIn book) w x part₀ part i hand × Booked (marketIn case) (resultsIn book) hand w × Stands (marketIn case)
+    (resultsIn book) w hand tier (toZ w16 score)
 
 abbrev μ-loop : tie.MeasureT-loop
 μ-loop part₀ case book index students workshops w x hand₀ tier₀ score₀ i₀ part hand tier score i = length part₀ - i
 
 -- who has the seat has been interviewed, and stands as has been looked up
-seated : (c : tie.Else1 Inv-loop μ-loop) → (let a = c .before .before .before .before .before .before .before .before .before .before .args in let here = c .before .before .before .loop in Booked (marketIn (a .case .now)) (resultsIn (a .book .now)) (getD (here .part) (here .i) 0) (a .w))
+seated : (c : tie.Else1 Inv-loop μ-loop) → (let a = c .before .before .before .before .before .before .before .before .before .before .args in
+    let here = c .before .before .before .loop in Booked (marketIn (a .case .now)) (resultsIn (a .book .now)) (getD (here .part) (here .i) 0) (a .w))
 seated c =
     let here = c .before .before .before .loop in
     let start = c .before .before .before .before .before .before .before .before .before .before in
     let a = start .args in
     let M = marketIn (a .case .now) in
     let B = resultsIn (a .book .now) in
-    known-there M B (a .w) (a .x) (a .part .now) (here .part) (here .i) (here .hand) (here .inv .0) (omega arith) (λ (y : ℕ). Booked M B y (a .w)) (start .pre .1 .1) (c .if1 .left)
+    known-there M B (a .w) (a .x) (a .part .now) (here .part) (here .i) (here .hand) (here .inv .0) (omega arith) (λ (y : ℕ). Booked M B y (a .w))
+    (start .pre .1 .1) (c .if1 .left)
 
-stands : (c : tie.After-struct-told2 Inv-loop μ-loop) → (let a = c .before .before .before .before .before .before .before .before .before .before .before .before .args in let here = c .before .before .before .before .before .loop in let y = c .before .standing-of2 .result in Stands (marketIn (a .case .now)) (resultsIn (a .book .now)) (a .w) (getD (here .part) (here .i) 0) (y .tier) (toZ w16 (ofZ w16 (y .score))))
+stands : (c : tie.After-struct-told2 Inv-loop μ-loop) → (let a = c .before .before .before .before .before .before .before .before .before .before
+    .before .before .args in let here = c .before .before .before .before .before .loop in let y = c .before .standing-of2 .result in Stands
+    (marketIn (a .case .now)) (resultsIn (a .book .now)) (a .w) (getD (here .part) (here .i) 0) (y .tier) (toZ w16 (ofZ w16 (y .score))))
 stands c =
     let y = c .before .standing-of2 in
     record { tier = y .ensures .0; score = rw (toZ-ofZ w16 (y .result .score) (record { sfits = c .struct-told2 .given .1 .0 .1 })) (y .ensures .1) }
@@ -100,7 +105,8 @@ loop-again c =
     let B = resultsIn (a .book .now) in
     let y = stands (c .before .before .before) in
     let before = before-by M B (a .w) (here .hand) (getD (here .part) (here .i) 0) _ _ _ _ (here .inv .2) y _ (c .before .before .ranks-before .ensures) in (
-      push-before M B (a .w) (a .x) (a .part .now) (here .part) (here .i) (here .hand) (here .inv .0) (omega arith) (c .before .before .before .before .before .if1 .left) (before ∙ c .before .if2 .taken),
+      push-before M B (a .w) (a .x) (a .part .now) (here .part) (here .i) (here .hand) (here .inv .0) (omega arith)
+          (c .before .before .before .before .before .if1 .left) (before ∙ c .before .if2 .taken),
       seated (c .before .before .before .before .before),
       y,
     )
@@ -117,8 +123,10 @@ loop-again-2 c =
     let a = c .before .before .before .before .before .before .before .before .before .before .before .before .before .before .args in
     let M = marketIn (a .case .now) in
     let B = resultsIn (a .book .now) in
-    let before = before-by M B (a .w) (here .hand) (getD (here .part) (here .i) 0) _ _ _ _ (here .inv .2) (stands (c .before .before)) _ (c .before .ranks-before .ensures) in (
-      push-after M B (a .w) (a .x) (a .part .now) (here .part) (here .i) (here .hand) (here .inv .0) (omega arith) (c .before .before .before .before .if1 .left) (before ∙ c .if2 .left),
+    let before = before-by M B (a .w) (here .hand) (getD (here .part) (here .i) 0) _ _ _ _ (here .inv .2) (stands (c .before .before)) _
+    (c .before .ranks-before .ensures) in (
+      push-after M B (a .w) (a .x) (a .part .now) (here .part) (here .i) (here .hand) (here .inv .0) (omega arith)
+          (c .before .before .before .before .if1 .left) (before ∙ c .if2 .left),
       here .inv .1,
       here .inv .2,
     )

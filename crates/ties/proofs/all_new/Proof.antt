@@ -16,7 +16,8 @@ use Rattle.ties.proofs.all_new.Tie as tie
 abbrev Inv-loop : tie.InvT-loop
 Inv-loop case book index from student start step others seen₀ p₀ k₀ seen p k =
     ((k ≤ others) × (length seen ≡ 256) × (p ≡ start + k * step))
-    × ((x : ℕ) → StandFrom student case x others start step → Marked (λ j. keyOf student case book x (suc j)) seen k × Differ (λ j. keyOf student case book x (suc j)) k)
+    × ((x : ℕ) → StandFrom student case x others start step → Marked (λ j. keyOf student case book x (suc j)) seen k × Differ
+    (λ j. keyOf student case book x (suc j)) k)
 
 abbrev μ-loop : tie.MeasureT-loop
 μ-loop case book index from student start step others seen₀ p₀ k₀ seen p k = others - k
@@ -26,7 +27,11 @@ loop-holds c =
     let start = c .before .before .before .before in
     let a = start .args in (
       (omega arith, start .pre .1 .0 .3, omega arith),
-      λ x s. (marked-none (λ j. keyOf (a .student) (a .case .now) (a .book .now) x (suc j)) (a .seen .now), differ-none (λ j. keyOf (a .student) (a .case .now) (a .book .now) x (suc j))),
+      λ x s. (
+        marked-none (λ j. keyOf (a .student) (a .case .now) (a .book .now) x (suc j)) (a .seen .now),
+        differ-none
+            (λ j. keyOf (a .student) (a .case .now) (a .book .now) x (suc j)),
+      ),
     )
 
 add-interview-at : tie.Need-add-interview-at Inv-loop μ-loop
@@ -37,8 +42,11 @@ cast-interview-at c = omega arith
 
 -- the pair of interview k stands at p
 stands : (c : tie.In-loop Inv-loop μ-loop) (x : ℕ)
-    → StandFrom (c .before .before .before .before .before .before .args .student) (c .before .before .before .before .before .before .args .case .now) x (c .before .before .before .before .before .before .args .others) (c .before .before .before .before .before .before .args .start) (c .before .before .before .before .before .before .args .step)
-    → StandsAt (c .before .before .before .before .before .before .args .student) (c .before .before .before .before .before .before .args .case .now) x (c .before .loop .k + 1) (c .before .loop .p)
+    → StandFrom (c .before .before .before .before .before .before .args .student)
+    (c .before .before .before .before .before .before .args .case .now) x (c .before .before .before .before .before .before .args .others)
+    (c .before .before .before .before .before .before .args .start) (c .before .before .before .before .before .before .args .step)
+    → StandsAt (c .before .before .before .before .before .before .args .student)
+    (c .before .before .before .before .before .before .args .case .now) x (c .before .loop .k + 1) (c .before .loop .p)
 stands c x s = rw (add-one (c .before .loop .k), c .before .loop .inv .0 .2) (s (c .before .loop .k) (omega arith))
 
 interview-at-requires : tie.Need-interview-at-requires Inv-loop μ-loop
@@ -53,7 +61,8 @@ met-requires : tie.Need-met-requires Inv-loop μ-loop
 met-requires c κs = omega (arith, c .slot-of .ensures, c .before .before .before .before .loop .inv .0 .1)
 
 same-length : tie.Need-same-length Inv-loop μ-loop
-same-length c = c .before .before .before .met .kept .0 ∙ c .before .before .before .before .before .before .before .before .loop .inv .0 .1 ∙ sym (c .before .before .before .before .before .before .before .before .before .before .before .before .before .pre .1 .0 .3)
+same-length c = c .before .before .before .met .kept .0 ∙ c .before .before .before .before .before .before .before .before .loop .inv .0 .1 ∙ sym
+    (c .before .before .before .before .before .before .before .before .before .before .before .before .before .pre .1 .0 .3)
 
 returns : tie.Need-returns Inv-loop μ-loop
 returns c = λ e. never refl (sym e)
@@ -80,11 +89,16 @@ loop-again c =
       (omega arith, known .kept .0 ∙ here .inv .0 .1, omega (arith, here .inv .0 .2, suc-mul (here .k) (a .step), ap (λ i. i * a .step) (add-one (here .k)))),
       λ x s.
           let old = here .inv .1 x s in
-          let v = c .before .before .before .before .before .before .interview-at .ensures x (stands (c .before .before .before .before .before .before .before) x s) .1 in
-          let e : c .before .before .before .before .slot-of .result ≡ slotOf (keyOf (a .student) (a .case .now) (a .book .now) x (suc (here .k))) = c .before .before .before .before .slot-of .ensures ∙ ap slotOf (v ∙ ap (keyOf (a .student) (a .case .now) (a .book .now) x) (add-one (here .k))) in
-          let m : Met (here .seen) (known .last .0) (slotOf (keyOf (a .student) (a .case .now) (a .book .now) x (suc (here .k)))) false = rw (e, c .if1 .left) at (known .ensures) in (
+          let v = c .before .before .before .before .before .before .interview-at .ensures x
+          (stands (c .before .before .before .before .before .before .before) x s) .1 in
+          let e : c .before .before .before .before .slot-of .result ≡ slotOf
+          (keyOf (a .student) (a .case .now) (a .book .now) x (suc (here .k))) = c .before .before .before .before .slot-of .ensures ∙ ap slotOf
+          (v ∙ ap (keyOf (a .student) (a .case .now) (a .book .now) x) (add-one (here .k))) in
+          let m : Met (here .seen) (known .last .0) (slotOf (keyOf (a .student) (a .case .now) (a .book .now) x (suc (here .k)))) false = rw
+          (e, c .if1 .left) at (known .ensures) in (
             marked-on (λ j. keyOf (a .student) (a .case .now) (a .book .now) x (suc j)) (here .seen) _ (here .k) (old .0) false m,
-            differ-on (λ j. keyOf (a .student) (a .case .now) (a .book .now) x (suc j)) (here .k) (old .1) (unmet-new (λ j. keyOf (a .student) (a .case .now) (a .book .now) x (suc j)) (here .seen) _ (here .k) (old .0) m),
+            differ-on (λ j. keyOf (a .student) (a .case .now) (a .book .now) x (suc j)) (here .k) (old .1)
+                (unmet-new (λ j. keyOf (a .student) (a .case .now) (a .book .now) x (suc j)) (here .seen) _ (here .k) (old .0) m),
           ),
     )
 

@@ -17,7 +17,12 @@ entry-count-requires c κs = search needs
 add-from : tie.Need-add-from
 add-from c =
     let case = c .before .before .before .before .args .case .now in
-    omega (arith, few case (marketIn case .students) (marketIn case .workshops) (c .before .before .before .before .pre .0 .sound), c .before .before .before .before .pre .1)
+    omega (
+      arith,
+      few case (marketIn case .students) (marketIn case .workshops)
+          (c .before .before .before .before .pre .0 .sound),
+      c .before .before .before .before .pre .1,
+    )
 
 add-ties-on : tie.Need-add-ties-on
 add-ties-on c = search needs
@@ -30,22 +35,32 @@ ties-on-requires-2 c κs = search needs
 
 -- the students' side, and then the workshops'
 students : (c : tie.After-ties-on2)
-    → LoweredOn true (c .before .before .before .before .before .before .args .case .now) (c .before .before .before .before .before .before .args .book .now) (marketIn (c .before .before .before .before .before .before .args .case .now) .students) (entryCount (c .before .before .before .before .before .before .args .book .now) + 1) (c .before .ties-on .result)
+    → LoweredOn true (c .before .before .before .before .before .before .args .case .now)
+    (c .before .before .before .before .before .before .args .book .now)
+    (marketIn (c .before .before .before .before .before .before .args .case .now) .students)
+    (entryCount (c .before .before .before .before .before .before .args .book .now) + 1) (c .before .ties-on .result)
 students c = rw (c .before .before .before .before .before .before .pre .1 .0, c .before .before .entry-count .ensures) at (c .before .ties-on .ensures)
 
 workshops : (c : tie.After-ties-on2)
-    → LoweredOn false (c .before .before .before .before .before .before .args .case .now) (c .before .before .before .before .before .before .args .book .now) (marketIn (c .before .before .before .before .before .before .args .case .now) .workshops) (c .before .ties-on .result) (c .ties-on2 .result)
+    → LoweredOn false (c .before .before .before .before .before .before .args .case .now)
+    (c .before .before .before .before .before .before .args .book .now)
+    (marketIn (c .before .before .before .before .before .before .args .case .now) .workshops) (c .before .ties-on .result) (c .ties-on2 .result)
 workshops c = rw (c .before .before .before .before .before .before .pre .1 .1) at (c .ties-on2 .ensures)
 
 sub-result : tie.Need-sub-result
 sub-result c =
     let a = c .before .before .before .before .before .before .args in
-    omega (arith, both-sides (a .case .now) (a .book .now) (a .index .now) (a .students + a .workshops) (c .before .before .before .before .before .before .pre .0) (c .before .ties-on .result) (c .ties-on2 .result) (students c) (workshops c) .0)
+    omega (
+      arith,
+      both-sides (a .case .now) (a .book .now) (a .index .now) (a .students + a .workshops)
+          (c .before .before .before .before .before .before .pre .0) (c .before .ties-on .result) (c .ties-on2 .result) (students c) (workshops c) .0,
+    )
 
 returns : tie.Need-returns
 returns c =
     let a = c .before .before .before .before .before .before .args in
-    both-sides (a .case .now) (a .book .now) (a .index .now) (a .students + a .workshops) (c .before .before .before .before .before .before .pre .0) (c .before .ties-on .result) (c .ties-on2 .result) (students c) (workshops c) .1
+    both-sides (a .case .now) (a .book .now) (a .index .now) (a .students + a .workshops) (c .before .before .before .before .before .before .pre .0)
+    (c .before .ties-on .result) (c .ties-on2 .result) (students c) (workshops c) .1
 
 pub first-tie-spec : {M : Type 1} → statement M
 first-tie-spec =

@@ -33,15 +33,21 @@ returns c = λ x s.
     let start = c .before .before .before .before .before .before in
     let a = start .args in
     let e = at-number (a .case .now) (a .book .now) (a .index .now) (a .from) (start .pre .0) (a .student) x (a .y) (a .p) s in
-    let z : numberOf (a .student) (a .book .now) x (a .y) ≡ 0 = omega (arith, e, c .before .if1 .taken) in
-    (c .no-interview .ensures .0 ∙ sym z, c .no-interview .ensures .1 ∙ sym (key-missing (a .case .now) (a .book .now) (a .index .now) (a .from) (start .pre .0) (a .student) x (a .y) z))
+    let z : numberOf (a .student) (a .book .now) x (a .y) ≡ 0 = omega (arith, e, c .before .if1 .taken) in (
+      c .no-interview .ensures .0 ∙ sym z,
+      c .no-interview .ensures .1 ∙ sym
+          (key-missing (a .case .now) (a .book .now) (a .index .now) (a .from) (start .pre .0) (a .student) x (a .y) z),
+    )
 
 -- the book record is inside
-record-inside : (c : tie.Else1) → getD (c .before .before .before .before .before .args .index .now) (c .before .before .before .before .before .args .p - c .before .before .before .before .before .args .from) 0 - 1 < entryCount (c .before .before .before .before .before .args .book .now)
+record-inside : (c : tie.Else1) → getD (c .before .before .before .before .before .args .index .now)
+    (c .before .before .before .before .before .args .p - c .before .before .before .before .before .args .from) 0 - 1 < entryCount
+    (c .before .before .before .before .before .args .book .now)
 record-inside c =
     let start = c .before .before .before .before .before in
     let a = start .args in
-    at-inside (a .case .now) (a .book .now) (a .index .now) (a .from) (start .pre .0) (a .student) (start .pre .1 .0) (a .y) (a .p) (start .pre .1 .1) (omega (arith, c .if1 .left))
+    at-inside (a .case .now) (a .book .now) (a .index .now) (a .from) (start .pre .0) (a .student) (start .pre .1 .0) (a .y) (a .p) (start .pre .1 .1)
+    (omega (arith, c .if1 .left))
 
 tier-at-requires : tie.Need-tier-at-requires
 tier-at-requires c κs = c .before .before .before .before .before .pre .1 .1 .inside
@@ -64,7 +70,8 @@ returns-2 c = λ x s.
     let a = start .args in
     let l = c .before .before .before .if1 .left in (
       at-number (a .case .now) (a .book .now) (a .index .now) (a .from) (start .pre .0) (a .student) x (a .y) (a .p) s,
-      c .joined .ensures ∙ rw (c .before .before .tier-at .ensures, c .before .biased-at .ensures) (sym (at-key (a .case .now) (a .book .now) (a .index .now) (a .from) (start .pre .0) (a .student) x (a .y) (a .p) s (omega (arith, l)))),
+      c .joined .ensures ∙ rw (c .before .before .tier-at .ensures, c .before .biased-at .ensures)
+          (sym (at-key (a .case .now) (a .book .now) (a .index .now) (a .from) (start .pre .0) (a .student) x (a .y) (a .p) s (omega (arith, l)))),
     )
 
 pub interview-at-spec : {M : Type 1} → statement M

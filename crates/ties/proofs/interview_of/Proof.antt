@@ -36,16 +36,26 @@ pair-of-requires c κs =
       range = s .range;
       students = omega (arith, start .pre .0 .from, start .pre .1);
       workshops = start .pre .1;
-    } in
-    ((c .before .pick .ensures .1, c .pick2 .ensures .1), pairs-found _ _ _ clean (λ k. omega (arith, c .before .before .before .before .before .shared-slice-known .given k)))
+    } in (
+      (c .before .pick .ensures .1, c .pick2 .ensures .1),
+      pairs-found _ _ _ clean
+          (λ k. omega (arith, c .before .before .before .before .before .shared-slice-known .given k)),
+    )
 
 -- where the pair stands
 located : (c : tie.After-pair-of)
-    → c .pair-of .result ≡ pairPlace (c .before .before .before .before .before .before .before .args .case .now) (cond (c .before .before .before .before .before .before .before .args .student) (c .before .before .before .before .before .before .before .args .x) (c .before .before .before .before .before .before .before .args .y)) (cond (c .before .before .before .before .before .before .before .args .student) (c .before .before .before .before .before .before .before .args .y) (c .before .before .before .before .before .before .before .args .x))
+    → c .pair-of .result ≡ pairPlace (c .before .before .before .before .before .before .before .args .case .now)
+    (cond (c .before .before .before .before .before .before .before .args .student)
+    (c .before .before .before .before .before .before .before .args .x) (c .before .before .before .before .before .before .before .args .y))
+    (cond (c .before .before .before .before .before .before .before .args .student)
+    (c .before .before .before .before .before .before .before .args .y) (c .before .before .before .before .before .before .before .args .x))
 located c = c .pair-of .ensures ∙ rw (c .before .before .pick .ensures .0, c .before .pick2 .ensures .0)
 
 stands : (c : tie.Else1)
-    → StandsAt (c .before .before .before .before .before .before .before .before .args .student) (c .before .before .before .before .before .before .before .before .args .case .now) (c .before .before .before .before .before .before .before .before .args .x) (c .before .before .before .before .before .before .before .before .args .y) (c .before .pair-of .result)
+    → StandsAt (c .before .before .before .before .before .before .before .before .args .student)
+    (c .before .before .before .before .before .before .before .before .args .case .now)
+    (c .before .before .before .before .before .before .before .before .args .x)
+    (c .before .before .before .before .before .before .before .before .args .y) (c .before .pair-of .result)
 stands c = record { place = located (c .before); inside = omega (arith, c .if1 .left, c .before .before .before .before .row-count .ensures) }
 
 no-interview-requires : tie.Need-no-interview-requires
@@ -54,8 +64,14 @@ no-interview-requires c κs = search needs
 returns : tie.Need-returns
 returns c =
     let a = c .before .before .before .before .before .before .before .before .before .args in
-    let z = no-record (a .case .now) (a .book .now) (a .index .now) (a .from) (c .before .before .before .before .before .before .before .before .before .pre .0) (a .student) (a .x) (a .y) (omega (arith, located (c .before .before), c .before .if1 .taken, c .before .before .before .before .before .row-count .ensures)) in
-    (c .no-interview .ensures .0 ∙ sym z, c .no-interview .ensures .1 ∙ sym (key-missing (a .case .now) (a .book .now) (a .index .now) (a .from) (c .before .before .before .before .before .before .before .before .before .pre .0) (a .student) (a .x) (a .y) z))
+    let z = no-record (a .case .now) (a .book .now) (a .index .now) (a .from)
+    (c .before .before .before .before .before .before .before .before .before .pre .0) (a .student) (a .x) (a .y)
+    (omega (arith, located (c .before .before), c .before .if1 .taken, c .before .before .before .before .before .row-count .ensures)) in (
+      c .no-interview .ensures .0 ∙ sym z,
+      c .no-interview .ensures .1 ∙ sym
+          (key-missing (a .case .now) (a .book .now) (a .index .now) (a .from)
+          (c .before .before .before .before .before .before .before .before .before .pre .0) (a .student) (a .x) (a .y) z),
+    )
 
 interview-at-requires : tie.Need-interview-at-requires
 interview-at-requires c κs = let start = c .before .before .before .before .before .before .before .before in (start .pre .0, (start .args .x, stands c))

@@ -19,8 +19,13 @@ use Rattle.ties.proofs.is_clear.Tie as tie
 counts : (c : tie.Start) → (c .args .from - c .args .workshops ≤ 512) × (c .args .workshops ≤ 64) × (c .args .from ≤ 576) × (c .args .workshops ≤ c .args .from)
 counts c =
     let a = c .args in
-    let f = few (a .case .now) (marketIn (a .case .now) .students) (marketIn (a .case .now) .workshops) (c .pre .0 .sound) in
-    (omega (arith, f, c .pre .0 .from, c .pre .1 .3), omega (arith, f, c .pre .1 .3), omega (arith, f, c .pre .0 .from), omega (arith, c .pre .0 .from, c .pre .1 .3))
+    let f = few (a .case .now) (marketIn (a .case .now) .students) (marketIn (a .case .now) .workshops) (c .pre .0 .sound) in (
+      omega (arith, f, c .pre .0 .from, c .pre .1 .3),
+      omega (arith, f, c .pre .1 .3),
+      omega (arith, f, c .pre .0 .from),
+      omega
+          (arith, c .pre .0 .from, c .pre .1 .3),
+    )
 
 -- the person and the others are few
 persons : (c : tie.Start) → (c .args .x ≤ 512) × (c .args .others ≤ 512)
@@ -63,24 +68,35 @@ add-start c = omega (arith, start-product (c .before .before .before .before .be
 slice-aggregate-all-new : tie.Need-slice-aggregate-all-new
 slice-aggregate-all-new c = search needs
 
-full : (c : tie.Else1) → rowCount (c .before .before .before .before .before .args .case .now) ≡ c .before .before .before .before .before .args .from + (c .before .before .before .before .before .args .from - marketIn (c .before .before .before .before .before .args .case .now) .workshops) * marketIn (c .before .before .before .before .before .args .case .now) .workshops
+full : (c : tie.Else1) → rowCount
+    (c .before .before .before .before .before .args .case .now) ≡ c .before .before .before .before .before .args .from +
+    (c .before .before .before .before .before .args .from - marketIn (c .before .before .before .before .before .args .case .now) .workshops) *
+    marketIn (c .before .before .before .before .before .args .case .now) .workshops
 full c = sym (c .before .row-count .ensures) ∙ c .if1 .left ∙ rw (c .before .before .before .before .before .pre .1 .3)
 
-student-from : (c : tie.Then2) → StandFrom true (c .before .before .before .before .before .before .args .case .now) (c .before .before .before .before .before .before .args .x) (c .before .before .before .before .before .before .args .others) (c .before .before .before .before .before .before .args .from + (c .before .before .before .before .before .before .args .x - 1) * c .before .before .before .before .before .before .args .workshops) 1
+student-from : (c : tie.Then2) → StandFrom true (c .before .before .before .before .before .before .args .case .now)
+    (c .before .before .before .before .before .before .args .x) (c .before .before .before .before .before .before .args .others)
+    (c .before .before .before .before .before .before .args .from +
+    (c .before .before .before .before .before .before .args .x - 1) * c .before .before .before .before .before .before .args .workshops) 1
 student-from c =
     let start = c .before .before .before .before .before .before in
     let a = start .args in
     let x-few : a .x ≤ marketIn (a .case .now) .students = rw (c .if2 .taken) at (start .pre .1 .1) in
     let all : a .others ≡ marketIn (a .case .now) .workshops = rw (c .if2 .taken) at (start .pre .1 .2) in
-    rw (all, start .pre .1 .3) (student-stands (a .case .now) (a .book .now) (a .index .now) (a .from) (start .pre .0) (full (c .before)) (a .x) (start .pre .1 .0) x-few)
+    rw (all, start .pre .1 .3) (student-stands (a .case .now) (a .book .now) (a .index .now) (a .from) (start .pre .0) (full (c .before)) (a .x)
+    (start .pre .1 .0) x-few)
 
-workshop-from : (c : tie.Else2) → StandFrom false (c .before .before .before .before .before .before .args .case .now) (c .before .before .before .before .before .before .args .x) (c .before .before .before .before .before .before .args .others) (c .before .before .before .before .before .before .args .from + c .before .before .before .before .before .before .args .x - 1) (c .before .before .before .before .before .before .args .workshops)
+workshop-from : (c : tie.Else2) → StandFrom false (c .before .before .before .before .before .before .args .case .now)
+    (c .before .before .before .before .before .before .args .x) (c .before .before .before .before .before .before .args .others)
+    (c .before .before .before .before .before .before .args .from + c .before .before .before .before .before .before .args .x - 1)
+    (c .before .before .before .before .before .before .args .workshops)
 workshop-from c =
     let start = c .before .before .before .before .before .before in
     let a = start .args in
     let x-few : a .x ≤ marketIn (a .case .now) .workshops = rw (c .if2 .left) at (start .pre .1 .1) in
     let all : a .others ≡ marketIn (a .case .now) .students = rw (c .if2 .left) at (start .pre .1 .2) in
-    rw (all, start .pre .1 .3) (workshop-stands (a .case .now) (a .book .now) (a .index .now) (a .from) (start .pre .0) (full (c .before)) (a .x) (start .pre .1 .0) x-few)
+    rw (all, start .pre .1 .3) (workshop-stands (a .case .now) (a .book .now) (a .index .now) (a .from) (start .pre .0) (full (c .before)) (a .x)
+    (start .pre .1 .0) x-few)
 
 all-new-requires : tie.Need-all-new-requires
 all-new-requires c κs =
@@ -88,7 +104,9 @@ all-new-requires c κs =
     (start .pre .0, ((persons start .1, omega arith, omega (arith, start-product start, counts start .2), refl), (start .args .x, student-from (c .before))))
 
 returns-2 : tie.Need-returns-2
-returns-2 c = λ e. rw (c .before .before .before .if2 .taken) (c .before .all-new .ensures e (c .before .before .before .before .before .before .before .before .before .args .x) (student-from (c .before .before .before)))
+returns-2 c = λ e. rw (c .before .before .before .if2 .taken)
+    (c .before .all-new .ensures e (c .before .before .before .before .before .before .before .before .before .args .x)
+    (student-from (c .before .before .before)))
 
 add-start-2 : tie.Need-add-start-2
 add-start-2 c = omega (arith, persons (c .before .before .before .before .before .before), counts (c .before .before .before .before .before .before) .2)
@@ -105,7 +123,9 @@ all-new-requires-2 c κs =
     (start .pre .0, ((persons start .1, counts start .1, omega (arith, persons start, counts start .2), refl), (start .args .x, workshop-from (c .before))))
 
 returns-3 : tie.Need-returns-3
-returns-3 c = λ e. rw (c .before .before .before .if2 .left) (c .before .all-new2 .ensures e (c .before .before .before .before .before .before .before .before .before .args .x) (workshop-from (c .before .before .before)))
+returns-3 c = λ e. rw (c .before .before .before .if2 .left)
+    (c .before .all-new2 .ensures e (c .before .before .before .before .before .before .before .before .before .args .x)
+    (workshop-from (c .before .before .before)))
 
 pub is-clear-spec : {M : Type 1} → statement M
 is-clear-spec =

@@ -61,7 +61,8 @@ loop-again c =
     let a = c .before .before .before .before .before .before .before .before .before .before .before .args in
     let here = c .before .before .before .before .before .before .before .before .loop in (
       omega arith,
-      by-on (λ k. getD (a .keys .now) k 0) (λ k. getD (a .numbers .now) k 0) (a .i) (here .j) (a .low) (here .after) (here .inv .1) (c .lesser .result) (c .before .before .before .before .if1 .taken) (omega (arith, c .lesser .ensures, c .before .later .ensures)),
+      by-on (λ k. getD (a .keys .now) k 0) (λ k. getD (a .numbers .now) k 0) (a .i) (here .j) (a .low) (here .after) (here .inv .1)
+          (c .lesser .result) (c .before .before .before .before .if1 .taken) (omega (arith, c .lesser .ensures, c .before .later .ensures)),
     )
 
 add-j-2 : tie.Need-add-j-2 Inv-loop μ-loop
@@ -73,8 +74,11 @@ loop-less-2 c = omega arith
 loop-again-2 : tie.Need-loop-again-2 Inv-loop μ-loop
 loop-again-2 c =
     let a = c .before .before .before .before .before .before .before .args in
-    let here = c .before .before .before .before .loop in
-    (omega arith, by-skip (λ k. getD (a .keys .now) k 0) (λ k. getD (a .numbers .now) k 0) (a .i) (here .j) (a .low) (here .after) (here .inv .1) (c .if1 .left))
+    let here = c .before .before .before .before .loop in (
+      omega arith,
+      by-skip (λ k. getD (a .keys .now) k 0) (λ k. getD (a .numbers .now) k 0) (a .i) (here .j) (a .low) (here .after) (here .inv .1)
+          (c .if1 .left),
+    )
 
 returns : tie.Need-returns Inv-loop μ-loop
 returns c =

@@ -13,7 +13,8 @@ use Rattle.ties.proofs.lower_all.Statement.{statement}
 use Rattle.ties.proofs.lower_all.Tie as tie
 
 abbrev Inv-loop : tie.InvT-loop
-Inv-loop keys numbers seen₀ low after₀ i₀ seen after i = ((i ≤ length keys) × (length seen ≡ 256)) × (Lowered (λ k. getD keys k 0) (λ k. getD numbers k 0) i low after × Marked (λ k. getD keys k 0) seen i)
+Inv-loop keys numbers seen₀ low after₀ i₀ seen after i = ((i ≤ length keys) × (length seen ≡ 256)) ×
+    (Lowered (λ k. getD keys k 0) (λ k. getD numbers k 0) i low after × Marked (λ k. getD keys k 0) seen i)
 
 abbrev μ-loop : tie.MeasureT-loop
 μ-loop keys numbers seen₀ low after₀ i₀ seen after i = length keys - i
@@ -21,8 +22,14 @@ abbrev μ-loop : tie.MeasureT-loop
 loop-holds : tie.Need-loop-holds Inv-loop μ-loop
 loop-holds c =
     let start = c .before .before .before in
-    let a = start .args in
-    ((omega arith, start .pre .1), (all-start (λ k. getD (a .keys .now) k 0) (λ k. getD (a .numbers .now) k 0) (a .low), marked-none (λ k. getD (a .keys .now) k 0) (a .seen .now)))
+    let a = start .args in (
+      (omega arith, start .pre .1),
+      (
+        all-start (λ k. getD (a .keys .now) k 0) (λ k. getD (a .numbers .now) k 0) (a .low),
+        marked-none
+            (λ k. getD (a .keys .now) k 0) (a .seen .now),
+      ),
+    )
 
 mul-slot-of : tie.Need-mul-slot-of Inv-loop μ-loop
 mul-slot-of c = search needs
@@ -50,9 +57,14 @@ loop-again c =
     let a = c .before .before .before .before .before .before .before .before .before .before .before .before .before .args in
     let here = c .before .before .before .before .before .before .before .before .before .loop in
     let known = c .before .before .before .before .met in
-    let m : Met (here .seen) (known .last .0) (slotOf (getD (a .keys .now) (here .i) 0)) (known .result) = rw (c .before .before .before .before .before .slot-of .ensures) at (known .ensures) in (
+    let m : Met (here .seen) (known .last .0) (slotOf (getD (a .keys .now) (here .i) 0)) (known .result) = rw
+    (c .before .before .before .before .before .slot-of .ensures) at (known .ensures) in (
       (omega arith, known .kept .0 ∙ here .inv .0 .1),
-      (all-on (λ k. getD (a .keys .now) k 0) (λ k. getD (a .numbers .now) k 0) (here .i) (a .low) (here .after) (here .inv .1 .0) (c .lower .result) (c .lower .ensures), marked-on (λ k. getD (a .keys .now) k 0) (here .seen) _ (here .i) (here .inv .1 .1) (known .result) m),
+      (
+        all-on (λ k. getD (a .keys .now) k 0) (λ k. getD (a .numbers .now) k 0) (here .i) (a .low) (here .after) (here .inv .1 .0) (c .lower .result)
+            (c .lower .ensures),
+        marked-on (λ k. getD (a .keys .now) k 0) (here .seen) _ (here .i) (here .inv .1 .1) (known .result) m,
+      ),
     )
 
 add-i-2 : tie.Need-add-i-2 Inv-loop μ-loop
@@ -66,9 +78,15 @@ loop-again-2 c =
     let a = c .before .before .before .before .before .before .before .before .before .before .before .before .args in
     let here = c .before .before .before .before .before .before .before .before .loop in
     let known = c .before .before .before .met in
-    let m : Met (here .seen) (known .last .0) (slotOf (getD (a .keys .now) (here .i) 0)) false = rw (c .before .before .before .before .slot-of .ensures, c .if1 .left) at (known .ensures) in (
+    let m : Met (here .seen) (known .last .0) (slotOf (getD (a .keys .now) (here .i) 0)) false = rw
+    (c .before .before .before .before .slot-of .ensures, c .if1 .left) at (known .ensures) in (
       (omega arith, known .kept .0 ∙ here .inv .0 .1),
-      (all-skip (λ k. getD (a .keys .now) k 0) (λ k. getD (a .numbers .now) k 0) (here .i) (a .low) (here .after) (here .inv .1 .0) (unmet-new (λ k. getD (a .keys .now) k 0) (here .seen) _ (here .i) (here .inv .1 .1) m), marked-on (λ k. getD (a .keys .now) k 0) (here .seen) _ (here .i) (here .inv .1 .1) false m),
+      (
+        all-skip (λ k. getD (a .keys .now) k 0) (λ k. getD (a .numbers .now) k 0) (here .i) (a .low) (here .after) (here .inv .1 .0)
+            (unmet-new (λ k. getD (a .keys .now) k 0) (here .seen) _ (here .i) (here .inv .1 .1) m),
+        marked-on (λ k. getD (a .keys .now) k 0)
+            (here .seen) _ (here .i) (here .inv .1 .1) false m,
+      ),
     )
 
 same-length : tie.Need-same-length Inv-loop μ-loop

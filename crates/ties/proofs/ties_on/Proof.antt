@@ -40,10 +40,17 @@ loop-again c =
     let start = c .before .before .before .before .before .before .before in
     let a = start .args in
     let here = c .before .before .before .loop in
-    let few : a .others ≤ 512 = omega (arith, start .pre .1 .1, persons-few (a .case .now) (a .book .now) (a .index .now) (a .from) (start .pre .0) (not (a .student))) in
-    let r : Lowered (λ k. keyOf (a .student) (a .case .now) (a .book .now) (suc (here .x)) (suc k)) (λ k. numberOf (a .student) (a .book .now) (suc (here .x)) (suc k)) (a .others) (here .after) (here .after) =
-    differ-low (λ k. keyOf (a .student) (a .case .now) (a .book .now) (suc (here .x)) (suc k)) (λ k. numberOf (a .student) (a .book .now) (suc (here .x)) (suc k)) (a .others) (here .after) (rw (add-one (here .x)) at (c .before .is-clear .ensures (c .if1 .taken))) in
-    (omega arith, side-on (a .case .now) (a .book .now) (a .index .now) (a .from) (start .pre .0) (a .student) (here .x) (a .others) (a .low) (here .after) (here .after) (start .pre .1 .1) few (here .inv .1) r)
+    let few : a .others ≤ 512 = omega
+    (arith, start .pre .1 .1, persons-few (a .case .now) (a .book .now) (a .index .now) (a .from) (start .pre .0) (not (a .student))) in
+    let r : Lowered (λ k. keyOf (a .student) (a .case .now) (a .book .now) (suc (here .x)) (suc k))
+    (λ k. numberOf (a .student) (a .book .now) (suc (here .x)) (suc k)) (a .others) (here .after) (here .after) =
+    differ-low (λ k. keyOf (a .student) (a .case .now) (a .book .now) (suc (here .x)) (suc k))
+    (λ k. numberOf (a .student) (a .book .now) (suc (here .x)) (suc k)) (a .others) (here .after)
+    (rw (add-one (here .x)) at (c .before .is-clear .ensures (c .if1 .taken))) in (
+      omega arith,
+      side-on (a .case .now) (a .book .now) (a .index .now) (a .from) (start .pre .0) (a .student) (here .x) (a .others) (a .low)
+          (here .after) (here .after) (start .pre .1 .1) few (here .inv .1) r,
+    )
 
 add-tie-of : tie.Need-add-tie-of Inv-loop μ-loop
 add-tie-of c = omega arith
@@ -57,8 +64,18 @@ cast-tie-of c =
 tie-of-requires : tie.Need-tie-of-requires Inv-loop μ-loop
 tie-of-requires c κs =
     let start = c .before .before .before .before .before .before .before in
-    let a = start .args in
-    (start .pre .0, (omega (arith, start .pre .1 .1, persons-few (a .case .now) (a .book .now) (a .index .now) (a .from) (start .pre .0) (not (a .student))), start .pre .1 .2))
+    let a = start .args in (
+      start .pre .0,
+      (
+        omega (
+          arith,
+          start .pre .1 .1,
+          persons-few (a .case .now) (a .book .now) (a .index .now) (a .from) (start .pre .0)
+              (not (a .student)),
+        ),
+        start .pre .1 .2,
+      ),
+    )
 
 add-x-2 : tie.Need-add-x-2 Inv-loop μ-loop
 add-x-2 c = omega arith
@@ -71,10 +88,15 @@ loop-again-2 c =
     let start = c .before .before .before .before .before .before .before .before in
     let a = start .args in
     let here = c .before .before .before .before .loop in
-    let few : a .others ≤ 512 = omega (arith, start .pre .1 .1, persons-few (a .case .now) (a .book .now) (a .index .now) (a .from) (start .pre .0) (not (a .student))) in
-    let r : Lowered (λ k. keyOf (a .student) (a .case .now) (a .book .now) (suc (here .x)) (suc k)) (λ k. numberOf (a .student) (a .book .now) (suc (here .x)) (suc k)) (a .others) (here .after) (c .tie-of .result) =
-    rw (add-one (here .x)) at (c .tie-of .ensures) in
-    (omega arith, side-on (a .case .now) (a .book .now) (a .index .now) (a .from) (start .pre .0) (a .student) (here .x) (a .others) (a .low) (here .after) (c .tie-of .result) (start .pre .1 .1) few (here .inv .1) r)
+    let few : a .others ≤ 512 = omega
+    (arith, start .pre .1 .1, persons-few (a .case .now) (a .book .now) (a .index .now) (a .from) (start .pre .0) (not (a .student))) in
+    let r : Lowered (λ k. keyOf (a .student) (a .case .now) (a .book .now) (suc (here .x)) (suc k))
+    (λ k. numberOf (a .student) (a .book .now) (suc (here .x)) (suc k)) (a .others) (here .after) (c .tie-of .result) =
+    rw (add-one (here .x)) at (c .tie-of .ensures) in (
+      omega arith,
+      side-on (a .case .now) (a .book .now) (a .index .now) (a .from) (start .pre .0) (a .student) (here .x) (a .others) (a .low)
+          (here .after) (c .tie-of .result) (start .pre .1 .1) few (here .inv .1) r,
+    )
 
 returns : tie.Need-returns Inv-loop μ-loop
 returns c =

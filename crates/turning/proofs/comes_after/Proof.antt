@@ -19,7 +19,12 @@ stage-of-requires-2 c κs = search needs
 
 returns-2 : tie.Need-returns-2
 unfolding comesAfter
-returns-2 c = sym (rw (ne-eqb (c .before .before .before .before .args .s) 0 (c .before .before .if1 .left), c .before .stage-of .ensures, c .stage-of2 .ensures))
+returns-2 c = sym (rw (
+  ne-eqb (c .before .before .before .before .args .s) 0
+      (c .before .before .if1 .left),
+  c .before .stage-of .ensures,
+  c .stage-of2 .ensures,
+))
 
 pub comes-after-spec : {M : Type 1} → statement M
 comes-after-spec = tie.close (tie.spec returns stage-of-requires stage-of-requires-2 returns-2)

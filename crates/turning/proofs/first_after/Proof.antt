@@ -19,10 +19,15 @@ unfolding nextIn
 loop-holds c = (omega arith, omega arith, omega arith, refl)
 
 comes-after-requires : tie.Need-comes-after-requires Inv-loop μ-loop
-comes-after-requires c κs = let start = c .before .before .before in ((λ l. start .pre .1 (start .args .last) l (omega arith)), start .pre .1 (c .before .loop .t) (omega arith) (omega arith))
+comes-after-requires c κs = let start = c .before .before .before in (
+  (λ l. start .pre .1 (start .args .last) l (omega arith)),
+  start .pre .1
+      (c .before .loop .t) (omega arith) (omega arith),
+)
 
 is-earlier-requires : tie.Need-is-earlier-requires Inv-loop μ-loop
-is-earlier-requires c κs = let start = c .before .before .before .before in let here = c .before .before .loop in (start .pre .1 (here .t) (omega arith) (omega arith), (λ l. start .pre .1 (here .first) l (omega arith)))
+is-earlier-requires c κs = let start = c .before .before .before .before in let here = c .before .before .loop in
+    (start .pre .1 (here .t) (omega arith) (omega arith), (λ l. start .pre .1 (here .first) l (omega arith)))
 
 add-t : tie.Need-add-t Inv-loop μ-loop
 add-t c = omega arith
@@ -33,8 +38,13 @@ loop-less c = omega arith
 loop-again : tie.Need-loop-again Inv-loop μ-loop
 loop-again c =
     let here = c .before .before .before .before .loop in
-    let a = c .before .before .before .before .before .before .args in
-    (omega arith, omega arith, omega arith, next-taken (marketIn (a .case .now) .stage) (a .last) (here .t) (here .first) (omega arith) (here .inv .3) (rw (c .before .before .comes-after .ensures, c .before .is-earlier .ensures) at (c .if1 .taken)))
+    let a = c .before .before .before .before .before .before .args in (
+      omega arith,
+      omega arith,
+      omega arith,
+      next-taken (marketIn (a .case .now) .stage) (a .last) (here .t) (here .first) (omega arith) (here .inv .3)
+          (rw (c .before .before .comes-after .ensures, c .before .is-earlier .ensures) at (c .if1 .taken)),
+    )
 
 add-t-2 : tie.Need-add-t-2 Inv-loop μ-loop
 add-t-2 c = omega arith
@@ -45,11 +55,19 @@ loop-less-2 c = omega arith
 loop-again-2 : tie.Need-loop-again-2 Inv-loop μ-loop
 loop-again-2 c =
     let here = c .before .before .before .before .loop in
-    let a = c .before .before .before .before .before .before .args in
-    (omega arith, omega arith, omega arith, next-left (marketIn (a .case .now) .stage) (a .last) (here .t) (here .first) (omega arith) (here .inv .3) (rw (c .before .before .comes-after .ensures, c .before .is-earlier .ensures) at (c .if1 .left)))
+    let a = c .before .before .before .before .before .before .args in (
+      omega arith,
+      omega arith,
+      omega arith,
+      next-left (marketIn (a .case .now) .stage) (a .last) (here .t) (here .first) (omega arith) (here .inv .3)
+          (rw (c .before .before .comes-after .ensures, c .before .is-earlier .ensures) at (c .if1 .left)),
+    )
 
 returns : tie.Need-returns Inv-loop μ-loop
-returns c = let e : c .before .loop .t ≡ c .before .before .before .args .students + 1 = omega arith in let d : c .before .before .before .args .students + 1 - 1 ≡ c .before .before .before .args .students = omega arith in c .before .loop .inv .3 ∙ ap (λ (t : ℕ). nextIn (marketIn (c .before .before .before .args .case .now) .stage) (c .before .before .before .args .last) t) (ap (λ (t : ℕ). t - 1) e ∙ d)
+returns c = let e : c .before .loop .t ≡ c .before .before .before .args .students + 1 = omega arith in let d : c .before .before .before .args
+    .students + 1 - 1 ≡ c .before .before .before .args .students = omega arith in c .before .loop .inv .3 ∙ ap
+    (λ (t : ℕ). nextIn (marketIn (c .before .before .before .args .case .now) .stage) (c .before .before .before .args .last) t)
+    (ap (λ (t : ℕ). t - 1) e ∙ d)
 
 pub first-after-spec : {M : Type 1} → statement M
 first-after-spec =

@@ -16,7 +16,12 @@ stage-of-requires-2 : tie.Need-stage-of-requires-2
 stage-of-requires-2 c κs = c .before .before .before .pre .1 (positive (c .before .before .before .args .first) (c .before .if1 .left))
 
 returns-2 : tie.Need-returns-2
-returns-2 c = sym (rw (ne-eqb (c .before .before .before .before .args .first) 0 (c .before .before .if1 .left), c .before .stage-of .ensures, c .stage-of2 .ensures))
+returns-2 c = sym (rw (
+  ne-eqb (c .before .before .before .before .args .first) 0
+      (c .before .before .if1 .left),
+  c .before .stage-of .ensures,
+  c .stage-of2 .ensures,
+))
 
 pub is-earlier-spec : {M : Type 1} → statement M
 is-earlier-spec = tie.close (tie.spec returns stage-of-requires stage-of-requires-2 returns-2)

@@ -14,7 +14,8 @@ pair-of-requires : tie.Need-pair-of-requires
 pair-of-requires c κs = search needs
 
 workshop-tier-requires : tie.Need-workshop-tier-requires
-workshop-tier-requires c κs = let start = c .before .before .before in let p = start .pre .1 .1 (positive (start .args .l) (c .before .if1 .left)) in omega arith
+workshop-tier-requires c κs = let start = c .before .before .before in let p = start .pre .1 .1
+    (positive (start .args .l) (c .before .if1 .left)) in omega arith
 
 returns-2 : tie.Need-returns-2
 returns-2 c =

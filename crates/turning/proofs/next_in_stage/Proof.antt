@@ -29,7 +29,9 @@ returns : tie.Need-returns Inv-loop μ-loop
 returns c = λ p.
     let here = c .before .before .before .loop in
     let a = c .before .before .before .before .before .before .args in
-    next-same (marketIn (a .case .now) .stage) (a .last) (here .t) (omega arith) (omega arith) (sym (c .before .stage-of2 .ensures) ∙ (c .if1 .taken ∙ c .before .before .before .before .stage-of .ensures)) (here .inv .2) (a .students) (omega arith)
+    next-same (marketIn (a .case .now) .stage) (a .last) (here .t) (omega arith) (omega arith)
+    (sym (c .before .stage-of2 .ensures) ∙ (c .if1 .taken ∙ c .before .before .before .before .stage-of .ensures)) (here .inv .2) (a .students)
+    (omega arith)
 
 add-t-2 : tie.Need-add-t-2 Inv-loop μ-loop
 add-t-2 c = omega arith
@@ -40,8 +42,12 @@ loop-less c = omega arith
 loop-again : tie.Need-loop-again Inv-loop μ-loop
 loop-again c =
     let here = c .before .before .before .loop in
-    let a = c .before .before .before .before .before .before .args in
-    (omega arith, omega arith, other-on (marketIn (a .case .now) .stage) (a .last) (here .t) (here .inv .2) (λ e. c .if1 .left (c .before .stage-of2 .ensures ∙ (e ∙ sym (c .before .before .before .before .stage-of .ensures)))))
+    let a = c .before .before .before .before .before .before .args in (
+      omega arith,
+      omega arith,
+      other-on (marketIn (a .case .now) .stage) (a .last) (here .t) (here .inv .2)
+          (λ e. c .if1 .left (c .before .stage-of2 .ensures ∙ (e ∙ sym (c .before .before .before .before .stage-of .ensures)))),
+    )
 
 returns-2 : tie.Need-returns-2 Inv-loop μ-loop
 returns-2 c = λ p. absurd (omega arith)

@@ -16,7 +16,8 @@ add-tier : tie.Need-add-tier
 add-tier c = search needs
 
 hold-round-requires : tie.Need-hold-round-requires
-hold-round-requires c κs = let start = c .before .before .before .before .before .before .before in (start .pre .0, ((omega arith, omega arith), (start .pre .1 .1 .0, rw (add-one (start .args .state .reached)) (start .pre .1 .1 .1))))
+hold-round-requires c κs = let start = c .before .before .before .before .before .before .before in
+    (start .pre .0, ((omega arith, omega arith), (start .pre .1 .1 .0, rw (add-one (start .args .state .reached)) (start .pre .1 .1 .1))))
 
 after-round-requires : tie.Need-after-round-requires
 after-round-requires c κs = search needs
@@ -31,9 +32,14 @@ returns : tie.Need-returns
 returns c =
     let start = c .before .before .before .before .before .before .before .before .before .before .before in
     let a = start .args in
-    let o = roundTo (marketIn (a .case .now)) (resultsIn (a .book .now)) (a .seats .now) (a .run .hand) (a .state .reached + 1) (a .state .openings) (a .workshops) in (
-      open-turned (marketIn (a .case .now)) (resultsIn (a .book .now)) (a .visits .now) (a .seats .now) (a .state) (a .run) (a .workshops) (a .state .reached + 1) (start .pre .0 .workshops) (add-one (a .state .reached)) (c .before .before .before .hold-round .result) (c .after-round .result) (c .before .before .before .hold-round .ensures .0) (c .after-round .ensures (marketIn (a .case .now)) (resultsIn (a .book .now)) o (c .before .before .before .hold-round .ensures .0)),
-      open-visits (marketIn (a .case .now)) (resultsIn (a .book .now)) (a .visits .now) (a .seats .now) (a .state) (a .run) (a .workshops) (a .state .reached + 1) (start .pre .0 .workshops) (add-one (a .state .reached)) _ (c .before .before .before .hold-round .ensures .1),
+    let o = roundTo (marketIn (a .case .now)) (resultsIn (a .book .now)) (a .seats .now) (a .run .hand) (a .state .reached + 1) (a .state .openings)
+    (a .workshops) in (
+      open-turned (marketIn (a .case .now)) (resultsIn (a .book .now)) (a .visits .now) (a .seats .now) (a .state) (a .run) (a .workshops)
+          (a .state .reached + 1) (start .pre .0 .workshops) (add-one (a .state .reached)) (c .before .before .before .hold-round .result)
+          (c .after-round .result) (c .before .before .before .hold-round .ensures .0) (c .after-round .ensures (marketIn (a .case .now))
+          (resultsIn (a .book .now)) o (c .before .before .before .hold-round .ensures .0)),
+      open-visits (marketIn (a .case .now)) (resultsIn (a .book .now)) (a .visits .now) (a .seats .now) (a .state) (a .run) (a .workshops)
+          (a .state .reached + 1) (start .pre .0 .workshops) (add-one (a .state .reached)) _ (c .before .before .before .hold-round .ensures .1),
     )
 
 pub open-tier-spec : {M : Type 1} → statement M

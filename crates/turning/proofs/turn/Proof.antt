@@ -10,7 +10,8 @@ use Rattle.format.specs.Engine.{marketIn, resultsIn}
 use Rattle.api.specs.declared.StudentState.{StudentState}
 use Rattle.model.specs.Turn.{favouriteIn, Left, openTier, applyTo, turnOf}
 use Rattle.model.specs.Ready.{Booked}
-use Rattle.turning.proofs.Turns.{ready-seats, seats-at, may-open, room-to, open-booked, turn-opens, turn-applies, open-seats, apply-visits, best-known, count-test}
+use Rattle.turning.proofs.Turns.{ready-seats, seats-at, may-open, room-to, open-booked, turn-opens, turn-applies, open-seats, apply-visits}
+use Rattle.turning.proofs.Turns.{best-known, count-test}
 use borrow.Author.Needs.{needs}
 use Rattle.turning.proofs.turn.Statement.{statement}
 use Rattle.turning.proofs.turn.Tie as tie
@@ -39,28 +40,33 @@ left c = turnOf (market c) (results c) (entry c .args .visits .now) (entry c .ar
 -- which way the turn goes
 opens : (c : tie.Then1)
     → left (c .before)
-    ≡ openTier (market (c .before)) (results (c .before)) (entry (c .before) .args .visits .now) (entry (c .before) .args .seats .now) (told (c .before)) (entry (c .before) .args .run)
+    ≡ openTier (market (c .before)) (results (c .before)) (entry (c .before) .args .visits .now) (entry (c .before) .args .seats .now)
+    (told (c .before)) (entry (c .before) .args .run)
 opens c =
     let d = c .before in
     let a = entry d .args in
-    turn-opens (market d) (results d) (a .visits .now) (a .seats .now) (a .state) (a .run) (told d) (outside d) (d .before .before .before .told-state .ensures) (ap (λ (x : ℕ). eqb x (told d .reached)) (d .before .before .student-outside .ensures))
+    turn-opens (market d) (results d) (a .visits .now) (a .seats .now) (a .state) (a .run) (told d) (outside d)
+    (d .before .before .before .told-state .ensures) (ap (λ (x : ℕ). eqb x (told d .reached)) (d .before .before .student-outside .ensures))
     (ap (λ (b : Bool). b && not (outside d)) (sym (count-test (told d .openings) (d .count .result) (omega arith) (d .count .ensures))) ∙ c .if1 .taken)
 
 applies : (c : tie.Else1)
     → left (c .before)
-    ≡ applyTo (market (c .before)) (results (c .before)) (entry (c .before) .args .visits .now) (entry (c .before) .args .seats .now) (told (c .before)) (entry (c .before) .args .run)
+    ≡ applyTo (market (c .before)) (results (c .before)) (entry (c .before) .args .visits .now) (entry (c .before) .args .seats .now)
+    (told (c .before)) (entry (c .before) .args .run)
     (favouriteIn (market (c .before)) (results (c .before)) (entry (c .before) .args .run .hand) (outside (c .before)) (told (c .before) .openings))
 applies c =
     let d = c .before in
     let a = entry d .args in
-    turn-applies (market d) (results d) (a .visits .now) (a .seats .now) (a .state) (a .run) (told d) (outside d) (d .before .before .before .told-state .ensures) (ap (λ (x : ℕ). eqb x (told d .reached)) (d .before .before .student-outside .ensures))
+    turn-applies (market d) (results d) (a .visits .now) (a .seats .now) (a .state) (a .run) (told d) (outside d)
+    (d .before .before .before .told-state .ensures) (ap (λ (x : ℕ). eqb x (told d .reached)) (d .before .before .student-outside .ensures))
     (ap (λ (b : Bool). b && not (outside d)) (sym (count-test (told d .openings) (d .count .result) (omega arith) (d .count .ensures))) ∙ c .if1 .left)
 
 told-state-requires : tie.Need-told-state-requires
 told-state-requires c κs = search needs
 
 student-outside-requires : tie.Need-student-outside-requires
-student-outside-requires c κs = let start = c .before .before .before .before .before .before in start .pre .0 .student (start .args .run .hand) (omega (arith, start .pre .1)) (omega (arith, start .pre .0, start .pre .1))
+student-outside-requires c κs = let start = c .before .before .before .before .before .before in start .pre .0 .student (start .args .run .hand)
+    (omega (arith, start .pre .1)) (omega (arith, start .pre .0, start .pre .1))
 
 cast-outside : tie.Need-cast-outside
 cast-outside c = search needs
@@ -96,8 +102,14 @@ returns c =
     let t = c .before .before .before .before .before .before .before .before .before .told-state in
     let o = c .before .before .before .before .before .before .before .before .student-outside in
     let e = opens (c .before .before .before .before .before) in
-    let r = c .before .before .open-tier in
-    (r .ensures .0 ∙ sym (ap (λ x. x .turned) e), (r .ensures .1 ∙ sym (ap (λ x. x .visits) e), open-seats (marketIn (a .case .now)) (resultsIn (a .book .now)) (a .visits .now) (a .seats .now) (t .result) (a .run) ∙ sym (ap (λ x. x .seats) e)))
+    let r = c .before .before .open-tier in (
+      r .ensures .0 ∙ sym (ap (λ x. x .turned) e),
+      (
+        r .ensures .1 ∙ sym (ap (λ x. x .visits) e),
+        open-seats (marketIn (a .case .now))
+            (resultsIn (a .book .now)) (a .visits .now) (a .seats .now) (t .result) (a .run) ∙ sym (ap (λ x. x .seats) e),
+      ),
+    )
 
 favourite-requires : tie.Need-favourite-requires
 favourite-requires c κs =
@@ -114,7 +126,9 @@ apply-to-requires c κs =
     let t = c .before .before .before .before .before .before .told-state in
     let o = c .before .before .before .before .before .student-outside in
     let r = start .pre .1 in
-    let known = best-known (marketIn (a .case .now)) (resultsIn (a .book .now)) (a .run .hand) (t .result .openings) (λ (w : ℕ). 0 < w → Booked (marketIn (a .case .now)) (resultsIn (a .book .now)) (a .run .hand) w) (λ l. absurd (omega arith)) (λ w m l. open-booked r (t .result) (t .ensures) w m) (eqb (o .result) (t .result .reached)) in
+    let known = best-known (marketIn (a .case .now)) (resultsIn (a .book .now)) (a .run .hand) (t .result .openings)
+    (λ (w : ℕ). 0 < w → Booked (marketIn (a .case .now)) (resultsIn (a .book .now)) (a .run .hand) w) (λ l. absurd (omega arith))
+    (λ w m l. open-booked r (t .result) (t .ensures) w m) (eqb (o .result) (t .result .reached)) in
     (start .pre .0, (omega (arith, start .pre .0, r), (rw (c .before .favourite .ensures) known, ready-seats r)))
 
 same-length-3 : tie.Need-same-length-3
@@ -128,9 +142,14 @@ returns-2 c =
     let o = c .before .before .before .before .before .before .before .before .student-outside in
     let r = c .before .before .apply-to in
     let f = c .before .before .before .before .favourite in
-    let e = applies (c .before .before .before .before .before) ∙ ap (λ (x : ℕ). applyTo (marketIn (a .case .now)) (resultsIn (a .book .now)) (a .visits .now) (a .seats .now) (t .result) (a .run) x) (sym (f .ensures)) in (
+    let e = applies (c .before .before .before .before .before) ∙ ap (λ (x : ℕ). applyTo (marketIn (a .case .now)) (resultsIn (a .book .now))
+    (a .visits .now) (a .seats .now) (t .result) (a .run) x) (sym (f .ensures)) in (
       r .ensures .0 (a .visits .now) ∙ sym (ap (λ x. x .turned) e),
-      (apply-visits (marketIn (a .case .now)) (resultsIn (a .book .now)) (a .visits .now) (a .seats .now) (t .result) (a .run) (f .result) ∙ sym (ap (λ x. x .visits) e), r .ensures .1 (a .visits .now) ∙ sym (ap (λ x. x .seats) e)),
+      (
+        apply-visits (marketIn (a .case .now)) (resultsIn (a .book .now)) (a .visits .now) (a .seats .now) (t .result) (a .run) (f .result) ∙ sym
+            (ap (λ x. x .visits) e),
+        r .ensures .1 (a .visits .now) ∙ sym (ap (λ x. x .seats) e),
+      ),
     )
 
 pub turn-spec : {M : Type 1} → statement M

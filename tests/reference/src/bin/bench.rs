@@ -65,12 +65,7 @@ struct Times {
     fast: f64,
 }
 
-fn timing_input(
-    students: usize,
-    workshops: usize,
-    (d, e): (usize, usize),
-    kept: usize,
-) -> Input {
+fn timing_input(students: usize, workshops: usize, (d, e): (usize, usize), kept: usize) -> Input {
     let mut rng = Rng::new(2024);
     let mut case = gen::experiment(&mut rng, students, workshops, d, e);
     case.pairs.retain(|_| rng.chance(kept));

@@ -26,13 +26,21 @@ loop-holds c = counted-start (c .before .before .args .case .now)
 
 out-of-order-requires : tie.Need-out-of-order-requires Inv-loop μ-loop
 out-of-order-requires c κs =
-    let l : c .before .loop .i < rowCount (c .before .before .before .before .args .case .now) = omega (arith, c .before .before .row-count .ensures) in
-    (l, (c .before .loop .inv, none-fails (badForm (rows (c .before .before .before .before .args .case .now))) (rowCount (c .before .before .before .before .args .case .now)) (c .before .before .before .before .pre) (c .before .loop .i) l))
+    let l : c .before .loop .i < rowCount (c .before .before .before .before .args .case .now) = omega (arith, c .before .before .row-count .ensures) in (
+      l,
+      (
+        c .before .loop .inv,
+        none-fails (badForm (rows (c .before .before .before .before .args .case .now)))
+            (rowCount (c .before .before .before .before .args .case .now)) (c .before .before .before .before .pre) (c .before .loop .i) l,
+      ),
+    )
 
 returns : tie.Need-returns Inv-loop μ-loop
 returns c =
     let a = c .before .before .before .before .before .before .args in
-    let e = scan-found (badOrder (rows (a .case .now))) (c .before .before .before .loop .i) (rowCount (a .case .now)) (c .before .before .before .loop .inv .order) (sym (c .before .out-of-order .ensures) ∙ c .if1 .taken) (omega (arith, c .before .before .before .before .row-count .ensures)) in
+    let e = scan-found (badOrder (rows (a .case .now))) (c .before .before .before .loop .i) (rowCount (a .case .now))
+    (c .before .before .before .loop .inv .order) (sym (c .before .out-of-order .ensures) ∙ c .if1 .taken)
+    (omega (arith, c .before .before .before .before .row-count .ensures)) in
     record { place = sym (rw e); counted = c .before .before .before .loop .inv }
 
 kind-at-requires : tie.Need-kind-at-requires Inv-loop μ-loop
@@ -59,8 +67,16 @@ loop-less c = omega arith
 loop-again : tie.Need-loop-again Inv-loop μ-loop
 loop-again c =
     let a = c .before .before .before .before .before .before .before .before .before .args in
-    let l : c .before .before .before .before .before .before .loop .i < rowCount (a .case .now) = omega (arith, c .before .before .before .before .before .before .before .row-count .ensures) in
-    rw (c .before .one-if .ensures .0, c .one-if2 .ensures .0, c .before .before .kind-at .ensures) (counted-on (a .case .now) (c .before .before .before .before .before .before .loop .i) (c .before .before .before .before .before .before .loop .students) (c .before .before .before .before .before .before .loop .workshops) (c .before .before .before .before .before .before .loop .inv) l (none-fails (badForm (rows (a .case .now))) (rowCount (a .case .now)) (c .before .before .before .before .before .before .before .before .before .pre) (c .before .before .before .before .before .before .loop .i) l) (sym (c .before .before .before .before .out-of-order .ensures) ∙ c .before .before .before .if1 .left))
+    let l : c .before .before .before .before .before .before .loop .i < rowCount (a .case .now) = omega
+    (arith, c .before .before .before .before .before .before .before .row-count .ensures) in
+    rw (c .before .one-if .ensures .0, c .one-if2 .ensures .0, c .before .before .kind-at .ensures)
+    (counted-on (a .case .now) (c .before .before .before .before .before .before .loop .i)
+    (c .before .before .before .before .before .before .loop .students) (c .before .before .before .before .before .before .loop .workshops)
+    (c .before .before .before .before .before .before .loop .inv) l
+    (none-fails (badForm (rows (a .case .now))) (rowCount (a .case .now))
+    (c .before .before .before .before .before .before .before .before .before .pre)
+    (c .before .before .before .before .before .before .loop .i) l)
+    (sym (c .before .before .before .before .out-of-order .ensures) ∙ c .before .before .before .if1 .left))
 
 returns-2 : tie.Need-returns-2 Inv-loop μ-loop
 returns-2 c =

@@ -29,10 +29,33 @@ cast-second c = search needs
 returns : tie.Need-returns
 returns c =
     let a = c .before .before .before .before .before .before .before .before .before .before .before .before .before .before .before .before .before .args in
-    let prev : rowAt (a .case .now) (a .i - 1) ≡ rowOf (c .before .before .before .before .before .before .before .before .before .before .before .before .before .row-at2 .result) = ap (rowAt (a .case .now)) (sym (c .before .before .before .before .before .before .before .before .before .before .before .before .before .before .before2 .ensures)) ∙ sym (c .before .before .before .before .before .before .before .before .before .before .before .before .before .row-at2 .ensures) in
-    let k : c .before .before .before .before .before .before .before .before .before .before .before .before .before .before .before .row-at .result .kind ≡ 3 = eqb-true _ _ (and-left (eqb (c .before .before .before .before .before .before .before .before .before .before .before .before .before .before .before .row-at .result .kind) 3) (eqb (c .before .before .before .before .before .before .before .before .before .before .before .before .before .row-at2 .result .kind) 3) (c .if1 .taken)) in
-    let j : c .before .before .before .before .before .before .before .before .before .before .before .before .before .row-at2 .result .kind ≡ 3 = eqb-true _ _ (and-right (eqb (c .before .before .before .before .before .before .before .before .before .before .before .before .before .before .before .row-at .result .kind) 3) (eqb (c .before .before .before .before .before .before .before .before .before .before .before .before .before .row-at2 .result .kind) 3) (c .if1 .taken)) in
-    rw (order-test (a .case .now) (a .i) (a .students) (a .workshops) (c .before .before .before .before .before .before .before .before .before .before .before .before .before .before .before .before .before .pre .1 .0) (c .before .before .before .before .before .before .before .before .before .before .before .before .before .before .before .before .before .pre .0) (c .before .before .before .before .before .before .before .before .before .before .before .before .before .before .before .before .before .pre .1 .1), ← c .before .before .before .before .before .before .before .before .before .before .before .before .before .before .before .row-at .ensures, prev, k, j)
+    let prev : rowAt (a .case .now) (a .i - 1) ≡ rowOf
+    (c .before .before .before .before .before .before .before .before .before .before .before .before .before .row-at2 .result) = ap
+    (rowAt (a .case .now)) (sym (c .before .before .before .before .before .before .before .before .before .before .before .before .before .before
+    .before2 .ensures)) ∙ sym (c .before .before .before .before .before .before .before .before .before .before .before .before .before .row-at2
+    .ensures) in
+    let k : c .before .before .before .before .before .before .before .before .before .before .before .before .before .before .before .row-at .result
+    .kind ≡ 3 = eqb-true _ _ (and-left
+    (eqb (c .before .before .before .before .before .before .before .before .before .before .before .before .before .before .before .row-at
+    .result .kind) 3) (eqb (c .before .before .before .before .before .before .before .before .before .before .before .before .before .row-at2
+    .result .kind) 3) (c .if1 .taken)) in
+    let j : c .before .before .before .before .before .before .before .before .before .before .before .before .before .row-at2 .result .kind ≡ 3 =
+    eqb-true _ _ (and-right (eqb (c .before .before .before .before .before .before .before .before .before .before .before .before .before
+    .before .before .row-at .result .kind) 3)
+    (eqb (c .before .before .before .before .before .before .before .before .before .before .before .before .before .row-at2 .result .kind) 3)
+    (c .if1 .taken)) in
+    rw (
+      order-test (a .case .now) (a .i) (a .students) (a .workshops)
+          (c .before .before .before .before .before .before .before .before .before .before .before .before .before .before .before .before .before
+          .pre .1 .0) (c .before .before .before .before .before .before .before .before .before .before .before .before .before .before .before .before
+          .before .pre .0) (c .before .before .before .before .before .before .before .before .before .before .before .before .before .before .before
+          .before .before .pre .1 .1),
+      ← c .before .before .before .before .before .before .before .before .before .before .before .before .before
+          .before .before .row-at .ensures,
+      prev,
+      k,
+      j,
+    )
 
 add-number : tie.Need-add-number
 add-number c = search needs
@@ -42,9 +65,27 @@ add-number-2 c = search needs
 
 returns-2 : tie.Need-returns-2
 returns-2 c =
-    let a = c .before .before .before .before .before .before .before .before .before .before .before .before .before .before .before .before .before .before .before .before .before .before .args in
-    let prev : rowAt (a .case .now) (a .i - 1) ≡ rowOf (c .before .before .before .before .before .before .before .before .before .before .before .before .before .before .before .before .before .before .row-at2 .result) = ap (rowAt (a .case .now)) (sym (c .before .before .before .before .before .before .before .before .before .before .before .before .before .before .before .before .before .before .before .before2 .ensures)) ∙ sym (c .before .before .before .before .before .before .before .before .before .before .before .before .before .before .before .before .before .before .row-at2 .ensures) in
-    rw (order-test (a .case .now) (a .i) (a .students) (a .workshops) (c .before .before .before .before .before .before .before .before .before .before .before .before .before .before .before .before .before .before .before .before .before .before .pre .1 .0) (c .before .before .before .before .before .before .before .before .before .before .before .before .before .before .before .before .before .before .before .before .before .before .pre .0) (c .before .before .before .before .before .before .before .before .before .before .before .before .before .before .before .before .before .before .before .before .before .before .pre .1 .1), ← c .before .before .before .before .before .before .before .before .before .before .before .before .before .before .before .before .before .before .before .before .row-at .ensures, prev)
+    let a = c .before .before .before .before .before .before .before .before .before .before .before .before .before .before .before .before .before
+    .before .before .before .before .before .args in
+    let prev : rowAt (a .case .now) (a .i - 1) ≡ rowOf
+    (c .before .before .before .before .before .before .before .before .before .before .before .before .before .before .before .before .before
+    .before .row-at2 .result) = ap (rowAt (a .case .now))
+    (sym (c .before .before .before .before .before .before .before .before .before .before .before .before .before .before .before .before
+    .before .before .before .before2 .ensures)) ∙ sym
+    (c .before .before .before .before .before .before .before .before .before .before .before .before .before .before .before .before .before
+    .before .row-at2 .ensures) in
+    rw (
+      order-test (a .case .now) (a .i) (a .students) (a .workshops)
+          (c .before .before .before .before .before .before .before .before .before .before .before .before .before .before .before .before .before
+          .before .before .before .before .before .pre .1 .0)
+          (c .before .before .before .before .before .before .before .before .before .before .before .before .before .before .before .before .before
+          .before .before .before .before .before .pre .0)
+          (c .before .before .before .before .before .before .before .before .before .before .before .before .before .before .before .before .before
+          .before .before .before .before .before .pre .1 .1),
+      ← c .before .before .before .before .before .before .before .before .before .before
+          .before .before .before .before .before .before .before .before .before .before .row-at .ensures,
+      prev,
+    )
 
 pub out-of-order-spec : {M : Type 1} → statement M
 out-of-order-spec =

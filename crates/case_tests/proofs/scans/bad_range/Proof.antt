@@ -15,13 +15,26 @@ returns : tie.Need-returns
 unfolding badRange badStudent badWorkshop badTiers
 returns c =
     let a = c .before .before .before .before .before .before .before .before .args in
-    rw (row-at (a .case .now) (a .i) (c .before .before .before .before .before .before .before .before .pre) ∙ sym (c .before .before .before .before .before .before .row-at .ensures), c .if1 .taken)
+    rw (
+      row-at (a .case .now) (a .i) (c .before .before .before .before .before .before .before .before .pre) ∙ sym
+          (c .before .before .before .before .before .before .row-at .ensures),
+      c .if1 .taken,
+    )
 
 returns-2 : tie.Need-returns-2
 unfolding badRange badStudent badWorkshop badTiers
 returns-2 c =
-    let a = c .before .before .before .before .before .before .before .before .before .before .before .before .before .before .before .before .before .before .args in
-    rw (row-at (a .case .now) (a .i) (c .before .before .before .before .before .before .before .before .before .before .before .before .before .before .before .before .before .before .pre) ∙ sym (c .before .before .before .before .before .before .before .before .before .before .before .before .before .before .before .before .row-at .ensures), le-ltb (c .before .before .before .before .before .before .before .before .before .before .before .before .before .before .before .before .row-at .result .second) 0 (omega arith))
+    let a = c .before .before .before .before .before .before .before .before .before .before .before .before .before .before .before .before .before
+    .before .args in
+    rw (
+      row-at (a .case .now) (a .i)
+          (c .before .before .before .before .before .before .before .before .before .before .before .before .before .before .before .before .before
+          .before .pre) ∙ sym (c .before .before .before .before .before .before .before .before .before .before .before .before .before .before .before
+          .before .row-at .ensures),
+      le-ltb
+          (c .before .before .before .before .before .before .before .before .before .before .before .before .before .before .before .before .row-at
+          .result .second) 0 (omega arith),
+    )
 
 pub bad-range-spec : {M : Type 1} → statement M
 bad-range-spec = tie.close (tie.spec row-at-requires returns returns-2)

@@ -52,14 +52,18 @@ loop-again : tie.Need-loop-again Inv-loop μ-loop
 loop-again c =
     let case = c .before .before .before .before .before .before .before .before .before .args .case .now in
     let here = c .before .before .before .before .before .before .loop in
-    let passes = c .before .before .before .before .is-sound-head .ensures (not-false (c .before .before .before .before .is-sound-head .result) (c .before .before .before .if1 .left)) in (
-      rw (c .before .one-if .ensures .0, c .one-if2 .ensures .0, c .before .before .kind-at .ensures) (sound-on case (here .i) (here .students) (here .workshops) (here .inv .0) (omega (arith, c .before .before .before .before .before .before .before .row-count .ensures)) (passes .0) (passes .1) (passes .2)),
+    let passes = c .before .before .before .before .is-sound-head .ensures
+    (not-false (c .before .before .before .before .is-sound-head .result) (c .before .before .before .if1 .left)) in (
+      rw (c .before .one-if .ensures .0, c .one-if2 .ensures .0, c .before .before .kind-at .ensures)
+          (sound-on case (here .i) (here .students) (here .workshops) (here .inv .0)
+          (omega (arith, c .before .before .before .before .before .before .before .row-count .ensures)) (passes .0) (passes .1) (passes .2)),
       λ l. let e : here .i + 1 - 1 ≡ here .i = omega arith in rw e (passes .3),
     )
 
 returns-2 : tie.Need-returns-2 Inv-loop μ-loop
 returns-2 c =
-    let e : c .before .loop .i ≡ c .before .before .row-count .result = omega (arith, c .before .loop .inv .0 .counted .inside, c .before .before .row-count .ensures) in
+    let e : c .before .loop .i ≡ c .before .before .row-count .result = omega
+    (arith, c .before .loop .inv .0 .counted .inside, c .before .before .row-count .ensures) in
     record { sound = rw e at (c .before .loop .inv .0); noPair = rw e at (c .before .loop .inv .1) }
 
 pub heads-spec : {M : Type 1} → statement M

@@ -20,7 +20,10 @@ returns-2 : tie.Need-returns-2
 returns-2 c = λ e. never e refl
 
 out-of-order-requires : tie.Need-out-of-order-requires
-out-of-order-requires c κs = (c .before .before .before .before .before .pre .0, (c .before .before .before .before .before .pre .1, sym (c .before .bad-form .ensures) ∙ c .if2 .left))
+out-of-order-requires c κs = (
+  c .before .before .before .before .before .pre .0,
+  (c .before .before .before .before .before .pre .1, sym (c .before .bad-form .ensures) ∙ c .if2 .left),
+)
 
 returns-3 : tie.Need-returns-3
 returns-3 c = λ e. never e refl

@@ -53,7 +53,8 @@ returns-5 c = λ e.
     let a = c .before .before .before .before .before .before .before .before .before .before .before .args in
     let first = c .before .before .before .first-at in
     let second = c .before .before .second-at in
-    let three = sym (c .before .before .before .before .before .before .before .before .before .kind-at .ensures) ∙ c .before .before .before .before .before .before .before .before .if1 .left in
+    let three = sym (c .before .before .before .before .before .before .before .before .before .kind-at .ensures)
+    ∙ c .before .before .before .before .before .before .before .before .if1 .left in
     let s = and-left (leb 1 (first .result) && leb (first .result) (a .students)) _ e in
     let w = and-right (leb 1 (first .result) && leb (first .result) (a .students)) _ e in
     let s1 : 1 ≤ first .result = leb-true _ _ (and-left (leb 1 (first .result)) _ s) in

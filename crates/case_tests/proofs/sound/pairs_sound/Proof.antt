@@ -41,12 +41,17 @@ loop-again : tie.Need-loop-again Inv-loop μ-loop
 loop-again c =
     let a = c .before .before .before .before .before .before .before .args in
     let here = c .before .before .before .before .loop in
-    let passes = c .before .before .is-sound-pair .ensures (not-false (c .before .before .is-sound-pair .result) (c .before .if1 .left)) in
-    (sound-pair (a .case .now) (here .i) (a .students) (a .workshops) (here .inv .0) (omega (arith, c .before .before .before .before .before .row-count .ensures)) (here .last) passes (here .inv .1), key-on (a .case .now) (here .i) (c .key-at .result) (c .key-at .ensures))
+    let passes = c .before .before .is-sound-pair .ensures (not-false (c .before .before .is-sound-pair .result) (c .before .if1 .left)) in (
+      sound-pair (a .case .now) (here .i) (a .students) (a .workshops) (here .inv .0)
+          (omega (arith, c .before .before .before .before .before .row-count .ensures)) (here .last) passes (here .inv .1),
+      key-on (a .case .now)
+          (here .i) (c .key-at .result) (c .key-at .ensures),
+    )
 
 returns-2 : tie.Need-returns-2 Inv-loop μ-loop
 returns-2 c = λ _.
-    let e : c .before .loop .i ≡ rowCount (c .before .before .before .before .args .case .now) = omega (arith, c .before .loop .inv .0 .counted .inside, c .before .before .row-count .ensures) in
+    let e : c .before .loop .i ≡ rowCount (c .before .before .before .before .args .case .now) = omega
+    (arith, c .before .loop .inv .0 .counted .inside, c .before .before .row-count .ensures) in
     rw e at (c .before .loop .inv .0)
 
 pub pairs-sound-spec : {M : Type 1} → statement M

@@ -30,7 +30,14 @@ add-second-at c =
 second-at-requires : tie.Need-second-at-requires Inv-loop μ-loop
 second-at-requires c κs =
     let a = c .before .before .before .args in
-    omega (arith, places (a .case .now) (clean (a .case .now) (a .students) (a .workshops) (c .before .before .before .pre)) .whole, c .before .before .before .pre .students, c .before .before .before .pre .workshops)
+    omega (
+      arith,
+      places (a .case .now)
+          (clean (a .case .now) (a .students) (a .workshops) (c .before .before .before .pre)) .whole,
+      c .before .before .before .pre .students,
+      c
+          .before .before .before .pre .workshops,
+    )
 
 cast-sum : tie.Need-cast-sum Inv-loop μ-loop
 cast-sum c = omega arith
@@ -53,7 +60,8 @@ loop-again c =
     let case = a .case .now in
     let w = c .before .before .loop .w in
     let e : marketIn case .students + suc w - 1 ≡ a .students + w = omega (arith, c .before .before .before .before .pre .students) in
-    let q = quota-at case (clean case (a .students) (a .workshops) (c .before .before .before .before .pre)) (suc w) (omega arith) (omega (arith, c .before .before .before .before .pre .workshops)) ∙ ap (λ k. rowAt case k .second) e ∙ sym (c .second-at .ensures) in
+    let q = quota-at case (clean case (a .students) (a .workshops) (c .before .before .before .before .pre)) (suc w) (omega arith)
+    (omega (arith, c .before .before .before .before .pre .workshops)) ∙ ap (λ k. rowAt case k .second) e ∙ sym (c .second-at .ensures) in
     (omega arith, rw (add-one w) (omega (arith, q, c .before .before .loop .inv .1)), omega arith)
 
 returns : tie.Need-returns Inv-loop μ-loop

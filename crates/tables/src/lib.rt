@@ -1,0 +1,146 @@
+// A table of the pairs and of where the seats start, made once for a call: a pair's record is her first pair's plus the count of her workshops before it.
+ghost use mathlib.Core.Path.{_≡_};
+ghost use mathlib.Core.Bool.{true, cond};
+ghost use Prim.Native.Nat.{_+_, _-_, _≤_, _<_};
+ghost use lib.Dec.{eqb};
+ghost use lib.ListN.{length};
+ghost use Rattle.base.specs.Lists.{count};
+ghost use Rattle.base.specs.Bits.{member};
+ghost use Rattle.lgs.specs.Market.{seatsBefore};
+ghost use Rattle.format.specs.Layout.{rowCount};
+ghost use Rattle.format.specs.Engine.{marketIn};
+ghost use Rattle.records.specs.Records.{pairPlace};
+ghost use Rattle.tables.specs.Table.{Blank, Tabled, Stretch, Rise, Standing, Added, Noted, Started, studentIn, workshopIn};
+
+// ---- the making
+
+// Where a student's pairs begin, given that record i is one: there, unless she had pairs before.
+fn begin(set: u64, first: u64, i: usize) -> u64
+    ensures { λ r. ⌜ r ≡ cond (eqb set 0) i first ⌝ }
+{
+    if set == 0 {
+        return i as u64;
+    }
+    first
+}
+
+// Record i, a pair of student s and workshop w, goes into the table.
+fn note(table: &mut [u64], i: usize, s: usize, w: usize)
+    requires { ⌜ length (now table) ≡ 1088 ⌝ }
+    requires { ⌜ ((1 ≤ s) × (s ≤ 512)) × ((1 ≤ w) × (w ≤ 64)) ⌝ }
+    ensures { λ _. ⌜ Added (now (table .entry)) (now (table .exit)) i s w ⌝ }
+{
+    let set = table[s - 1];
+    let first = begin(set, table[511 + s], i);
+    table[511 + s] = first;
+    table[s - 1] = bits::with_bit(set, w);
+}
+
+// The pairs' records, from record `from` on.
+fn note_pairs(case: &[u8], from: usize, table: &mut [u64])
+    requires { ⌜ from ≤ rowCount (now case) ⌝ }
+    requires { ⌜ Rise (studentIn (now case)) (workshopIn (now case)) from (rowCount (now case)) ⌝ }
+    requires { ⌜ Blank (now table) ⌝ }
+    ensures { λ _. ⌜ Noted (studentIn (now (case .entry))) (workshopIn (now (case .entry))) from (rowCount (now (case .entry))) (now (table .exit)) ⌝ }
+{
+    let rows = records::row_count(case.len());
+    let mut i = from;
+    while i < rows {
+        let s = records::first_at(case, i) as usize;
+        let w = records::second_at(case, i) as usize;
+        note(&mut *table, i, s, w);
+        i += 1;
+    }
+}
+
+// The workshops' records: where the seats of each start.
+fn note_starts(case: &[u8], students: usize, workshops: usize, table: &mut [u64])
+    requires { ⌜ Standing (now case) students workshops ⌝ }
+    requires { ⌜ length (now table) ≡ 1088 ⌝ }
+    ensures { λ _. ⌜ Started (now (case .entry)) (now (table .entry)) (now (table .exit)) (workshops + 1) ⌝ }
+{
+    let mut sum = 0;
+    let mut w = 1;
+    while w <= workshops {
+        table[1023 + w] = sum;
+        sum += records::second_at(case, students + w - 1) as u64;
+        w += 1;
+    }
+}
+
+// The table of a case that passed causes 2 to 5.
+pub fn build(case: &[u8], students: usize, workshops: usize, table: &mut [u64])
+    requires { ⌜ Standing (now case) students workshops ⌝ }
+    requires { ⌜ Blank (now table) ⌝ }
+    ensures { λ _. ⌜ Tabled (now (case .entry)) (now (table .exit)) ⌝ }
+{
+    note_pairs(case, students + workshops, &mut *table);
+    note_starts(case, students, workshops, &mut *table);
+}
+
+// ---- the reading
+
+// Student s and workshop w have a pair. Names of nobody have none.
+pub fn is_paired(case: &[u8], table: &[u64], s: usize, w: usize) -> bool
+    requires { ⌜ Tabled (now case) (now table) ⌝ }
+    ensures { λ r. ⌜ r ≡ marketIn (now (case .entry)) .paired s w ⌝ }
+{
+    if ((s < 1) | (512 < s)) | ((w < 1) | (64 < w)) {
+        return false;
+    }
+    (table[s - 1] >> (w - 1)) % 2 == 1
+}
+
+// How many members of the set are below w.
+fn members_below(set: u64, w: usize) -> usize
+    requires { ⌜ (1 ≤ w) × (w ≤ 64) ⌝ }
+    ensures { λ r. ⌜ (r ≡ count (member set) (w - 1)) × (r ≤ 64) ⌝ }
+{
+    u64::count_ones(set & ((1u64 << (w - 1)) - 1)) as usize
+}
+
+// The number of the pair's record.
+pub fn pair_at(case: &[u8], table: &[u64], s: usize, w: usize) -> usize
+    requires { ⌜ Tabled (now case) (now table) ⌝ }
+    requires { ⌜ marketIn (now case) .paired s w ≡ true ⌝ }
+    ensures { λ r. ⌜ r ≡ pairPlace (now (case .entry)) s w ⌝ }
+{
+    table[511 + s] as usize + members_below(table[s - 1], w)
+}
+
+// The number of the pair's record, or how many records there are where it has none.
+pub fn pair_of(case: &[u8], table: &[u64], s: usize, w: usize) -> usize
+    requires { ⌜ Tabled (now case) (now table) ⌝ }
+    ensures { λ r. ⌜ r ≡ pairPlace (now (case .entry)) s w ⌝ }
+{
+    if is_paired(case, table, s, w) {
+        return pair_at(case, table, s, w);
+    }
+    records::row_count(case.len())
+}
+
+// A student's pairs: the number of the first record, and how many there are.
+pub struct Pairs {
+    pub first: usize,
+    pub many: usize,
+}
+
+pub fn pairs_of(case: &[u8], table: &[u64], s: usize) -> Pairs
+    requires { ⌜ Tabled (now case) (now table) ⌝ }
+    requires { ⌜ (1 ≤ s) × (s ≤ 512) ⌝ }
+    ensures { λ r. ⌜ Stretch (now (case .entry)) s (r .first) (r .many) ⌝ }
+{
+    Pairs {
+        first: table[511 + s] as usize,
+        many: bits::count(table[s - 1]) as usize,
+    }
+}
+
+// Where the seats of workshop w start.
+pub fn start_of(case: &[u8], table: &[u64], w: usize) -> usize
+    requires { ⌜ Tabled (now case) (now table) ⌝ }
+    requires { ⌜ (1 ≤ w) × (w ≤ marketIn (now case) .workshops) ⌝ }
+    ensures { λ r. ⌜ r ≡ seatsBefore (marketIn (now (case .entry))) w ⌝ }
+{
+    table[1023 + w] as usize
+}

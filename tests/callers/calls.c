@@ -1,0 +1,278 @@
+/* Calls of lgs_place from C, each buffer between two pages that cannot be touched. Last line 'N passed, M failed'. */
+#define _GNU_SOURCE
+#include "lgs_place.h"
+
+#include <pthread.h>
+#include <stdio.h>
+#include <stdlib.h>
+#include <string.h>
+#include <sys/mman.h>
+
+static int passed, failed;
+
+static void check(int good, const char *what)
+{
+    if (good) {
+        passed++;
+    } else {
+        failed++;
+        printf("FAILED %s\n", what);
+    }
+}
+
+/* Example K of document 01. */
+enum { STUDENTS = 3, WORKSHOPS = 2, PAIRS = 6, RECORDS = STUDENTS + WORKSHOPS + PAIRS, SEATS = 2, VISITS = 4 };
+static const uint8_t K_CASE[16 * RECORDS] = {
+    1, 0, 1, 0, 1, 0, 2, 0, 0, 0, 0, 0, 0, 0, 0, 0,
+    1, 0, 2, 0, 2, 0, 2, 0, 0, 0, 0, 0, 0, 0, 0, 0,
+    1, 0, 3, 0, 2, 0, 2, 0, 0, 0, 0, 0, 0, 0, 0, 0,
+    2, 0, 1, 0, 1, 0, 3, 0, 0, 0, 0, 0, 0, 0, 0, 0,
+    2, 0, 2, 0, 1, 0, 3, 0, 0, 0, 0, 0, 0, 0, 0, 0,
+    3, 0, 1, 0, 1, 0, 1, 0, 1, 0, 0, 0, 0, 0, 0, 0,
+    3, 0, 1, 0, 2, 0, 1, 0, 1, 0, 0, 0, 0, 0, 0, 0,
+    3, 0, 2, 0, 1, 0, 1, 0, 2, 0, 0, 0, 0, 0, 0, 0,
+    3, 0, 2, 0, 2, 0, 1, 0, 2, 0, 0, 0, 0, 0, 0, 0,
+    3, 0, 3, 0, 1, 0, 1, 0, 2, 0, 0, 0, 0, 0, 0, 0,
+    3, 0, 3, 0, 2, 0, 2, 0, 2, 0, 0, 0, 0, 0, 0, 0,
+};
+static const uint8_t K_BOOK[8 * VISITS] = {
+    1, 0, 1, 0, 5, 0, 3, 0,
+    1, 0, 2, 0, 2, 0, 4, 0,
+    2, 0, 2, 0, 0xff, 0xff, 1, 0,
+    3, 0, 2, 0, 4, 0, 6, 0,
+};
+static const uint16_t K_PLACES[STUDENTS] = {1, 0, 2};
+static const uint16_t K_VISITS[2 * VISITS] = {1, 1, 1, 2, 2, 2, 3, 2};
+
+enum { PAGE = 4096, PAGES = 20, ROOM = PAGE * PAGES };
+
+/* Bytes that start right behind a forbidden page, or end right before one. */
+static void *guarded(size_t length, int at_end)
+{
+    uint8_t *all = mmap(NULL, ROOM + 2 * PAGE, PROT_NONE, MAP_PRIVATE | MAP_ANONYMOUS, -1, 0);
+    if (all == MAP_FAILED || length > ROOM || mprotect(all + PAGE, ROOM, PROT_READ | PROT_WRITE) != 0)
+        exit(2);
+    return at_end ? all + PAGE + ROOM - length : all + PAGE;
+}
+
+static void give_back(void *bytes, size_t length, int at_end)
+{
+    munmap((uint8_t *)bytes - PAGE - (at_end ? ROOM - length : 0), ROOM + 2 * PAGE);
+}
+
+/* Bytes within one page may not be written any more. */
+static void only_read(void *bytes, size_t length)
+{
+    uintptr_t page = (uintptr_t)bytes / PAGE * PAGE;
+    if (length > PAGE || mprotect((void *)page, length == 0 ? 0 : PAGE, PROT_READ) != 0)
+        exit(2);
+}
+
+/* What is lent in one call. */
+typedef struct {
+    const uint8_t *case_bytes, *book_bytes;
+    size_t case_length, book_length, places, visits, seats, index, states;
+} loan;
+
+/* What came back. */
+typedef struct {
+    lgs_report report;
+    uint16_t places[512], visits[8192];
+    int zero; /* all scratch is zero */
+} result;
+
+static int all_zero(const void *bytes, size_t length)
+{
+    const uint8_t *b = bytes;
+    for (size_t i = 0; i < length; i++)
+        if (b[i] != 0)
+            return 0;
+    return 1;
+}
+
+/* One call with every buffer at a forbidden page, full of 0xA5. */
+static result call(loan l, int at_end)
+{
+    const size_t size[7] = {l.case_length, l.book_length, 2 * l.places, 2 * l.visits, 2 * l.seats, 2 * l.index, 16 * l.states};
+    void *b[7];
+    for (int i = 0; i < 7; i++) {
+        b[i] = guarded(size[i], at_end);
+        memset(b[i], 0xA5, size[i]);
+    }
+    memcpy(b[0], l.case_bytes, l.case_length);
+    memcpy(b[1], l.book_bytes, l.book_length);
+    only_read(b[0], size[0]);
+    only_read(b[1], size[1]);
+    result r;
+    memset(&r, 0, sizeof r);
+    r.report = lgs_place(b[0], l.case_length, b[1], l.book_length, b[2], l.places, b[3], l.visits, b[4], l.seats, b[5], l.index, b[6], l.states);
+    memcpy(r.places, b[2], size[2]);
+    memcpy(r.visits, b[3], size[3]);
+    r.zero = all_zero(b[4], size[4]) && all_zero(b[5], size[5]) && all_zero(b[6], size[6]);
+    for (int i = 0; i < 7; i++)
+        give_back(b[i], size[i], at_end);
+    return r;
+}
+
+static int is(lgs_report r, uint64_t kind, uint64_t first, uint64_t second, uint64_t visits)
+{
+    return r.kind == kind && r.first == first && r.second == second && r.visits == visits;
+}
+
+/* The entries from `from` on are as they were lent. */
+static int as_lent(const uint16_t *entries, size_t from, size_t to)
+{
+    for (size_t i = from; i < to; i++)
+        if (entries[i] != 0xA5A5)
+            return 0;
+    return 1;
+}
+
+static loan exact(size_t book_records)
+{
+    return (loan){K_CASE, K_BOOK, sizeof K_CASE, 8 * book_records, STUDENTS, 2 * PAIRS, SEATS, PAIRS, STUDENTS};
+}
+
+/* The lengths that the header says always suffice. */
+static loan generous(size_t book_records)
+{
+    loan l = exact(book_records);
+    l.places = LGS_MOST_PLACES;
+    l.visits = 2 * (l.case_length / 16);
+    l.seats = LGS_MOST_SEATS;
+    l.index = l.case_length / 16;
+    l.states = LGS_MOST_STATES;
+    return l;
+}
+
+static void placement(loan l, int at_end)
+{
+    result r = call(l, at_end);
+    check(is(r.report, LGS_PLACED, 0, 0, VISITS), "K is placed");
+    check(memcmp(r.places, K_PLACES, sizeof K_PLACES) == 0 && as_lent(r.places, STUDENTS, l.places), "K's places");
+    check(memcmp(r.visits, K_VISITS, sizeof K_VISITS) == 0 && as_lent(r.visits, 2 * VISITS, l.visits), "K's visits");
+    check(r.zero, "scratch is zero after a placement");
+}
+
+static void next_visit(loan l, uint64_t student, uint64_t workshop, uint64_t visits, int at_end)
+{
+    result r = call(l, at_end);
+    check(is(r.report, LGS_NEXT, student, workshop, visits), "the next visit");
+    check(as_lent(r.places, 0, l.places), "a next visit leaves the places");
+    check(memcmp(r.visits, K_VISITS, 4 * visits) == 0 && as_lent(r.visits, 2 * visits, l.visits), "visits up to the next one");
+    check(r.zero, "scratch is zero after a next visit");
+}
+
+static void refusal(loan l, uint64_t number, uint64_t place, const char *what, int at_end)
+{
+    result r = call(l, at_end);
+    check(is(r.report, LGS_REFUSED, number, place, 0), what);
+    check(as_lent(r.places, 0, l.places) && as_lent(r.visits, 0, l.visits), "a refusal leaves places and visits");
+    check(r.zero, "scratch is zero after a refusal");
+}
+
+/* A copy of K's case or book with one byte changed. */
+static const uint8_t *changed(const uint8_t *bytes, size_t length, size_t at, uint8_t value)
+{
+    static uint8_t copy[16 * RECORDS];
+    memcpy(copy, bytes, length);
+    copy[at] = value;
+    return copy;
+}
+
+static void refusals(int at_end)
+{
+    loan l = exact(VISITS);
+    l.case_length = 15;
+    refusal(l, LGS_CASE_LENGTH, 0, "a case of 15 bytes", at_end);
+    l = exact(VISITS);
+    l.case_length = 0;
+    refusal(l, LGS_CASE_COUNTS, 0, "a case of 0 bytes", at_end);
+    l = exact(VISITS);
+    l.case_bytes = changed(K_CASE, sizeof K_CASE, 16 * 4 + 15, 1);
+    refusal(l, LGS_CASE_FORM, 4, "a byte that should be zero", at_end);
+    l.case_bytes = changed(K_CASE, sizeof K_CASE, 16 * 2 + 2, 4);
+    refusal(l, LGS_CASE_ORDER, 2, "a number out of sequence", at_end);
+    l.case_bytes = changed(K_CASE, sizeof K_CASE, 16 * 6 + 6, 66);
+    refusal(l, LGS_CASE_RANGE, 6, "a group out of range", at_end);
+    l = exact(VISITS);
+    l.book_length -= 1;
+    refusal(l, LGS_BOOK_LENGTH, 0, "a book of 31 bytes", at_end);
+    l = exact(VISITS);
+    l.book_bytes = changed(K_BOOK, sizeof K_BOOK, 8 * 3, 4);
+    refusal(l, LGS_BOOK_PAIR, 3, "a visit without its pair", at_end);
+    l.book_bytes = changed(K_BOOK, sizeof K_BOOK, 8 * 1 + 4, 0);
+    refusal(l, LGS_BOOK_MARK, 1, "a mark of 0", at_end);
+    l.book_bytes = changed(K_BOOK, sizeof K_BOOK, 8 * 1 + 2, 1);
+    refusal(l, LGS_BOOK_REPEATED, 1, "a pair twice", at_end);
+    l.book_bytes = changed(K_BOOK, sizeof K_BOOK, 8 * 3 + 6, 1);
+    refusal(l, LGS_BOOK_TIE, 3, "an equal mark", at_end);
+}
+
+/* Each buffer one entry short. */
+static void short_buffers(int at_end)
+{
+    loan l;
+    l = exact(VISITS), l.places -= 1, refusal(l, LGS_SHORT_BUFFER, 0, "places short", at_end);
+    l = exact(VISITS), l.visits -= 1, refusal(l, LGS_SHORT_BUFFER, 0, "visits short", at_end);
+    l = exact(VISITS), l.seats -= 1, refusal(l, LGS_SHORT_BUFFER, 0, "seats short", at_end);
+    l = exact(VISITS), l.index -= 1, refusal(l, LGS_SHORT_BUFFER, 0, "index short", at_end);
+    l = exact(VISITS), l.states -= 1, refusal(l, LGS_SHORT_BUFFER, 0, "states short", at_end);
+}
+
+/* The book is lent from the case's own bytes: its first 8 read as student 1, workshop 1, marks 1 and 2. */
+static void overlap(void)
+{
+    uint16_t places[STUDENTS], visits[2 * PAIRS], seats[SEATS], index[PAIRS];
+    lgs_student_state states[STUDENTS];
+    memset(places, 0, sizeof places), memset(visits, 0, sizeof visits), memset(seats, 0, sizeof seats);
+    memset(index, 0, sizeof index), memset(states, 0, sizeof states);
+    lgs_report r = lgs_place(K_CASE, sizeof K_CASE, K_CASE, 8, places, STUDENTS, visits, 2 * PAIRS, seats, SEATS, index, PAIRS, states, STUDENTS);
+    check(is(r, LGS_NEXT, 1, 2, 1), "case and book overlap");
+}
+
+/* Threads that call at the same time get what one alone gets. */
+static void *many_calls(void *number)
+{
+    size_t wrong = 0;
+    for (int i = 0; i < 200; i++) {
+        size_t held = ((size_t)i + *(size_t *)number) % (VISITS + 1);
+        result r = call(exact(held), i % 2);
+        wrong += held == VISITS ? !is(r.report, LGS_PLACED, 0, 0, VISITS)
+                                : !is(r.report, LGS_NEXT, K_VISITS[2 * held], K_VISITS[2 * held + 1], held);
+    }
+    *(size_t *)number = wrong;
+    return NULL;
+}
+
+static void threads(void)
+{
+    pthread_t thread[4];
+    size_t number[4];
+    for (size_t i = 0; i < 4; i++) {
+        number[i] = i;
+        if (pthread_create(&thread[i], NULL, many_calls, &number[i]) != 0)
+            exit(2);
+    }
+    for (size_t i = 0; i < 4; i++) {
+        pthread_join(thread[i], NULL);
+        check(number[i] == 0, "calls at the same time");
+    }
+}
+
+int main(void)
+{
+    for (int at_end = 0; at_end < 2; at_end++) {
+        placement(exact(VISITS), at_end);
+        placement(generous(VISITS), at_end);
+        next_visit(exact(0), 1, 1, 0, at_end);
+        next_visit(exact(2), 2, 2, 2, at_end);
+        next_visit(generous(3), 3, 2, 3, at_end);
+        refusals(at_end);
+        short_buffers(at_end);
+    }
+    overlap();
+    threads();
+    printf("%d passed, %d failed\n", passed, failed);
+    return failed != 0;
+}

@@ -1,0 +1,551 @@
+"""Tests of desk.py: example K to the byte, a year driven visit by visit, wrong inputs, a withdrawal.
+
+    python3 desk_tests.py DESK.PY PLACE
+"""
+import csv
+import io
+import os
+import random
+import resource
+import shutil
+import stat
+import subprocess
+import sys
+import tempfile
+
+DESK, PLACE = sys.argv[1], sys.argv[2]
+tally = {"passed": 0, "failed": 0}
+
+
+def check(name, good, detail=""):
+    tally["passed" if good else "failed"] += 1
+    if not good:
+        print(f"FAILED {name}\n{detail}")
+
+
+def desk(folder, *words, place=PLACE, first=None):
+    """Runs desk.py in the folder as a clerk does: status, what it printed, what it complained of."""
+    env = {**os.environ, "PLACE": place}
+    done = subprocess.run([sys.executable, DESK, *words], cwd=folder, env=env, capture_output=True, stdin=subprocess.DEVNULL, preexec_fn=first)
+    return done.returncode, done.stdout.decode(), done.stderr.decode()
+
+
+def read(folder, name):
+    with open(os.path.join(folder, name), "rb") as f:
+        return f.read()
+
+
+def write(folder, name, data):
+    with open(os.path.join(folder, name), "wb") as f:
+        f.write(data if isinstance(data, bytes) else data.encode())
+
+
+def add(folder, name, text):
+    write(folder, name, read(folder, name) + text.encode())
+
+
+def answers(name, given, wanted):
+    check(name, given == wanted, f"{given}\nwanted {wanted}")
+
+
+def new_files():
+    """The four files of `desk.py new`."""
+    with tempfile.TemporaryDirectory() as folder:
+        answers("new", desk(folder, "new"), (0, NEW_SAYS, ""))
+        return {name: read(folder, name) for name in os.listdir(folder)}
+
+
+NEW_FILES = {}
+NEW_SAYS = ("Wrote students.csv, workshops.csv, pairs.csv, visits.csv.\n"
+            "Put your own year in them with a spreadsheet, or try the example: python3 desk.py\n")
+
+
+def in_new_folder(test):
+    """Runs the test in a folder that has the example's four files."""
+    with tempfile.TemporaryDirectory() as folder:
+        for name, data in NEW_FILES.items():
+            write(folder, name, data)
+        test(folder)
+
+
+# ---------------------------------------------------------------- example K
+
+K_CASE = """
+01 00 01 00 01 00 02 00 00 00 00 00 00 00 00 00
+01 00 02 00 02 00 02 00 00 00 00 00 00 00 00 00
+01 00 03 00 02 00 02 00 00 00 00 00 00 00 00 00
+02 00 01 00 01 00 03 00 00 00 00 00 00 00 00 00
+02 00 02 00 01 00 03 00 00 00 00 00 00 00 00 00
+03 00 01 00 01 00 01 00 01 00 00 00 00 00 00 00
+03 00 01 00 02 00 01 00 01 00 00 00 00 00 00 00
+03 00 02 00 01 00 01 00 02 00 00 00 00 00 00 00
+03 00 02 00 02 00 01 00 02 00 00 00 00 00 00 00
+03 00 03 00 01 00 01 00 02 00 00 00 00 00 00 00
+03 00 03 00 02 00 02 00 02 00 00 00 00 00 00 00
+"""
+K_BOOK = """
+01 00 01 00 05 00 03 00
+01 00 02 00 02 00 04 00
+02 00 02 00 ff ff 01 00
+03 00 02 00 04 00 06 00
+"""
+K_VISITS = [("Anna Berg", "Dye house", 5, 3), ("Anna Berg", "Weaving mill", 2, 4),
+            ("Ben Olsen", "Weaving mill", -1, 1), ("Carla Roth", "Weaving mill", 4, 6)]
+K_PLACED = """The placement is finished.
+
+  Anna Berg   Dye house
+  Ben Olsen   no place
+  Carla Roth  Weaving mill
+
+Dye house, 1 of 1: Anna Berg
+Weaving mill, 1 of 1: Carla Roth
+
+Visits held for it: 4.
+"""
+
+
+def add_visits(folder, visits):
+    add(folder, "visits.csv", "".join(f"{s},{w},{a},{b}\r\n" for s, w, a, b in visits))
+
+
+def example_k(folder):
+    for done, (student, workshop, a, b) in enumerate(K_VISITS):
+        status, out, err = desk(folder)
+        check(f"K, {done} visits", status == 0 and out.startswith(f"Next visit: {student} goes to {workshop}.\n")
+              and out.endswith(f"Visits so far: {done}.\n"), out + err)
+        add_visits(folder, [(student, workshop, a, b)])
+    status, out, err = desk(folder)
+    answers("K placed", (status, out, err), (0, K_PLACED, ""))
+    check("K's case", read(folder, "case.dat") == bytes.fromhex(K_CASE), read(folder, "case.dat").hex(" "))
+    check("K's book", read(folder, "book.dat") == bytes.fromhex(K_BOOK), read(folder, "book.dat").hex(" "))
+    status, out, err = desk(folder, "next", "--visits")
+    check("K's visits", out == K_PLACED + "\nThe visits:\n" + "".join(f"  {s} at {w}\n" for s, w, _, _ in K_VISITS), out)
+
+
+def guide(folder):
+    """What the guide shows is what is printed."""
+    with open(os.path.join(os.path.dirname(DESK), "..", "docs", "GUIDE.md"), encoding="utf-8") as f:
+        text = f.read()
+    first = desk(folder)[1]
+    for file, content in (("pairs.csv", pairs("Ana Berg,Dye house,1,1\n\n\nBen Olsen,Weaving mill,two,2\nCarla Roth,Dye house,1,2\n\nCarla Roth,Dye house,1,2\n")),
+                          ("visits.csv", VISIT_HEAD + "Anna Berg,Dye house,5,3\nAnna Berg,Weaving mill,5,4\n")):
+        before = read(folder, file)
+        write(folder, file, content)
+        shows(text, desk(folder)[2])
+        write(folder, file, before)
+    for shown in (NEW_SAYS, first, K_PLACED):
+        shows(text, shown)
+
+
+def shows(text, printed):
+    block = "\n".join("    " + line if line else "" for line in printed.rstrip("\n").split("\n"))
+    check("the guide shows what is printed", f"\n\n{block}\n\n" in text, block)
+
+
+def other_spellings(folder):
+    """Semicolons, quotes, no byte order mark, other column order, other columns, empty rows, blanks, rows in any order."""
+    write(folder, "students.csv", '"Stage";"STUDENT";phone;"Line group"\n1;"Anna  Berg";;2\n2; Ben Olsen ;7;2\n\n"2";"Carla Roth";"8";"2"\n;;;\n')
+    pairs = read(folder, "pairs.csv").decode("utf-8-sig").split("\r\n")
+    write(folder, "pairs.csv", "\n".join([pairs[0]] + pairs[:0:-1]))
+    write(folder, "visits.csv", "student\tworkshop\tmark from student\tmark from workshop\n"
+          + "".join(f"{s}\t{w}\t{a}\t{b}\n" for s, w, a, b in K_VISITS).replace("-", "\u2212") + "Ben Olsen\tDye house\t\t\n")
+    status, out, err = desk(folder)
+    answers("other spellings", (status, out, err), (0, K_PLACED, ""))
+    check("other spellings: case", read(folder, "case.dat") == bytes.fromhex(K_CASE))
+    check("other spellings: book", read(folder, "book.dat") == bytes.fromhex(K_BOOK))
+
+
+def accents(folder):
+    """A letter with its accent as one sign in one file and as two in another."""
+    for name in ("students.csv", "pairs.csv"):
+        write(folder, name, read(folder, name).decode().replace("Anna Berg", "\u00c5se" if name == "pairs.csv" else "A\u030ase"))
+    status, out, err = desk(folder)
+    check("accents", out.startswith("Next visit: \u00c5se goes to Dye house.\n"), out + err)
+
+
+def planned_row(folder):
+    add(folder, "visits.csv", "Carla Roth,Dye house,,\r\nAnna Berg,Dye house,,\r\n")
+    status, out, err = desk(folder)
+    check("a planned row", "write both marks in visits.csv, row 3, save" in out, out + err)
+    check("planned rows are not in the book", read(folder, "book.dat") == b"")
+
+
+def unused_visit(folder):
+    add_visits(folder, [("Carla Roth", "Dye house", 7, 7)])
+    status, out, err = desk(folder)
+    check("a visit not called for", "Visits so far: 0.\nOther visits in visits.csv, not called for so far: 1.\n" in out, out + err)
+
+
+def stages_note(folder):
+    write(folder, "students.csv", "student,stage,line group\nAnna Berg,2,2\nBen Olsen,1,2\nCarla Roth,1,2\n")
+    status, out, err = desk(folder)
+    check("a note on the stages", "  Dye house: Anna Berg and Ben Olsen\n  Weaving mill: Anna Berg and Ben Olsen\n" in out, out + err)
+
+
+def withdrawal(folder):
+    """Ben leaves: his rows go. The others' visits stay as they are, and Carla has another number."""
+    add_visits(folder, K_VISITS)
+    desk(folder)
+    for name in ("students.csv", "pairs.csv", "visits.csv"):
+        lines = read(folder, name).decode().split("\r\n")
+        write(folder, name, "\r\n".join(line for line in lines if "Ben Olsen" not in line))
+    status, out, err = desk(folder)
+    check("a student withdrawn", "  Anna Berg   Dye house\n  Carla Roth  Weaving mill\n" in out and "Visits held for it: 3." in out, out + err)
+    check("without gaps", read(folder, "book.dat")[-8:] == bytes.fromhex("02 00 02 00 04 00 06 00"))
+    write(folder, "workshops.csv", "workshop,quota,line group\nDye house,0,3\nWeaving mill,1,3\n")
+    status, out, err = desk(folder)
+    check("a workshop with quota 0", "  Anna Berg   Weaving mill\n  Carla Roth  no place\n" in out, out + err)
+
+
+# ---------------------------------------------------------------- a year of 100 students and 20 workshops
+
+
+class HiddenYear:
+    """Full orders that nobody sees but through groups and marks. `None` is no place."""
+
+    def __init__(self, seed, students=100, workshops=20):
+        draw = random.Random(seed)
+        self.stage = {f'Berg, Åse "{n}"' if n % 7 == 0 else f"Student {n}": draw.randint(1, 3) for n in range(1, students + 1)}
+        self.quota = {f"Werkstatt; {n}" if n % 5 == 0 else f"Workshop {n}": draw.randint(0, 7) for n in range(1, workshops + 1)}
+        self.couples = {(s, w): None for s in self.stage for w in self.quota if draw.random() < 0.5}
+        self.order, self.group, self.line = {}, {}, {}
+        for s in self.stage:
+            self.rank(draw, s, [w for w in self.quota if (s, w) in self.couples], lambda w: draw.randint(1, 4), draw.randint(2, 5))
+        for w in self.quota:
+            self.rank(draw, w, [s for s in self.stage if (s, w) in self.couples], lambda s: self.stage[s], draw.randint(3, 4))
+        self.couples = list(self.couples)
+        draw.shuffle(self.couples)
+
+    def rank(self, draw, who, options, group_of, line):
+        """Groups for all options, and an order of them and None that keeps the groups."""
+        self.line[who] = line
+        for other in options:
+            self.group[who, other] = group_of(other)
+        all_options = options + [None]
+        draw.shuffle(all_options)
+        self.order[who] = sorted(all_options, key=lambda other: line if other is None else self.group[who, other])
+
+    def mark(self, who, other):
+        """Higher is better; 0 is where None stands."""
+        order = self.order[who]
+        return 3 * (order.index(None) - order.index(other))
+
+    def prefers(self, who, one, two):
+        return self.order[who].index(one) < self.order[who].index(two)
+
+    def stable(self, place):
+        """Nobody has too many, all are acceptable, and no two would rather have each other."""
+        held = {w: [s for s in self.stage if place[s] == w] for w in self.quota}
+        fits = all(len(held[w]) <= self.quota[w] for w in self.quota)
+        willing = all(place[s] is None or (self.prefers(s, place[s], None) and self.prefers(place[s], s, None)) for s in self.stage)
+        return fits and willing and not any(self.blocks(s, w, place, held) for s, w in self.couples)
+
+    def blocks(self, s, w, place, held):
+        wants = self.prefers(s, w, place[s]) and self.prefers(w, s, None)
+        return wants and (len(held[w]) < self.quota[w] or any(self.prefers(w, s, other) for other in held[w]))
+
+    def best_for_students(self):
+        """Students apply from the top of their orders, workshops keep the best."""
+        place, tried, hand = {s: None for s in self.stage}, {s: 0 for s in self.stage}, list(self.stage)
+        while hand:
+            s = hand.pop()
+            w = self.order[s][tried[s]]
+            tried[s] += 1
+            if w is None:
+                continue
+            place[s] = w
+            held = sorted((t for t in self.stage if place[t] == w), key=self.order[w].index)
+            drop = [t for n, t in enumerate(held) if n >= self.quota[w] or not self.prefers(w, t, None)]
+            for t in drop:
+                place[t] = None
+            hand += drop
+        return place
+
+
+def csv_text(rows):
+    text = io.StringIO()
+    csv.writer(text, delimiter=";").writerows(rows)
+    return text.getvalue()
+
+
+def write_year(folder, year):
+    write(folder, "students.csv", "\ufeff" + csv_text([("student", "stage", "line group")] + [(s, n, year.line[s]) for s, n in year.stage.items()]))
+    write(folder, "workshops.csv", csv_text([("workshop", "quota", "line group")] + [(w, n, year.line[w]) for w, n in year.quota.items()]))
+    rows = [(s, w, year.group[s, w], year.group[w, s]) for s, w in year.couples]
+    write(folder, "pairs.csv", csv_text([("student", "workshop", "group from student", "group from workshop")] + rows))
+    write(folder, "visits.csv", csv_text([("student", "workshop", "mark from student", "mark from workshop")]))
+
+
+def asked_for(out, year):
+    """The pair in the line 'Next visit: ..'."""
+    line = out.split("\n", 1)[0]
+    return next(((s, w) for s, w in year.couples if line == f"Next visit: {s} goes to {w}."), None)
+
+
+def placed_by(out, year):
+    """The placement in the lines between the two first empty ones."""
+    rows = out.split("\n\n")[1].split("\n")
+    places = {}
+    for (s, row) in zip(year.stage, rows):
+        w = row[2:].replace(s, "", 1).strip()
+        places[s] = w if w in year.quota else None
+    return places if len(rows) == len(year.stage) else None
+
+
+def drive(desk_once, folder, year):
+    """Holds visit after visit until the placement comes. The placement, and how many visits."""
+    held = set()
+    while True:
+        status, out, err = desk_once(folder)
+        if status == 0 and out.startswith("The placement is finished.\n"):
+            return out, held
+        couple = asked_for(out, year)
+        if couple is None or couple in held:
+            return out + err, None
+        held.add(couple)
+        s, w = couple
+        add(folder, "visits.csv", csv_text([(s, w, year.mark(s, w), year.mark(w, s))]))
+
+
+def whole_year(seed):
+    year = HiddenYear(seed)
+    with tempfile.TemporaryDirectory() as folder:
+        write_year(folder, year)
+        out, held = drive(InProcess().run, folder, year)
+        check(f"year {seed} ends", held is not None, out)
+        if held is None:
+            return
+        place = placed_by(out, year)
+        check(f"year {seed} is stable", year.stable(place), out)
+        check(f"year {seed} is the best for the students", place == year.best_for_students(), out)
+        check(f"year {seed} holds only visits that were called for", f"Visits held for it: {len(held)}.\n" in out, out)
+        check(f"year {seed}: the stages agree", "Note" not in out, out)
+        status, again, err = desk(folder)
+        check(f"year {seed} as a command", (status, again, err) == (0, out, ""), again + err)
+        print(f"year {seed}: {len(held)} of {len(year.couples)} pairs visited, {sum(w is not None for w in place.values())} of {len(place)} placed")
+
+
+class InProcess:
+    """desk.py without a new Python for each visit."""
+
+    def __init__(self):
+        sys.path.insert(0, os.path.dirname(DESK))
+        sys.dont_write_bytecode = True
+        import desk as module
+        self.module = module
+
+    def run(self, folder):
+        before = os.getcwd()
+        os.chdir(folder)
+        try:
+            return 0, "\n".join(self.module.answer(PLACE, False)) + "\n", ""
+        except self.module.Stop as stop:
+            return 1, "", str(stop)
+        finally:
+            os.chdir(before)
+
+
+# ---------------------------------------------------------------- wrong inputs
+
+END = "\nNothing was written. Correct this and run desk.py again.\n"
+VISIT_HEAD = "student,workshop,mark from student,mark from workshop\n"
+RANGE = "it must be a whole number from"
+
+
+def students(rows):
+    return "student,stage,line group\n" + rows
+
+
+def pairs(rows):
+    return "student,workshop,group from student,group from workshop\n" + rows
+
+
+# Name, file, its content, the message.
+WRONG = [
+    ("not UTF-8", "students.csv", students("Anna,1,2\n").encode() + b"J\xf6rg,1,2\n",
+     'students.csv, row 3: a letter is not stored as UTF-8. Save the file again as "CSV UTF-8".\n'),
+    ("an empty file", "students.csv", "", "students.csv, row 1: the headings are missing: student, stage, line group.\n"),
+    ("a heading missing", "students.csv", "student;line group\nAnna;2\n",
+     'students.csv, row 1: the column "stage" is missing. The headings are student, line group; needed are student, stage, line group.\n'),
+    ("a heading twice", "students.csv", "student,stage,stage,line group\nAnna,1,1,2\n",
+     'students.csv, row 1: the column "stage" is there twice. The headings are student, stage, stage, line group; needed are student, stage, line group.\n'),
+    ("an empty cell", "students.csv", students("Anna,,2\n"), f'students.csv, row 2, column "stage": the cell is empty; {RANGE} 1 to 512.{END}'),
+    ("a stage of 0", "students.csv", students("Anna,0,2\n"), f'students.csv, row 2, column "stage": "0" is there; {RANGE} 1 to 512.{END}'),
+    ("a word for a number", "students.csv", students("Anna,1,two\n"),
+     f'students.csv, row 2, column "line group": "two" is there; {RANGE} 1 to 65.{END}'),
+    ("two wrong rows", "students.csv", students("Anna,1.5,2\n\nBen,1,99999999999\n"),
+     f'students.csv, row 2, column "stage": "1.5" is there; {RANGE} 1 to 512.\n'
+     f'students.csv, row 4, column "line group": "99999999999" is there; {RANGE} 1 to 65.{END}'),
+    ("no name", "students.csv", students(",1,2\n"), f'students.csv, row 2, column "student": the name is missing.{END}'),
+    ("a name twice", "students.csv", students("Anna,1,2\nBen,1,2\nAnna ,1,2\n"),
+     f'students.csv, row 4, column "student": "Anna" stands in row 2 already. Two of the same name need something to tell them apart.{END}'),
+    ("no students", "students.csv", students(""),
+     f'students.csv, row 2, column "student": there is nobody. At least one row is needed below the headings.{END}'),
+    ("513 students", "students.csv", students("".join(f"S{n},1,2\n" for n in range(513))),
+     f"students.csv, row 514: there are 513 rows; 512 is the most.{END}"),
+    ("65 workshops", "workshops.csv", "workshop,quota,line group\n" + "".join(f"W{n},1,2\n" for n in range(65)),
+     f"workshops.csv, row 66: there are 65 rows; 64 is the most.{END}"),
+    ("a quota of 513", "workshops.csv", "workshop,quota,line group\nDye house,513,3\n",
+     f'workshops.csv, row 2, column "quota": "513" is there; {RANGE} 0 to 512.{END}'),
+    ("a name with a comma", "students.csv", students("Berg, Anna,1,2\n"),
+     f"students.csv, row 2: there are more cells than headings. A name with a comma or semicolon in it needs quotation marks around it.{END}"),
+    ("an open quotation mark", "pairs.csv", pairs('Anna Berg,Dye house,1,1\n"Ben Olsen,Dye house,1,2\n'),
+     "pairs.csv, row 3: a quotation mark is opened and not closed, or stands inside a cell.\n"),
+    ("a name that is not there", "pairs.csv", pairs("Ana Berg,dye house,1,1\nZoe,Dye house,1,1\n"),
+     'pairs.csv, row 2, column "student": there is no "Ana Berg" in students.csv. Did you mean "Anna Berg"?\n'
+     'pairs.csv, row 2, column "workshop": there is no "dye house" in workshops.csv. Did you mean "Dye house"?\n'
+     f'pairs.csv, row 3, column "student": there is no "Zoe" in students.csv.{END}'),
+    ("wrong rows in their order", "pairs.csv", pairs("Anna Berg,Dye house,1,two\nAnna Berg,Dye house,1,1\nBen,Dye house,0,1\n"),
+     f'pairs.csv, row 2, column "group from workshop": "two" is there; {RANGE} 1 to 513.\n'
+     "pairs.csv, row 3: Anna Berg and Dye house stand in row 2 already.\n"
+     'pairs.csv, row 4, column "student": there is no "Ben" in students.csv.\n'
+     f'pairs.csv, row 4, column "group from student": "0" is there; {RANGE} 1 to 65.{END}'),
+    ("many wrong rows", "students.csv", students("".join(f"S{n},0,1\n" for n in range(25))),
+     "".join(f'students.csv, row {n + 2}, column "stage": "0" is there; {RANGE} 1 to 512.\n' for n in range(20)) + f"and 5 more.{END}"),
+    ("a pair twice", "pairs.csv", pairs("Anna Berg,Dye house,1,1\nBen Olsen,Dye house,1,1\nAnna Berg,Dye house,2,1\n"),
+     f"pairs.csv, row 4: Anna Berg and Dye house stand in row 2 already.{END}"),
+    ("a group of 66", "pairs.csv", pairs("Anna Berg,Dye house,66,1\n"),
+     f'pairs.csv, row 2, column "group from student": "66" is there; {RANGE} 1 to 65.{END}'),
+    ("a group of 514", "pairs.csv", pairs("Anna Berg,Dye house,65,514\n"),
+     f'pairs.csv, row 2, column "group from workshop": "514" is there; {RANGE} 1 to 513.{END}'),
+    ("a visit without its pair", "pairs.csv", pairs("Anna Berg,Dye house,1,1\n"),
+     f"visits.csv, row 3: Anna Berg and Weaving mill have no row in pairs.csv.{END}"),
+    ("one mark missing", "visits.csv", VISIT_HEAD + "Anna Berg,Dye house,5,\n",
+     'visits.csv, row 2, column "mark from workshop": this mark is missing and the other is there. '
+     f"Fill in both, or none while the visit is not held.{END}"),
+    ("a mark of 0", "visits.csv", VISIT_HEAD + "Anna Berg,Dye house,0,3\n",
+     f'visits.csv, row 2, column "mark from student": "0" is there; {RANGE} -1000 to 1000, and not 0.{END}'),
+    ("a mark of 1001", "visits.csv", VISIT_HEAD + "Anna Berg,Dye house,5,1001\n",
+     f'visits.csv, row 2, column "mark from workshop": "1001" is there; {RANGE} -1000 to 1000, and not 0.{END}'),
+    ("a visit twice", "visits.csv", VISIT_HEAD + "Anna Berg,Dye house,5,3\n\nAnna Berg,Dye house,,\n",
+     f"visits.csv, row 4: Anna Berg and Dye house stand in row 2 already.{END}"),
+]
+
+# Refusals of the engine: name, visits.csv, the message.
+REFUSED = [
+    ("equal marks in two groups", VISIT_HEAD + "Anna Berg,Dye house,5,3\nCarla Roth,Dye house,5,3\nBen Olsen,Dye house,1,3\n",
+     "visits.csv, row 4: one person gave the same mark twice in one group. Ask which of the two is better, and change one mark.\n"
+     '  Dye house gave 3 in row 3 too, column "mark from workshop".\n'),
+    ("a student's mark twice", VISIT_HEAD + "Anna Berg,Dye house,5,3\nAnna Berg,Weaving mill,5,4\n",
+     "visits.csv, row 3: one person gave the same mark twice in one group. Ask which of the two is better, and change one mark.\n"
+     '  Anna Berg gave 5 in row 2 too, column "mark from student".\n'),
+    ("a workshop's mark twice", VISIT_HEAD + "Carla Roth,Dye house,5,3\n\nBen Olsen,Dye house,1,3\n",
+     "visits.csv, row 4: one person gave the same mark twice in one group. Ask which of the two is better, and change one mark.\n"
+     '  Dye house gave 3 in row 2 too, column "mark from workshop".\n'),
+]
+
+# What a program that is not `place` prints, and the message.
+PRINTED = [
+    ("refused 3 1", "students.csv, row 3: a number is out of sequence, or a pair names nobody.\n"),
+    ("refused 5 4", "workshops.csv, row 3: a stage, quota, group or line group is out of range.\n"),
+    ("refused 5 7", "pairs.csv, row 4: a stage, quota, group or line group is out of range.\n"),
+    ("refused 8 0", "visits.csv, row 2: this visit has no row in pairs.csv.\n"),
+    ("refused 4 0", "`place` refused the files, number 4: there is no student, no workshop, or too many of them.\n"),
+    ("refused 99 0", "`place` refused the files, number 99: desk.py does not know this number.\n"),
+    ("unread", "`place` could not read case.dat or book.dat in this folder.\n"),
+    ("hello", "`place` printed what desk.py does not know: hello\n"),
+    ("next 4 1", "`place` printed what desk.py does not know: next 4 1\n"),
+    ("visit 1 0", "`place` printed what desk.py does not know: visit 1 0\n"),
+    ("refused 5 11", "`place` refused the files, number 5: a stage, quota, group or line group is out of range.\n"),
+    ("place 1 1", "The answer of `place` was cut off. Run desk.py again.\n"),
+    ("next 1 1", "The answer of `place` was cut off. Run desk.py again.\n"),
+]
+
+
+def wrong_input(folder, name, file, content, message):
+    add_visits(folder, K_VISITS[:2])
+    write(folder, file, content)
+    for data in ("case.dat", "book.dat"):
+        write(folder, data, b"as it was")
+    before = {name: read(folder, name) for name in os.listdir(folder)}
+    status, out, err = desk(folder)
+    answers(name, (status, out, err), (1, "", message))
+    check(f"{name}: nothing is written", before == {name: read(folder, name) for name in os.listdir(folder)})
+
+
+def wrong_inputs():
+    for name, file, content, message in WRONG:
+        in_new_folder(lambda folder: wrong_input(folder, name, file, content, message))
+
+
+def too_many_pairs(folder):
+    write(folder, "students.csv", students("".join(f"S{n},1,2\n" for n in range(200))))
+    write(folder, "workshops.csv", "workshop,quota,line group\n" + "".join(f"W{n},1,2\n" for n in range(20)))
+    write(folder, "pairs.csv", pairs("".join(f"S{s},W{w},1,1\n" for s in range(200) for w in range(20))))
+    status, out, err = desk(folder)
+    check("too many pairs", err == "students.csv, workshops.csv and pairs.csv have 4220 rows together; 4096 is the most that the program takes.\n"
+          "Leave out pairs that cannot come about. Nothing was written.\n", out + err)
+
+
+def refusals(folder):
+    for name, visits, message in REFUSED:
+        write(folder, "visits.csv", visits)
+        answers(name, desk(folder), (1, "", message))
+
+
+def other_programs(folder):
+    fake = os.path.join(folder, "fake")
+    add_visits(folder, K_VISITS[:1])
+    for printed, message in PRINTED:
+        write(folder, "fake", f"#!/bin/sh\necho {printed}\n")
+        os.chmod(fake, stat.S_IRWXU)
+        answers(f"a program that prints {printed}", desk(folder, place=fake), (1, "", message))
+    write(folder, "fake", "#!/bin/sh\necho no such library >&2\nexit 3\n")
+    answers("a program that fails", desk(folder, place=fake), (1, "", f"{fake} ended with status 3. no such library\n"))
+    os.chmod(fake, 0)
+    answers("not allowed to run", desk(folder, place=fake)[2], f"{fake} may not be run. This allows it: chmod +x {fake}\n")
+    answers("no such program", desk(folder, "--place", "nobody")[2], f"There is no program {os.path.realpath(folder)}/nobody.\n")
+
+
+def finding_place(folder):
+    """Beside desk.py, on the PATH, nowhere."""
+    own = os.path.join(folder, "desk.py")
+    shutil.copy(DESK, own)
+    env = {name: value for name, value in os.environ.items() if name != "PLACE"}
+
+    def run(path):
+        done = subprocess.run([sys.executable, own], cwd=folder, env={**env, "PATH": path}, capture_output=True)
+        return done.stdout.decode() + done.stderr.decode()
+
+    with tempfile.TemporaryDirectory() as other:
+        shutil.copy(PLACE, os.path.join(other, "place"))
+        check("place on the PATH", run(other).startswith("Next visit: Anna Berg"), run(other))
+        answers("no place", run("/nowhere"), f"The program `place` was not found. Copy it to {os.path.realpath(folder)}/place, or name it: --place PATH.\n")
+    shutil.copy(PLACE, os.path.join(folder, "place"))
+    check("place beside desk.py", run("/nowhere").startswith("Next visit: Anna Berg"), run("/nowhere"))
+
+
+def other_folders(folder):
+    before = {name: read(folder, name) for name in os.listdir(folder)}
+    answers("new in a used folder", desk(folder, "new"),
+            (1, "", "students.csv and workshops.csv and pairs.csv and visits.csv are in this folder already. Nothing was written.\n"))
+    check("new leaves what is there", before == {name: read(folder, name) for name in os.listdir(folder)})
+    write(folder, "case.dat", b"as it was")
+    small_files = lambda: resource.setrlimit(resource.RLIMIT_FSIZE, (100, 100))
+    answers("no room for the whole case", desk(folder, first=small_files), (1, "", "case.dat and book.dat cannot be written in this folder: File too large.\n"))
+    check("the case is as it was", read(folder, "case.dat") == b"as it was" and len(os.listdir(folder)) == 5, str(os.listdir(folder)))
+    os.remove(os.path.join(folder, "case.dat"))
+    os.mkdir(os.path.join(folder, "case.dat"))
+    status, out, err = desk(folder)
+    answers("no way to write", err, "case.dat and book.dat cannot be written in this folder: Is a directory.\n")
+    check("nothing is left behind", sorted(os.listdir(folder)) == sorted(list(before) + ["case.dat"]), str(os.listdir(folder)))
+    os.remove(os.path.join(folder, "visits.csv"))
+    answers("a file is missing", desk(folder)[2], f"visits.csv is not in this folder ({os.path.realpath(folder)}). "
+          '"python3 desk.py new" writes an example to start from.\n')
+    with open("/dev/full", "wb") as full, tempfile.TemporaryDirectory() as empty:
+        done = subprocess.run([sys.executable, DESK, "new"], cwd=empty, stdout=full, stderr=subprocess.PIPE)
+        check("a full disk", (done.returncode, done.stderr) == (1, b"The answer could not be written: No space left on device.\n"))
+
+
+def main():
+    NEW_FILES.update(new_files())
+    for test in (example_k, guide, other_spellings, accents, planned_row, unused_visit, stages_note, withdrawal, too_many_pairs, refusals, other_programs, finding_place, other_folders):
+        in_new_folder(test)
+    wrong_inputs()
+    whole_year(1)
+    print(f"{tally['passed']} passed, {tally['failed']} failed")
+    return 1 if tally["failed"] else 0
+
+
+if __name__ == "__main__":
+    sys.exit(main())

@@ -1,0 +1,64 @@
+//! The C header: a C compiler takes it, and its types lie in memory as this package has them.
+
+use crate::lending::StudentState;
+use crate::tally::Tally;
+use std::io::Write;
+use std::mem::{offset_of, size_of};
+use std::process::{Command, Stdio};
+
+/// The prototype again, as this package calls the function, and the layouts.
+const PROGRAM: &str = r#"
+lgs_report lgs_place(const uint8_t *, size_t, const uint8_t *, size_t, uint16_t *, size_t, uint16_t *, size_t,
+                     uint16_t *, size_t, uint16_t *, size_t, lgs_student_state *, size_t);
+_Static_assert(sizeof(lgs_report) == 32, "report");
+_Static_assert(offsetof(lgs_report, first) == 8 && offsetof(lgs_report, second) == 16, "values");
+_Static_assert(offsetof(lgs_report, kind) == 0 && offsetof(lgs_report, visits) == 24, "kind and count");
+_Static_assert(LGS_PLACED == 0 && LGS_NEXT == 1 && LGS_REFUSED == 2, "kinds");
+"#;
+
+const HEADER: &str = concat!(env!("CARGO_MANIFEST_DIR"), "/../../include/lgs_place.h");
+
+pub fn run(tally: &mut Tally) {
+    let fields = [
+        (
+            "reached",
+            offset_of!(StudentState, reached),
+            size_of::<u32>(),
+        ),
+        ("held", offset_of!(StudentState, held), size_of::<u32>()),
+        ("openings", offset_of!(StudentState, open), size_of::<u64>()),
+    ];
+    let mut program = format!("#include \"{HEADER}\"\n{PROGRAM}");
+    program += &assertion("sizeof(lgs_student_state)", size_of::<StudentState>());
+    for (name, offset, size) in fields {
+        program += &assertion(&format!("offsetof(lgs_student_state, {name})"), offset);
+        program += &assertion(&format!("sizeof(((lgs_student_state *)0)->{name})"), size);
+    }
+    match compiles(&program) {
+        Ok(good) => tally.check(good, || "the header differs".to_string()),
+        Err(error) => tally.note(&format!("skipped, no C compiler: {error}")),
+    }
+}
+
+fn assertion(what: &str, number: usize) -> String {
+    format!("_Static_assert({what} == {number}, \"{what}\");\n")
+}
+
+fn compiles(program: &str) -> std::io::Result<bool> {
+    let mut compiler = Command::new("cc")
+        .args([
+            "-std=c11",
+            "-Wall",
+            "-Wextra",
+            "-Werror",
+            "-fsyntax-only",
+            "-xc",
+            "-",
+        ])
+        .stdin(Stdio::piped())
+        .spawn()?;
+    let mut input = compiler.stdin.take().expect("it is piped");
+    input.write_all(program.as_bytes())?;
+    drop(input);
+    Ok(compiler.wait()?.success())
+}

@@ -1,0 +1,616 @@
+#!/usr/bin/env python3
+"""The college desk's tool around the program `place`.
+
+    python3 desk.py new    writes students.csv, workshops.csv, pairs.csv and visits.csv with a small example
+    python3 desk.py        checks the four files and says whom to send where next, or who goes where
+
+It works in the current folder. It only reads the four files; from them it makes case.dat and book.dat, which `place` reads.
+The program is the one that --place or the variable PLACE names; else the one beside desk.py; else the one on the PATH.
+Exit status: 0 for an answer, 1 where something is to be corrected, 2 for a wrong command.
+Python 3.8 or later, no other packages.
+"""
+import argparse
+import csv
+import difflib
+import io
+import os
+import re
+import shutil
+import struct
+import subprocess
+import sys
+import unicodedata
+from dataclasses import dataclass, field
+
+# ---------------------------------------------------------------- the columns
+
+
+@dataclass
+class Name:
+    """A column with a name. `of` is the file that must have this name, if another one."""
+    heading: str
+    of: str = ""
+
+
+@dataclass
+class Number:
+    """A column with a whole number."""
+    heading: str
+    low: int
+    high: int
+    zero: bool = True
+
+
+STUDENTS, WORKSHOPS, PAIRS, VISITS = "students.csv", "workshops.csv", "pairs.csv", "visits.csv"
+
+# Each file's columns. Their order is that of the fields in the records of case.dat and book.dat (docs/FORMAT.md);
+# in the files the columns may stand in any order.
+COLUMNS = {
+    STUDENTS: [Name("student"), Number("stage", 1, 512), Number("line group", 1, 65)],
+    WORKSHOPS: [Name("workshop"), Number("quota", 0, 512), Number("line group", 1, 513)],
+    PAIRS: [Name("student", STUDENTS), Name("workshop", WORKSHOPS),
+            Number("group from student", 1, 65), Number("group from workshop", 1, 513)],
+    VISITS: [Name("student", STUDENTS), Name("workshop", WORKSHOPS),
+             Number("mark from student", -1000, 1000, zero=False), Number("mark from workshop", -1000, 1000, zero=False)],
+}
+MOST = {STUDENTS: 512, WORKSHOPS: 64}
+MOST_CASE_RECORDS = 4096    # case.dat has at most 65,536 bytes
+
+# What `desk.py new` writes: example K of document 01.
+EXAMPLE = {
+    STUDENTS: [("Anna Berg", 1, 2), ("Ben Olsen", 2, 2), ("Carla Roth", 2, 2)],
+    WORKSHOPS: [("Dye house", 1, 3), ("Weaving mill", 1, 3)],
+    PAIRS: [("Anna Berg", "Dye house", 1, 1), ("Anna Berg", "Weaving mill", 1, 1),
+            ("Ben Olsen", "Dye house", 1, 2), ("Ben Olsen", "Weaving mill", 1, 2),
+            ("Carla Roth", "Dye house", 1, 2), ("Carla Roth", "Weaving mill", 2, 2)],
+    VISITS: [],
+}
+
+# What each refusal of the engine means, and in which file its record is: "" where it names none.
+CASE_RECORDS = "case.dat"
+REFUSALS = {
+    1: ("", "the length of case.dat is no multiple of 16"),
+    2: (CASE_RECORDS, "a kind is not 1 to 3, or a byte that should be zero is not"),
+    3: (CASE_RECORDS, "a number is out of sequence, or a pair names nobody"),
+    4: ("", "there is no student, no workshop, or too many of them"),
+    5: (CASE_RECORDS, "a stage, quota, group or line group is out of range"),
+    6: ("", "a buffer of the program is too short"),
+    7: ("", "the length of book.dat is no multiple of 8"),
+    8: (VISITS, "this visit has no row in pairs.csv"),
+    9: (VISITS, "a mark is 0, below -1000 or above 1000"),
+    10: (VISITS, "this visit stands in an earlier row already"),
+    11: (VISITS, "one person gave the same mark twice in one group. Ask which of the two is better, and change one mark"),
+}
+
+# ---------------------------------------------------------------- what is wrong
+
+
+class Stop(Exception):
+    """Something is to be corrected; the text says what."""
+
+
+@dataclass
+class Problems:
+    """Wrong rows, told together."""
+    found: list = field(default_factory=list)    # file, row, text
+
+    def add(self, file, row, heading, text):
+        where = f"{file}, row {row}" + (f', column "{heading}"' if heading else "")
+        self.found.append((file, row, f"{where}: {text}"))
+
+    def has(self, file):
+        return any(problem[0] == file for problem in self.found)
+
+    def stop_if_any(self):
+        if self.found:
+            self.found.sort(key=lambda problem: (list(COLUMNS).index(problem[0]), problem[1]))
+            lines = [problem[2] for problem in self.found[:20]]
+            rest = [f"and {len(self.found) - 20} more."] if len(self.found) > 20 else []
+            raise Stop("\n".join(lines + rest + ["Nothing was written. Correct this and run desk.py again."]))
+
+
+# ---------------------------------------------------------------- reading the four files
+
+
+@dataclass
+class Row:
+    """A row of a file: its number as the spreadsheet counts (the heading is row 1), and its cells by heading."""
+    at: int
+    cells: dict
+
+
+def clean(text):
+    """Without blanks around it, and with one blank where there are several."""
+    return " ".join(unicodedata.normalize("NFC", text).split())
+
+
+def read_text(file):
+    """The text of a file as spreadsheets write it."""
+    try:
+        with open(file, "rb") as f:
+            data = f.read()
+    except FileNotFoundError:
+        raise Stop(f'{file} is not in this folder ({os.getcwd()}). "python3 desk.py new" writes an example to start from.')
+    except OSError as e:
+        raise Stop(f"{file} cannot be read: {e.strerror}.")
+    try:
+        return data.decode("utf-8-sig")
+    except UnicodeDecodeError as e:
+        row = data[:e.start].count(b"\n") + 1
+        raise Stop(f'{file}, row {row}: a letter is not stored as UTF-8. Save the file again as "CSV UTF-8".')
+
+
+def delimiter_of(text):
+    """Semicolon, comma or tab: the one that the heading row has most of."""
+    heading = text.split("\n", 1)[0]
+    return max(";,\t", key=heading.count)
+
+
+def read_cells(file):
+    """All rows as lists of cells, with their row numbers; rows without any text are left out."""
+    text = read_text(file)
+    lines = csv.reader(io.StringIO(text, newline=""), delimiter=delimiter_of(text), strict=True)
+    rows, at = [], 0
+    while True:
+        at += 1
+        try:
+            cells = [clean(cell) for cell in next(lines)]
+        except StopIteration:
+            return rows
+        except csv.Error:
+            raise Stop(f"{file}, row {at}: a quotation mark is opened and not closed, or stands inside a cell.")
+        if any(cells):
+            rows.append((at, cells))
+
+
+def read_headings(file, rows):
+    """At which place of a row each column stands. Columns that are not ours are left alone."""
+    if not rows or rows[0][0] != 1:
+        raise Stop(f"{file}, row 1: the headings are missing: {headings_of(file)}.")
+    found = [cell.lower() for cell in rows[0][1]]
+    places = {}
+    for column in COLUMNS[file]:
+        if found.count(column.heading) != 1:
+            how = "there twice" if column.heading in found else "missing"
+            seen = ", ".join(cell for cell in found if cell)
+            raise Stop(f'{file}, row 1: the column "{column.heading}" is {how}. The headings are {seen}; needed are {headings_of(file)}.')
+        places[column.heading] = found.index(column.heading)
+    return places, len(found)
+
+
+def headings_of(file):
+    return ", ".join(column.heading for column in COLUMNS[file])
+
+
+def read_rows(file, problems):
+    """The rows below the headings, each with the text of our columns."""
+    rows = read_cells(file)
+    places, width = read_headings(file, rows)
+    result = []
+    for at, cells in rows[1:]:
+        if any(cells[width:]):
+            problems.add(file, at, "", "there are more cells than headings. A name with a comma or semicolon in it needs quotation marks around it.")
+            continue
+        cells = cells + [""] * (width - len(cells))
+        result.append(Row(at, {heading: cells[place] for heading, place in places.items()}))
+    return result
+
+
+# ---------------------------------------------------------------- checking the rows
+
+
+def check_number(file, row, column, problems):
+    """Turns the cell's text into its number."""
+    text = row.cells[column.heading]
+    digits = text.replace("\u2212", "-")    # a minus sign as some spreadsheets write it
+    number = int(digits) if re.fullmatch(r"[+-]?[0-9]{1,9}", digits) else None
+    if number is None or not column.low <= number <= column.high or (number == 0 and not column.zero):
+        never = "" if column.zero else ", and not 0"
+        what = f'"{text}" is there' if text else "the cell is empty"
+        problems.add(file, row.at, column.heading, f"{what}; it must be a whole number from {column.low} to {column.high}{never}.")
+    row.cells[column.heading] = number
+
+
+def check_numbers(file, rows, problems):
+    for row in rows:
+        for column in COLUMNS[file]:
+            if isinstance(column, Number):
+                check_number(file, row, column, problems)
+
+
+def check_people(file, rows, problems):
+    """Students or workshops: each has a name, and no two have the same. Gives each name its number, from 1."""
+    heading = COLUMNS[file][0].heading
+    first = {}
+    for row in rows:
+        name = row.cells[heading]
+        if not name:
+            problems.add(file, row.at, heading, "the name is missing.")
+        elif name in first:
+            problems.add(file, row.at, heading, f'"{name}" stands in row {first[name]} already. Two of the same name need something to tell them apart.')
+        else:
+            first[name] = row.at
+    if not rows and not problems.has(file):
+        problems.add(file, 2, heading, "there is nobody. At least one row is needed below the headings.")
+    if len(rows) > MOST[file]:
+        problems.add(file, rows[MOST[file]].at, "", f"there are {len(rows)} rows; {MOST[file]} is the most.")
+    return {name: number for number, name in enumerate(first, 1)}
+
+
+def check_name(file, row, column, names, problems):
+    name = row.cells[column.heading]
+    if name in names[column.of]:
+        return True
+    text = f'there is no "{name}" in {column.of}.' if name else "the name is missing."
+    problems.add(file, row.at, column.heading, text + hint(name, names[column.of], problems))
+    return False
+
+
+def hint(name, names, problems):
+    """A name that looks like this one; not where so much is wrong that nobody reads it."""
+    by_small = {other.lower(): other for other in names}
+    near = difflib.get_close_matches(name.lower(), by_small, 1) if len(problems.found) < 20 else []
+    return f' Did you mean "{by_small[near[0]]}"?' if near else ""
+
+
+def check_couples(file, rows, names, problems):
+    """Pairs or visits: both names are known, and no two stand together twice. The rows by student and workshop."""
+    columns = [column for column in COLUMNS[file] if isinstance(column, Name)]
+    found = {}
+    for row in rows:
+        if not all([check_name(file, row, column, names, problems) for column in columns]):
+            continue
+        couple = couple_of(row)
+        if couple in found:
+            problems.add(file, row.at, "", f"{couple[0]} and {couple[1]} stand in row {found[couple].at} already.")
+        else:
+            found[couple] = row
+    return found
+
+
+def couple_of(row):
+    return row.cells["student"], row.cells["workshop"]
+
+
+def is_held(row, problems):
+    """A visit with both marks was held; one without marks is still to be held."""
+    marks = [column for column in COLUMNS[VISITS] if isinstance(column, Number)]
+    empty = [column for column in marks if not row.cells[column.heading]]
+    if len(empty) == 1:
+        problems.add(VISITS, row.at, empty[0].heading, "this mark is missing and the other is there. Fill in both, or none while the visit is not held.")
+    return not empty
+
+
+# ---------------------------------------------------------------- the year: all four files, checked
+
+
+@dataclass
+class Year:
+    students: list      # rows, the number of a student is her place in this list, from 1
+    workshops: list
+    pairs: list         # in the order of case.dat
+    visits: list        # those held
+    planned: dict       # those without marks, by student and workshop
+    names: dict         # by file: the number of each name
+
+    def student(self, number):
+        return self.students[number - 1].cells["student"]
+
+    def workshop(self, number):
+        return self.workshops[number - 1].cells["workshop"]
+
+
+def read_people(problems):
+    people, names = {}, {}
+    for file in (STUDENTS, WORKSHOPS):
+        people[file] = read_rows(file, problems)
+        names[file] = check_people(file, people[file], problems)
+        check_numbers(file, people[file], problems)
+    problems.stop_if_any()
+    return people[STUDENTS], people[WORKSHOPS], names
+
+
+def read_pairs(names, problems):
+    rows = read_rows(PAIRS, problems)
+    pairs = check_couples(PAIRS, rows, names, problems)
+    check_numbers(PAIRS, rows, problems)
+    problems.stop_if_any()
+    return pairs
+
+
+def read_visits(names, pairs, problems):
+    rows = read_rows(VISITS, problems)
+    visits = check_couples(VISITS, rows, names, problems)
+    for couple, row in visits.items():
+        if couple not in pairs:
+            problems.add(VISITS, row.at, "", f"{couple[0]} and {couple[1]} have no row in {PAIRS}.")
+    held, planned = [], {}
+    for row in rows:
+        if is_held(row, problems):
+            held.append(row)
+        else:
+            planned[couple_of(row)] = row
+    check_numbers(VISITS, held, problems)
+    problems.stop_if_any()
+    return held, planned
+
+
+def read_year():
+    problems = Problems()
+    students, workshops, names = read_people(problems)
+    by_couple = read_pairs(names, problems)
+    visits, planned = read_visits(names, by_couple, problems)
+    pairs = sorted(by_couple.values(), key=lambda row: numbers_of(row, PAIRS, names)[:2])
+    records = len(students) + len(workshops) + len(pairs)
+    if records > MOST_CASE_RECORDS:
+        raise Stop(f"{STUDENTS}, {WORKSHOPS} and {PAIRS} have {records} rows together; {MOST_CASE_RECORDS} is the most that the program takes.\n"
+                   "Leave out pairs that cannot come about. Nothing was written.")
+    return Year(students, workshops, pairs, visits, planned, names)
+
+
+# ---------------------------------------------------------------- case.dat and book.dat
+
+
+def numbers_of(row, file, names):
+    """The fields of a row in the order of the columns; a name becomes its number."""
+    return [names[column.of or file][row.cells[column.heading]] if isinstance(column, Name) else row.cells[column.heading]
+            for column in COLUMNS[file]]
+
+
+def case_record(kind, fields):
+    return struct.pack("<BB7H", kind, 0, *(fields + [0] * (7 - len(fields))))
+
+
+def case_bytes(year):
+    lists = [(1, STUDENTS, year.students), (2, WORKSHOPS, year.workshops), (3, PAIRS, year.pairs)]
+    return b"".join(case_record(kind, numbers_of(row, file, year.names)) for kind, file, rows in lists for row in rows)
+
+
+def book_bytes(year):
+    return b"".join(struct.pack("<HHhh", *numbers_of(row, VISITS, year.names)) for row in year.visits)
+
+
+def write_files(contents):
+    """Writes all files beside their places first, so that none is ever half written."""
+    parts = {name: f".{name}.{os.getpid()}" for name in contents}
+    try:
+        for name, part in parts.items():
+            with open(part, "wb") as f:
+                f.write(contents[name])
+                f.flush()
+                os.fsync(f.fileno())
+        for name, part in parts.items():
+            os.replace(part, name)
+    except OSError as e:
+        raise Stop(f"{' and '.join(contents)} cannot be written in this folder: {e.strerror}.")
+    finally:
+        for part in parts.values():
+            if os.path.exists(part):
+                os.remove(part)
+
+
+# ---------------------------------------------------------------- running `place`
+
+
+def find_place(option):
+    """The path of the program."""
+    beside = os.path.join(os.path.dirname(os.path.abspath(__file__)), "place")
+    named = option or os.environ.get("PLACE")
+    path = named or (beside if os.path.isfile(beside) else shutil.which("place"))
+    if not path:
+        raise Stop(f"The program `place` was not found. Copy it to {beside}, or name it: --place PATH.")
+    path = os.path.abspath(path)
+    if not os.path.isfile(path):
+        raise Stop(f"There is no program {path}.")
+    if not os.access(path, os.X_OK):
+        raise Stop(f"{path} may not be run. This allows it: chmod +x {path}")
+    return path
+
+
+def run_place(path):
+    """What the program prints."""
+    try:
+        done = subprocess.run([path], stdin=subprocess.DEVNULL, capture_output=True)
+    except OSError as e:
+        raise Stop(f"{path} cannot be run: {e.strerror}. It needs Linux on x86-64 (Intel or AMD).")
+    if done.returncode != 0:
+        said = done.stderr.decode("utf-8", "replace").strip()
+        raise Stop(f"{path} ended with status {done.returncode}. {said}")
+    return done.stdout.decode("ascii", "replace")
+
+
+@dataclass
+class Answer:
+    next: tuple = None          # student, workshop
+    refused: tuple = None       # number, place
+    places: list = field(default_factory=list)
+    visits: list = field(default_factory=list)
+
+
+def read_answer(text, year):
+    """The program's lines as numbers. Anything but a whole answer stops here; a line without its end does not count."""
+    answer, count = Answer(), None
+    for line in text.split("\n")[:-1]:
+        word, *numbers = line.split(" ")
+        if not is_known(word, numbers, year):
+            raise Stop(f"`place` printed what desk.py does not know: {line}")
+        numbers = tuple(int(number) for number in numbers)
+        if word == "visits":
+            count = numbers[0]
+        elif word == "visit":
+            answer.visits.append(numbers)
+        elif word == "place":
+            answer.places.append(numbers)
+        elif word == "next":
+            answer.next = numbers
+        else:
+            answer.refused = numbers
+    placed = not answer.next and len(answer.places) == len(year.students)
+    whole = answer.refused or (count == len(answer.visits) and (answer.next or placed))
+    if not whole:
+        raise Stop("The answer of `place` was cut off. Run desk.py again.")
+    return answer
+
+
+def is_known(word, numbers, year):
+    """A line of the program: a known word, with numbers of people that there are."""
+    if not all(re.fullmatch("[0-9]{1,9}", number) for number in numbers):
+        return False
+    if word == "visits":
+        return len(numbers) == 1
+    if word == "refused":
+        return len(numbers) == 2
+    lowest = 0 if word == "place" else 1    # workshop 0 is no place
+    return (word in ("place", "next", "visit") and len(numbers) == 2
+            and 1 <= int(numbers[0]) <= len(year.students) and lowest <= int(numbers[1]) <= len(year.workshops))
+
+
+# ---------------------------------------------------------------- telling the answer
+
+
+def tell_next(year, answer):
+    student, workshop = year.student(answer.next[0]), year.workshop(answer.next[1])
+    planned = year.planned.get((student, workshop))
+    where = f"in {VISITS}, row {planned.at}" if planned else f"in a new row of {VISITS}"
+    return [f"Next visit: {student} goes to {workshop}.",
+            f"When it was held, write both marks {where}, save, and run desk.py again.",
+            f"Visits so far: {len(answer.visits)}."] + tell_unused(year, answer)
+
+
+def tell_unused(year, answer):
+    unused = len(year.visits) - len(answer.visits)
+    return [f"Other visits in {VISITS}, not called for so far: {unused}."] if unused else []
+
+
+def tell_placement(year, answer):
+    goes = {year.student(s): year.workshop(w) if w else "no place" for s, w in answer.places}
+    width = max(len(name) for name in goes)
+    lines = ["The placement is finished.", ""] + [f"  {name:{width}}  {place}" for name, place in goes.items()] + [""]
+    for row in year.workshops:
+        name = row.cells["workshop"]
+        taken = [student for student, place in zip(goes, answer.places) if place[1] and year.workshop(place[1]) == name]
+        lines.append(f"{name}, {len(taken)} of {row.cells['quota']}: {', '.join(taken) or 'nobody'}")
+    return lines + ["", f"Visits held for it: {len(answer.visits)}."] + tell_unused(year, answer)
+
+
+def tell_visits(year, answer):
+    """The visits that the rule called for, in that order."""
+    return ["", "The visits:"] + [f"  {year.student(s)} at {year.workshop(w)}" for s, w in answer.visits]
+
+
+def disagreement(year, workshop):
+    """Two students whose stages do not go with their groups at this workshop."""
+    stage = {row.cells["student"]: row.cells["stage"] for row in year.students}
+    there = [row for row in year.pairs if row.cells["workshop"] == workshop.cells["workshop"]]
+    seen = sorted((row.cells["group from workshop"], stage[row.cells["student"]], row.cells["student"]) for row in there
+                  if workshop.cells["quota"] and row.cells["group from workshop"] <= workshop.cells["line group"])
+    for one, two in zip(seen, seen[1:]):
+        if (one[0] < two[0]) != (one[1] < two[1]):
+            return one[2], two[2]
+    return None
+
+
+def tell_stages(year):
+    """A note where the list of visits may be longer than needed."""
+    found = [(row.cells["workshop"], disagreement(year, row)) for row in year.workshops]
+    lines = [f"  {name}: {who[0]} and {who[1]}" for name, who in found if who]
+    if len(lines) > 3:
+        lines = lines[:3] + [f"  and {len(lines) - 3} more workshops"]
+    return lines and ["", "Note: at these workshops the stages do not agree with the groups, so more visits may be asked for than needed:"] + lines
+
+
+def explain_refusal(year, number, place):
+    """What the engine refused, with the row that it points to."""
+    where, words = REFUSALS.get(number, ("", "desk.py does not know this number"))
+    file, row = row_at(year, where, place)
+    if row is None:
+        return f"`place` refused the files, number {number}: {words}."
+    lines = equal_marks(year, row) if number == 11 else []
+    return "\n".join([f"{file}, row {row.at}: {words}."] + lines)
+
+
+def row_at(year, where, place):
+    """The row from which a record of case.dat or book.dat was made."""
+    lists = {CASE_RECORDS: [(STUDENTS, year.students), (WORKSHOPS, year.workshops), (PAIRS, year.pairs)], VISITS: [(VISITS, year.visits)]}
+    for file, rows in lists.get(where, []):
+        if place < len(rows):
+            return file, rows[place]
+        place -= len(rows)
+    return "", None
+
+
+def equal_marks(year, row):
+    """The earlier visits in which the same person gave the same mark in the same group."""
+    groups = {couple_of(pair): pair for pair in year.pairs}
+    lines = []
+    for who in ("student", "workshop"):
+        group, mark = f"group from {who}", f"mark from {who}"
+        for early in year.visits[:year.visits.index(row)]:
+            same_group = groups[couple_of(early)].cells[group] == groups[couple_of(row)].cells[group]
+            if early.cells[who] == row.cells[who] and early.cells[mark] == row.cells[mark] and same_group:
+                lines.append(f'  {row.cells[who]} gave {row.cells[mark]} in row {early.at} too, column "{mark}".')
+    return lines
+
+
+# ---------------------------------------------------------------- the commands
+
+
+def new(semicolon):
+    """Writes the four files with the example, where none of them is."""
+    there = [file for file in COLUMNS if os.path.exists(file)]
+    if there:
+        raise Stop(f"{' and '.join(there)} {'is' if len(there) == 1 else 'are'} in this folder already. Nothing was written.")
+    contents = {}
+    for file, rows in EXAMPLE.items():
+        text = io.StringIO()
+        writer = csv.writer(text, delimiter=";" if semicolon else ",")
+        writer.writerow([column.heading for column in COLUMNS[file]])
+        writer.writerows(rows)
+        contents[file] = text.getvalue().encode("utf-8-sig")
+    write_files(contents)
+    return [f"Wrote {', '.join(contents)}.", "Put your own year in them with a spreadsheet, or try the example: python3 desk.py"]
+
+
+def answer(place, list_visits):
+    """Checks the four files, runs the program, and tells its answer."""
+    year = read_year()
+    path = find_place(place)
+    write_files({"case.dat": case_bytes(year), "book.dat": book_bytes(year)})
+    text = run_place(path)
+    if text == "unread\n":
+        raise Stop("`place` could not read case.dat or book.dat in this folder.")
+    found = read_answer(text, year)
+    if found.refused:
+        raise Stop(explain_refusal(year, *found.refused))
+    lines = tell_next(year, found) if found.next else tell_placement(year, found)
+    return lines + (tell_visits(year, found) if list_visits else []) + tell_stages(year)
+
+
+def tell(lines):
+    """Prints the answer. A full disk, where it goes to a file, is told."""
+    try:
+        print("\n".join(lines), flush=True)
+    except OSError as e:
+        os.dup2(os.open(os.devnull, os.O_WRONLY), sys.stdout.fileno())
+        raise Stop(f"The answer could not be written: {e.strerror}.")
+
+
+def main():
+    parser = argparse.ArgumentParser(description=__doc__, formatter_class=argparse.RawDescriptionHelpFormatter)
+    parser.add_argument("command", nargs="?", default="next", choices=["next", "new"], help="next, the same as none, or new")
+    parser.add_argument("--place", metavar="PATH", help="the program `place`")
+    parser.add_argument("--visits", action="store_true", help="next: list the visits held, too")
+    parser.add_argument("--semicolon", action="store_true", help="new: semicolons between the cells, not commas")
+    options = parser.parse_args()
+    sys.stdout.reconfigure(errors="replace")
+    sys.stderr.reconfigure(errors="replace")
+    try:
+        tell(new(options.semicolon) if options.command == "new" else answer(options.place, options.visits))
+    except Stop as stop:
+        print(stop, file=sys.stderr)
+        return 1
+    return 0
+
+
+if __name__ == "__main__":
+    sys.exit(main())
