@@ -216,8 +216,10 @@ module _ (case : List ℕ) (n m : ℕ) (c : CleanCase case n m) where
                 let r = pair-says (entryAt book i .student) (entryAt book i .workshop) (rowAt case p) (q .pair) in
                 set-append-left (indexTo case book i) (replicate (lent - pairCount case) 0) (p - pairsFrom case) (i + 1) (omega (arith, index-length i, q .within))
                 ∙ ap (λ l. l ++ replicate (lent - pairCount case) 0)
-                (tabulate-set (λ k. numberIn book i (rowAt case (pairsFrom case + k))) (λ k. numberIn book (i + 1) (rowAt case (pairsFrom case + k))) (pairCount case) (p - pairsFrom case) (i + 1) (q .within)
-                (rw (e, r .1, r .2) (ap fromOne (scan-found (λ k. isInterview (entryAt book i .student) (entryAt book i .workshop) (entryAt book k)) i (i + 1) none-yet own (omega arith)) ∙ sym (add-one i)))
+                (tabulate-set (λ k. numberIn book i (rowAt case (pairsFrom case + k))) (λ k. numberIn book (i + 1) (rowAt case (pairsFrom case + k))) (pairCount case)
+                (p - pairsFrom case) (i + 1) (q .within)
+                (rw (e, r .1, r .2) (ap fromOne (scan-found (λ k. isInterview (entryAt book i .student) (entryAt book i .workshop) (entryAt book k)) i (i + 1) none-yet own
+                (omega arith)) ∙ sym (add-one i)))
                 (λ j a f. ap fromOne (scan-skip (λ k. isInterview (rowAt case (pairsFrom case + j) .first) (rowAt case (pairsFrom case + j) .second) (entryAt book k)) i (other j a f))))
 
             pub fill-on : Filled case book lent (i + 1) (set index (p - pairsFrom case) (i + 1))

@@ -102,7 +102,8 @@ module _ {cause : ℕ} {case book : List ℕ} {lent : ℕ} where
   module _ {s : Scan} {index : List ℕ} (h : Scanned cause case book lent s index) where
     module _ (l : 0 < s .left) where
       pub to-read : s .next + s .left ≡ entryCount book
-      to-read = ⊎-elim (λ (e : s .next + s .left ≡ entryCount book). e) (λ (e : (s .left ≡ 0) × (s .next < entryCount book) × (badBy cause case book (s .next) ≡ true)). absurd (omega (arith, e .0))) (h .place)
+      to-read = ⊎-elim (λ (e : s .next + s .left ≡ entryCount book). e) (λ (e : (s .left ≡ 0) × (s .next < entryCount book) × (badBy cause case book (s .next) ≡ true)). absurd
+          (omega (arith, e .0))) (h .place)
 
       pub comes : s .next < entryCount book
       comes = omega (arith, to-read)
@@ -119,8 +120,10 @@ module _ {cause : ℕ} {case book : List ℕ} {lent : ℕ} where
     pub scan-end : s .left ≡ 0 → s .next ≡ orEnd (entryCount book) (firstBad (badBy cause case book) (entryCount book))
     scan-end z =
         ⊎-elim
-        (λ (e : s .next + s .left ≡ entryCount book). let all : s .next ≡ entryCount book = omega (arith, e, z) in let o : firstBad (badBy cause case book) (entryCount book) ≡ none = rw all at (h .fine) in rw o all)
-        (λ (e : (s .left ≡ 0) × (s .next < entryCount book) × (badBy cause case book (s .next) ≡ true)). sym (rw (scan-found (badBy cause case book) (s .next) (entryCount book) (h .fine) (e .2) (e .1))))
+        (λ (e : s .next + s .left ≡ entryCount book). let all : s .next ≡ entryCount book = omega (arith, e, z) in
+        let o : firstBad (badBy cause case book) (entryCount book) ≡ none = rw all at (h .fine) in rw o all)
+        (λ (e : (s .left ≡ 0) × (s .next < entryCount book) × (badBy cause case book (s .next) ≡ true)). sym (rw (scan-found (badBy cause case book) (s .next) (entryCount book)
+        (h .fine) (e .2) (e .1))))
         (h .place)
 
     -- a record that passes by itself, in a scan that fills the index; its pair has record p

@@ -16,7 +16,8 @@ entry d = d .before .before .before .before .before .before .before .before .bef
 cleared : (d : tie.After-clear) → d .clear .last .0 ≡ replicate (length (entry d .args .index .now)) 0
 cleared d =
     d .clear .ensures
-    ∙ ap (λ k. replicate k 0) (d .before .before .before .before .scan-for2 .kept .1 .1 .1 .1 .1 .0 ∙ d .before .before .before .before .before .before .before .before .scan-for .kept .1 .1 .1 .1 .1 .0)
+    ∙ ap (λ k. replicate k 0) (d .before .before .before .before .scan-for2 .kept .1 .1 .1 .1 .1 .0
+    ∙ d .before .before .before .before .before .before .before .before .scan-for .kept .1 .1 .1 .1 .1 .0)
 
 entry-count-requires : tie.Need-entry-count-requires
 entry-count-requires c κs = search needs
@@ -25,7 +26,8 @@ scan-for-requires : tie.Need-scan-for-requires
 scan-for-requires c κs = let start = c .before .before .before .before .before in (start .pre .0, (start .pre .1 .0 .1, λ e. never refl e))
 
 scan-for-requires-2 : tie.Need-scan-for-requires-2
-scan-for-requires-2 c κs = let start = c .before .before .before .before .before .before .before .before .before in (start .pre .0, (omega (arith, start .pre .1 .0 .1, c .before .before .before .scan-for .kept .1 .1 .1 .1 .1 .0), λ e. never refl e))
+scan-for-requires-2 c κs = let start = c .before .before .before .before .before .before .before .before .before in
+    (start .pre .0, (omega (arith, start .pre .1 .0 .1, c .before .before .before .scan-for .kept .1 .1 .1 .1 .1 .0), λ e. never refl e))
 
 clear-requires : tie.Need-clear-requires
 clear-requires c κs = search needs
@@ -42,7 +44,9 @@ returns c =
     let d = c .before .before .before .before in
     let a = entry d .args in
     let count = d .before .before .before .before .before .before .before .before .before .before .entry-count in
-    let o = fault-pair (a .case .now) (a .book .now) (entry (d) .pre .1 .0 .0) (d .before .before .before .before .before .before .before .before .scan-for .result) (d .before .before .before .before .scan-for2 .result) (a .at) (d .before .before .before .before .before .before .before .before .scan-for .ensures .0) (d .before .before .before .before .scan-for2 .ensures .0) (entry (d) .pre .1 .1) (omega (arith, c .before .if1 .taken, count .ensures)) in
+    let o = fault-pair (a .case .now) (a .book .now) (entry (d) .pre .1 .0 .0) (d .before .before .before .before .before .before .before .before .scan-for .result)
+    (d .before .before .before .before .scan-for2 .result) (a .at) (d .before .before .before .before .before .before .before .before .scan-for .ensures .0)
+    (d .before .before .before .before .scan-for2 .ensures .0) (entry (d) .pre .1 .1) (omega (arith, c .before .if1 .taken, count .ensures)) in
     refused-with (a .case .now) (a .book .now) _ 8 _ _ _ _ o (c .refused .ensures) (cleared d)
 
 refused-requires-2 : tie.Need-refused-requires-2
@@ -57,7 +61,10 @@ returns-2 c =
     let d = c .before .before .before .before .before in
     let a = entry d .args in
     let count = d .before .before .before .before .before .before .before .before .before .before .entry-count in
-    let o = fault-score (a .case .now) (a .book .now) (entry (d) .pre .1 .0 .0) (d .before .before .before .before .before .before .before .before .scan-for .result) (d .before .before .before .before .scan-for2 .result) (a .at) (d .before .before .before .before .before .before .before .before .scan-for .ensures .0) (d .before .before .before .before .scan-for2 .ensures .0) (entry (d) .pre .1 .1) (omega (arith, c .before .before .if1 .left, count .ensures)) (omega (arith, c .before .if2 .taken, count .ensures)) in
+    let o = fault-score (a .case .now) (a .book .now) (entry (d) .pre .1 .0 .0) (d .before .before .before .before .before .before .before .before .scan-for .result)
+    (d .before .before .before .before .scan-for2 .result) (a .at) (d .before .before .before .before .before .before .before .before .scan-for .ensures .0)
+    (d .before .before .before .before .scan-for2 .ensures .0) (entry (d) .pre .1 .1) (omega (arith, c .before .before .if1 .left, count .ensures)) (omega
+    (arith, c .before .if2 .taken, count .ensures)) in
     refused-with (a .case .now) (a .book .now) _ 9 _ _ _ _ o (c .refused2 .ensures) (cleared d)
 
 refused-requires-3 : tie.Need-refused-requires-3
@@ -72,7 +79,10 @@ returns-3 c =
     let d = c .before .before .before .before .before in
     let a = entry d .args in
     let count = d .before .before .before .before .before .before .before .before .before .before .entry-count in
-    let o = fault-repeat (a .case .now) (a .book .now) (entry (d) .pre .1 .0 .0) (d .before .before .before .before .before .before .before .before .scan-for .result) (d .before .before .before .before .scan-for2 .result) (a .at) (d .before .before .before .before .before .before .before .before .scan-for .ensures .0) (d .before .before .before .before .scan-for2 .ensures .0) (entry (d) .pre .1 .1) (omega (arith, c .before .before .if1 .left, count .ensures)) (omega (arith, c .before .if2 .left, count .ensures)) in
+    let o = fault-repeat (a .case .now) (a .book .now) (entry (d) .pre .1 .0 .0) (d .before .before .before .before .before .before .before .before .scan-for .result)
+    (d .before .before .before .before .scan-for2 .result) (a .at) (d .before .before .before .before .before .before .before .before .scan-for .ensures .0)
+    (d .before .before .before .before .scan-for2 .ensures .0) (entry (d) .pre .1 .1) (omega (arith, c .before .before .if1 .left, count .ensures)) (omega
+    (arith, c .before .if2 .left, count .ensures)) in
     refused-with (a .case .now) (a .book .now) _ 10 _ _ _ _ o (c .refused3 .ensures) (cleared d)
 
 pub book-fault-spec : {M : Type 1} → statement M
