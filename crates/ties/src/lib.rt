@@ -131,7 +131,8 @@ fn interview_at(
 ) -> Interview
     requires { ⌜ Indexed (now case) (now book) (now index) from ⌝ }
     requires { ⌜ ((x : ℕ) × StandsAt student (now case) x y p) ⌝ }
-    ensures { λ r. ⌜ ((x : ℕ) → StandsAt student (now (case .entry)) x y p → (r .number ≡ numberOf student (now (book .entry)) x y) × (r .key ≡ keyOf student (now (case .entry)) (now (book .entry)) x y)) ⌝ }
+    ensures { λ r. ⌜ ((x : ℕ) → StandsAt student (now (case .entry)) x y p → (r .number ≡ numberOf student (now (book .entry)) x y) × (r .key ≡ keyOf student (now (case .entry))
+        (now (book .entry)) x y)) ⌝ }
 {
     let number = index[p - from];
     if number < 1 {
@@ -187,7 +188,8 @@ fn all_new(
     requires { ⌜ Indexed (now case) (now book) (now index) from ⌝ }
     requires { ⌜ (others ≤ 512) × (step ≤ 64) × (start < 65536) × (length (now seen) ≡ 256) ⌝ }
     requires { ⌜ ((x : ℕ) × StandFrom student (now case) x others start step) ⌝ }
-    ensures { λ r. ⌜ (r ≡ true → (x : ℕ) → StandFrom student (now (case .entry)) x others start step → Differ (λ k. keyOf student (now (case .entry)) (now (book .entry)) x (suc k)) others) ⌝ }
+    ensures { λ r. ⌜ (r ≡ true → (x : ℕ) → StandFrom student (now (case .entry)) x others start step
+        → Differ (λ k. keyOf student (now (case .entry)) (now (book .entry)) x (suc k)) others) ⌝ }
 {
     let mut p = start;
     let mut k = 0;

@@ -19,10 +19,9 @@ returns c =
     let e = c .before .before .before .before .args .e in
     let told = c .before .before .before .struct-told .given .1 .1 in
     rw (
-      bad-good (badScore (biased (e .«student_score»))) (c .before .before .good-score .result)
-          (rw (toZ-ofZ w16 (e .«student_score») (record { sfits = told .0 .1 })) at (c .before .before .good-score .ensures)),
-      bad-good (badScore (biased (e .«workshop_score»))) (c .good-score2 .result)
-          (rw (toZ-ofZ w16 (e .«workshop_score») (record { sfits = told .1 .0 .1 })) at (c .good-score2 .ensures)),
+      bad-good (badScore (biased (e .«student_score»))) (c .before .before .good-score .result) (rw (toZ-ofZ w16 (e .«student_score») (record { sfits = told .0 .1 })) at
+          (c .before .before .good-score .ensures)),
+      bad-good (badScore (biased (e .«workshop_score»))) (c .good-score2 .result) (rw (toZ-ofZ w16 (e .«workshop_score») (record { sfits = told .1 .0 .1 })) at (c .good-score2 .ensures)),
     )
 
 pub is-unscored-spec : {M : Type 1} → statement M

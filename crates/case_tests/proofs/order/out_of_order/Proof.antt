@@ -28,21 +28,25 @@ cast-second c = search needs
 
 returns : tie.Need-returns
 returns c =
-    let a = c .before .before .before .before .before .before .before .before .before .before .before .before .before .before .before .before .before .args in
+    let start = c .before .before .before .before .before .before .before .before .before .before .before .before .before .before .before .before .before in
+    let read = c .before .before .before .before .before .before .before .before .before .before .before .before .before .before .before in
+    let asked = c .before .before .before .before .before .before .before .before .before .before .before .before .before .before in
+    let last = c .before .before .before .before .before .before .before .before .before .before .before .before .before in
+    let a = start .args in
     let prev : rowAt (a .case .now) (a .i - 1) ≡ rowOf
-    (c .before .before .before .before .before .before .before .before .before .before .before .before .before .row-at2 .result) = ap
+    (last .row-at2 .result) = ap
     (rowAt (a .case .now)) (sym (c .before .before .before .before .before .before .before .before .before .before .before .before .before .before
-    .before2 .ensures)) ∙ sym (c .before .before .before .before .before .before .before .before .before .before .before .before .before .row-at2
+    .before2 .ensures)) ∙ sym (last .row-at2
     .ensures) in
-    let k : c .before .before .before .before .before .before .before .before .before .before .before .before .before .before .before .row-at .result
+    let k : read .row-at .result
     .kind ≡ 3 = eqb-true _ _ (and-left
-    (eqb (c .before .before .before .before .before .before .before .before .before .before .before .before .before .before .before .row-at
-    .result .kind) 3) (eqb (c .before .before .before .before .before .before .before .before .before .before .before .before .before .row-at2
+    (eqb (read .row-at
+    .result .kind) 3) (eqb (last .row-at2
     .result .kind) 3) (c .if1 .taken)) in
-    let j : c .before .before .before .before .before .before .before .before .before .before .before .before .before .row-at2 .result .kind ≡ 3 =
+    let j : last .row-at2 .result .kind ≡ 3 =
     eqb-true _ _ (and-right (eqb (c .before .before .before .before .before .before .before .before .before .before .before .before .before
     .before .before .row-at .result .kind) 3)
-    (eqb (c .before .before .before .before .before .before .before .before .before .before .before .before .before .row-at2 .result .kind) 3)
+    (eqb (last .row-at2 .result .kind) 3)
     (c .if1 .taken)) in
     rw (
       order-test (a .case .now) (a .i) (a .students) (a .workshops)
@@ -65,6 +69,10 @@ add-number-2 c = search needs
 
 returns-2 : tie.Need-returns-2
 returns-2 c =
+    let start = c .before .before .before .before .before .before .before .before .before .before .before .before .before .before .before .before .before .before .before .before .before .before in
+    let read = c .before .before .before .before .before .before .before .before .before .before .before .before .before .before .before .before .before .before .before .before in
+    let asked = c .before .before .before .before .before .before .before .before .before .before .before .before .before .before .before .before .before .before .before in
+    let last = c .before .before .before .before .before .before .before .before .before .before .before .before .before .before .before .before .before .before in
     let a = c .before .before .before .before .before .before .before .before .before .before .before .before .before .before .before .before .before
     .before .before .before .before .before .args in
     let prev : rowAt (a .case .now) (a .i - 1) ≡ rowOf
