@@ -4,7 +4,7 @@ use case_tests::refused;
 use reader::BookReader;
 use records::Entry;
 ghost use mathlib.Core.Path.{_≡_};
-ghost use mathlib.Core.Bool.{_||_};
+ghost use mathlib.Core.Bool.{cond, _||_};
 ghost use mathlib.Core.Option.{some};
 ghost use mathlib.Core.List.{List};
 ghost use Prim.Native.Nat.{ℕ, _+_, _%_, _^_, _≤_, _<_};
@@ -38,18 +38,24 @@ fn place_of(case: &[u8], students: usize, workshops: usize, e: Entry) -> usize
 fn is_unscored(e: Entry) -> bool
     ensures { λ v. ⌜ v ≡ (badScore (biased (e .«student_score»)) || badScore (biased (e .«workshop_score»))) ⌝ }
 {
-    !records::good_score(e.student_score) | !records::good_score(e.workshop_score)
+    if records::good_score(e.student_score) {
+        return !records::good_score(e.workshop_score);
+    }
+    true
+}
+
+fn only(pair: bool, unpaired: bool, unscored: bool) -> bool
+    ensures { λ v. ⌜ v ≡ cond pair unpaired unscored ⌝ }
+{
+    if pair { unpaired } else { unscored }
 }
 
 // What the cause tests by the record alone: 8 its pair, 9 its scores, and else both.
 fn fails(cause: u16, unpaired: bool, unscored: bool) -> bool
     ensures { λ v. ⌜ v ≡ failsBy cause unpaired unscored ⌝ }
 {
-    if cause == 8 {
-        return unpaired;
-    }
-    if cause == 9 {
-        return unscored;
+    if (cause == 8) | (cause == 9) {
+        return only(cause == 8, unpaired, unscored);
     }
     unpaired | unscored
 }
