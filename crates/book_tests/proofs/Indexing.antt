@@ -58,7 +58,8 @@ module _ (case book : List ℕ) (e : firstBad (badAny (rows case) (entries book)
 
   pub all-scored : firstBad (badScores (rows case) (entries book)) (entryCount book) ≡ none
   unfolding badAny
-  all-scored = none-second (badPair (rows case) (entries book)) (badScores (rows case) (entries book)) (badRepeat (rows case) (entries book)) (entryCount book) e
+  all-scored = none-second (badPair (rows case) (entries book)) (badScores (rows case) (entries book)) (badRepeat (rows case) (entries book))
+      (entryCount book) e
 
   pub all-fresh : firstBad (badRepeat (rows case) (entries book)) (entryCount book) ≡ none
   unfolding badAny
@@ -83,7 +84,8 @@ module _ (case : List ℕ) (n m : ℕ) (c : CleanCase case n m) where
     names : ((1 ≤ rowAt case (pairsFrom case + j) .first) × (rowAt case (pairsFrom case + j) .first ≤ 512))
         × ((1 ≤ rowAt case (pairsFrom case + j) .second) × (rowAt case (pairsFrom case + j) .second ≤ 64))
     names =
-        let r = pair-names case (clean case n m c) (pairsFrom case + j) inside (places case (clean case n m c) .pair (pairsFrom case + j) (omega arith) inside) in
+        let r = pair-names case (clean case n m c) (pairsFrom case + j) inside
+        (places case (clean case n m c) .pair (pairsFrom case + j) (omega arith) inside) in
         let f = few case n m c in
         ((r .0 .0, omega (arith, c .students, r .0 .1, f .0 .1)), (r .1 .0, omega (arith, c .workshops, r .1 .1, f .1 .1)))
 
@@ -110,7 +112,8 @@ module _ (case : List ℕ) (n m : ℕ) (c : CleanCase case n m) where
       let l : pairPlace case s w < rowCount case = ltb-true _ _ (sym (pair-any case s w) ∙ e) in
       let p : isPair s w (rowAt case (pairPlace case s w)) ≡ true =
       first-passes (λ i. isPair s w (rowAt case i)) (rowCount case) (pairPlace case s w) (end-some (λ i. isPair s w (rowAt case i)) (rowCount case) l) in
-      let f : pairsFrom case ≤ pairPlace case s w = pair-from case (clean case n m c) (pairPlace case s w) l (pair-says s w (rowAt case (pairPlace case s w)) p .0) in
+      let f : pairsFrom case ≤ pairPlace case s w = pair-from case (clean case n m c) (pairPlace case s w) l
+      (pair-says s w (rowAt case (pairPlace case s w)) p .0) in
       record { inside = l; pair = p; from = f; within = omega (arith, places case (clean case n m c) .whole) }
 
   module _ (book : List ℕ) where
@@ -136,7 +139,8 @@ module _ (case : List ℕ) (n m : ℕ) (c : CleanCase case n m) where
 
     pub lent-length : (i lent : ℕ) → pairCount case ≤ lent → length (lentIndex case book i lent) ≡ lent
     lent-length i lent l =
-        length-append (indexTo case book i) (replicate (lent - pairCount case) 0) ∙ omega (arith, index-length i, length-replicate {A = ℕ} (lent - pairCount case) 0)
+        length-append (indexTo case book i) (replicate (lent - pairCount case) 0) ∙ omega
+        (arith, index-length i, length-replicate {A = ℕ} (lent - pairCount case) 0)
 
     -- a record's pair is in the book already where the index has a number for it
     pub repeat-is : (i : ℕ) → i < entryCount book
@@ -176,7 +180,8 @@ module _ (case : List ℕ) (n m : ℕ) (c : CleanCase case n m) where
             omega (arith, a, tally-le positive (indexTo case book i), index-length i, tally-none positive 0 (lent - pairCount case) refl)
 
         module _ (l : i < entryCount book) (p : ℕ) (q : Placed case (entryAt book i .student) (entryAt book i .workshop) p) where
-          numbered : getD index (p - pairsFrom case) 0 ≡ fromOne (firstBad (λ k. isInterview (entryAt book i .student) (entryAt book i .workshop) (entryAt book k)) i)
+          numbered : getD index (p - pairsFrom case) 0 ≡ fromOne
+              (firstBad (λ k. isInterview (entryAt book i .student) (entryAt book i .workshop) (entryAt book k)) i)
           numbered = ap (λ l. getD l (p - pairsFrom case) 0) (h .filled) ∙ index-at i lent (entryAt book i .student) (entryAt book i .workshop) p q
 
           pub fill-inside : p - pairsFrom case < length index
@@ -188,7 +193,8 @@ module _ (case : List ℕ) (n m : ℕ) (c : CleanCase case n m) where
               or-right (badPair (rows case) (entries book) i) _
               (or-right (badScores (rows case) (entries book) i) _ (repeat-is i l ∙ rw (← numbered, ne-eqb (getD index (p - pairsFrom case) 0) 0 f)))
 
-          module _ (paired : badPair (rows case) (entries book) i ≡ false) (scored : badScores (rows case) (entries book) i ≡ false) (z : getD index (p - pairsFrom case) 0 ≡ 0) where
+          module _ (paired : badPair (rows case) (entries book) i ≡ false) (scored : badScores (rows case) (entries book) i ≡ false)
+              (z : getD index (p - pairsFrom case) 0 ≡ 0) where
             none-yet : firstBad (λ k. isInterview (entryAt book i .student) (entryAt book i .workshop) (entryAt book k)) i ≡ none
             none-yet = number-none (λ k. isInterview (entryAt book i .student) (entryAt book i .workshop) (entryAt book k)) i (sym numbered ∙ z)
 
@@ -214,13 +220,17 @@ module _ (case : List ℕ) (n m : ℕ) (c : CleanCase case n m) where
             more =
                 let e : pairsFrom case + (p - pairsFrom case) ≡ p = omega (arith, q .from) in
                 let r = pair-says (entryAt book i .student) (entryAt book i .workshop) (rowAt case p) (q .pair) in
-                set-append-left (indexTo case book i) (replicate (lent - pairCount case) 0) (p - pairsFrom case) (i + 1) (omega (arith, index-length i, q .within))
+                set-append-left (indexTo case book i) (replicate (lent - pairCount case) 0) (p - pairsFrom case) (i + 1)
+                (omega (arith, index-length i, q .within))
                 ∙ ap (λ l. l ++ replicate (lent - pairCount case) 0)
-                (tabulate-set (λ k. numberIn book i (rowAt case (pairsFrom case + k))) (λ k. numberIn book (i + 1) (rowAt case (pairsFrom case + k))) (pairCount case)
+                (tabulate-set (λ k. numberIn book i (rowAt case (pairsFrom case + k))) (λ k. numberIn book (i + 1) (rowAt case (pairsFrom case + k)))
+                (pairCount case)
                 (p - pairsFrom case) (i + 1) (q .within)
-                (rw (e, r .1, r .2) (ap fromOne (scan-found (λ k. isInterview (entryAt book i .student) (entryAt book i .workshop) (entryAt book k)) i (i + 1) none-yet own
+                (rw (e, r .1, r .2) (ap fromOne
+                (scan-found (λ k. isInterview (entryAt book i .student) (entryAt book i .workshop) (entryAt book k)) i (i + 1) none-yet own
                 (omega arith)) ∙ sym (add-one i)))
-                (λ j a f. ap fromOne (scan-skip (λ k. isInterview (rowAt case (pairsFrom case + j) .first) (rowAt case (pairsFrom case + j) .second) (entryAt book k)) i (other j a f))))
+                (λ j a f. ap fromOne (scan-skip
+                (λ k. isInterview (rowAt case (pairsFrom case + j) .first) (rowAt case (pairsFrom case + j) .second) (entryAt book k)) i (other j a f))))
 
             pub fill-on : Filled case book lent (i + 1) (set index (p - pairsFrom case) (i + 1))
             unfolding badAny
@@ -229,5 +239,6 @@ module _ (case : List ℕ) (n m : ℕ) (c : CleanCase case n m) where
                   inside = omega arith;
                   filled = ap (λ l. set l (p - pairsFrom case) (i + 1)) (h .filled) ∙ more;
                   fine = scan-on (badAny (rows case) (entries book)) i (h .fine) (rw (paired, scored) (repeat-is i l ∙ rw none-yet));
-                  used = tally-set positive 0 index (p - pairsFrom case) (i + 1) fill-inside (rw z) (rw (ne-eqb (i + 1) 0 (λ e. omega arith))) ∙ rw (h .used) (sym (add-one i));
+                  used = tally-set positive 0 index (p - pairsFrom case) (i + 1) fill-inside (rw z) (rw (ne-eqb (i + 1) 0 (λ e. omega arith))) ∙ rw
+                      (h .used) (sym (add-one i));
                 }

@@ -52,7 +52,8 @@ all-parts false false a b d f = refl
 pub fills-any : (cause : ℕ) (case book : List ℕ) (i : ℕ) → Fills cause → badBy cause case book i ≡ badAny (rows case) (entries book) i
 unfolding badBy
 fills-any cause case book i f =
-    all-parts (eqb cause 8) (eqb cause 9) (badPair (rows case) (entries book) i) (badScores (rows case) (entries book) i) (badAny (rows case) (entries book) i) f
+    all-parts (eqb cause 8) (eqb cause 9) (badPair (rows case) (entries book) i) (badScores (rows case) (entries book) i)
+    (badAny (rows case) (entries book) i) f
 
 -- ---- record i of the book, as it was read
 module _ (case book : List ℕ) (i : ℕ) (l : i < entryCount book) (e : Entry) (q : entryOf e ≡ entryAt book i) where
@@ -88,7 +89,8 @@ module _ (case book : List ℕ) (i : ℕ) (l : i < entryCount book) (e : Entry) 
 
 -- ---- the scan after it
 module _ {cause : ℕ} {case book : List ℕ} {lent : ℕ} where
-  pub scan-start : {n m : ℕ} {index : List ℕ} → CleanCase case n m → pairCount case ≤ lent → length index ≡ lent → (Fills cause → index ≡ replicate (length index) 0)
+  pub scan-start : {n m : ℕ} {index : List ℕ} → CleanCase case n m → pairCount case ≤ lent → length index ≡ lent →
+      (Fills cause → index ≡ replicate (length index) 0)
       → (s : Scan) → s .next ≡ 0 → s .left ≡ entryCount book → Scanned cause case book lent s index
   unfolding firstBad
   scan-start {n} {m} {index} clean room long zero s a b =
@@ -102,7 +104,8 @@ module _ {cause : ℕ} {case book : List ℕ} {lent : ℕ} where
   module _ {s : Scan} {index : List ℕ} (h : Scanned cause case book lent s index) where
     module _ (l : 0 < s .left) where
       pub to-read : s .next + s .left ≡ entryCount book
-      to-read = ⊎-elim (λ (e : s .next + s .left ≡ entryCount book). e) (λ (e : (s .left ≡ 0) × (s .next < entryCount book) × (badBy cause case book (s .next) ≡ true)). absurd
+      to-read = ⊎-elim (λ (e : s .next + s .left ≡ entryCount book). e)
+          (λ (e : (s .left ≡ 0) × (s .next < entryCount book) × (badBy cause case book (s .next) ≡ true)). absurd
           (omega (arith, e .0))) (h .place)
 
       pub comes : s .next < entryCount book
@@ -111,7 +114,8 @@ module _ {cause : ℕ} {case book : List ℕ} {lent : ℕ} where
       pub scan-stop : badBy cause case book (s .next) ≡ true → Scanned cause case book lent (stoppedAt s) index
       scan-stop e = record { fine = h .fine; place = inr (refl, comes, e); long = h .long; filled = h .filled }
 
-      pub scan-move : {after : List ℕ} → badBy cause case book (s .next) ≡ false → length after ≡ lent → (Fills cause → Filled case book lent (s .next + 1) after)
+      pub scan-move : {after : List ℕ} → badBy cause case book (s .next) ≡ false → length after ≡ lent →
+          (Fills cause → Filled case book lent (s .next + 1) after)
           → Scanned cause case book lent (movedOn s) after
       scan-move e long filled =
           record { fine = scan-on (badBy cause case book) (s .next) (h .fine) e; place = inl (omega (arith, to-read)); long = long; filled = filled }
@@ -122,7 +126,8 @@ module _ {cause : ℕ} {case book : List ℕ} {lent : ℕ} where
         ⊎-elim
         (λ (e : s .next + s .left ≡ entryCount book). let all : s .next ≡ entryCount book = omega (arith, e, z) in
         let o : firstBad (badBy cause case book) (entryCount book) ≡ none = rw all at (h .fine) in rw o all)
-        (λ (e : (s .left ≡ 0) × (s .next < entryCount book) × (badBy cause case book (s .next) ≡ true)). sym (rw (scan-found (badBy cause case book) (s .next) (entryCount book)
+        (λ (e : (s .left ≡ 0) × (s .next < entryCount book) × (badBy cause case book (s .next) ≡ true)). sym
+        (rw (scan-found (badBy cause case book) (s .next) (entryCount book)
         (h .fine) (e .2) (e .1))))
         (h .place)
 
@@ -150,7 +155,8 @@ module _ {cause : ℕ} {case book : List ℕ} {lent : ℕ} where
           → Scanned cause case book lent (movedOn s) (set index (p - from) (s .next + 1))
       step-fill from e parts z =
           let on : Filled case book lent (s .next + 1) (set index (p - pairsFrom case) (s .next + 1)) =
-          fill-on case n m clean book lent room (s .next) index (h .filled f) (comes l) p placed (parts .0) (parts .1) (sym (ap (λ k. getD index (p - k) 0) e) ∙ z) in
+          fill-on case n m clean book lent room (s .next) index (h .filled f) (comes l) p placed (parts .0) (parts .1)
+          (sym (ap (λ k. getD index (p - k) 0) e) ∙ z) in
           rw e
           (scan-move l (fills-any cause case book (s .next) f ∙ none-fails (badAny (rows case) (entries book)) (s .next + 1) (on .fine) (s .next) (omega arith))
           (fill-length case n m clean book lent room (s .next + 1) (set index (p - pairsFrom case) (s .next + 1)) on) (λ _. on))

@@ -44,7 +44,8 @@ returns c =
     let d = c .before .before .before .before in
     let a = entry d .args in
     let count = d .before .before .before .before .before .before .before .before .before .before .entry-count in
-    let o = fault-pair (a .case .now) (a .book .now) (entry (d) .pre .1 .0 .0) (d .before .before .before .before .before .before .before .before .scan-for .result)
+    let o = fault-pair (a .case .now) (a .book .now) (entry (d) .pre .1 .0 .0)
+    (d .before .before .before .before .before .before .before .before .scan-for .result)
     (d .before .before .before .before .scan-for2 .result) (a .at) (d .before .before .before .before .before .before .before .before .scan-for .ensures .0)
     (d .before .before .before .before .scan-for2 .ensures .0) (entry (d) .pre .1 .1) (omega (arith, c .before .if1 .taken, count .ensures)) in
     refused-with (a .case .now) (a .book .now) _ 8 _ _ _ _ o (c .refused .ensures) (cleared d)
@@ -61,7 +62,8 @@ returns-2 c =
     let d = c .before .before .before .before .before in
     let a = entry d .args in
     let count = d .before .before .before .before .before .before .before .before .before .before .entry-count in
-    let o = fault-score (a .case .now) (a .book .now) (entry (d) .pre .1 .0 .0) (d .before .before .before .before .before .before .before .before .scan-for .result)
+    let o = fault-score (a .case .now) (a .book .now) (entry (d) .pre .1 .0 .0)
+    (d .before .before .before .before .before .before .before .before .scan-for .result)
     (d .before .before .before .before .scan-for2 .result) (a .at) (d .before .before .before .before .before .before .before .before .scan-for .ensures .0)
     (d .before .before .before .before .scan-for2 .ensures .0) (entry (d) .pre .1 .1) (omega (arith, c .before .before .if1 .left, count .ensures)) (omega
     (arith, c .before .if2 .taken, count .ensures)) in
@@ -79,7 +81,8 @@ returns-3 c =
     let d = c .before .before .before .before .before in
     let a = entry d .args in
     let count = d .before .before .before .before .before .before .before .before .before .before .entry-count in
-    let o = fault-repeat (a .case .now) (a .book .now) (entry (d) .pre .1 .0 .0) (d .before .before .before .before .before .before .before .before .scan-for .result)
+    let o = fault-repeat (a .case .now) (a .book .now) (entry (d) .pre .1 .0 .0)
+    (d .before .before .before .before .before .before .before .before .scan-for .result)
     (d .before .before .before .before .scan-for2 .result) (a .at) (d .before .before .before .before .before .before .before .before .scan-for .ensures .0)
     (d .before .before .before .before .scan-for2 .ensures .0) (entry (d) .pre .1 .1) (omega (arith, c .before .before .if1 .left, count .ensures)) (omega
     (arith, c .before .if2 .left, count .ensures)) in

@@ -1,7 +1,9 @@
--- `book_tests::scan_on` meets its contract: a walk of its MIR, by hand. One reader, in a local, goes over the book: in each turn the local is lent to `take` for a lifetime that
+-- `book_tests::scan_on` meets its contract: a walk of its MIR, by hand. One reader, in a local, goes over the book: in each turn the local is lent to
+-- `take` for a lifetime that
 -- the turn makes, and is taken back,
 -- and the index is lent again to `step`, which is covered. The index's borrow stays shut; of the case and the book, which are `&`, each turn passes a copy.
--- The invariant of the loop is a list of items, `At t`, over the variant t, a record (`Here`) that has what changes from turn to turn, with what is known of it: `Scanned`.
+-- The invariant of the loop is a list of items, `At t`, over the variant t, a record (`Here`) that has what changes from turn to turn, with what is
+-- known of it: `Scanned`.
 -- All that the proof knows of `take` and `step` is that they meet their contracts.
 -- Assumes nothing.
 use mathlib.Core.Path.{_≡_, refl, sym, ap, _∙_, subst}
@@ -27,10 +29,12 @@ use ghost.Atoms.{Atoms, sem}
 use contract.BorrowLft.{meet-⊑-right}
 use contract.Monad.{Fun, fact}
 use contract.Running.{givenOf, tables, tablesOf}
-use types.Kit.{Given, Item, ‵, raw, some, later, _⊛_, ⋆, _$_, _∵_, !, qed, by, move, keep, drop, use1, use2, use3, group, split, join, pick, await, rewrite, fsplit, fjoin, fpick}
+use types.Kit.{Given, Item, ‵, raw, some, later, _⊛_, ⋆, _$_, _∵_, !, qed, by, move, keep, drop, use1, use2, use3, group, split, join, pick, await}
+use types.Kit.{rewrite, fsplit, fjoin, fpick}
 use types.Kit.{fpack, feqL, suffices, frame, done, Sq, runs, anyQ, atRet}
 use types.Part.{agg, whole, sub, look-in}
-use types.Run.{look, init, store, forget, stop, hop, fld, from, load, addr, lit, of-opd, bin, and-then, no-more, assigns, assigns-last, land, first, blocks, stays, leaves-loop}
+use types.Run.{look, init, store, forget, stop, hop, fld, from, load, addr, lit, of-opd, bin, and-then, no-more, assigns, assigns-last, land, first}
+use types.Run.{blocks, stays, leaves-loop}
 use types.Run.{loops, again, Below, exec, returns, enter, alloc1, alloc0, params1, pass1, pass0, free1, free0}
 use types.SemTy.{Body}
 use types.Tokens.{lft-new}
@@ -54,7 +58,8 @@ use denote.Triple.Spec.{Meets, tripleOf}
 use denote.Triple.Statement.{Contract, Triple}
 use denote.Triple.Clauses.{Lasts, lasts}
 use denote.Triple.Table.{entered, cited}
-use denote.Triple.Walked.{says, needs, Stays, stay-slice, stay-none-slice, stay-none, walkOf, goes-slice, goes-none-slice, goes-none, Walks, ends-at, walked, walk-meets}
+use denote.Triple.Walked.{says, needs, Stays, stay-slice, stay-none-slice, stay-none, walkOf, goes-slice, goes-none-slice, goes-none, Walks, ends-at}
+use denote.Triple.Walked.{walked, walk-meets}
 use Rattle.walks.proofs.Calls.{calls-out}
 use Rattle.walks.proofs.Again.{LentAgain, lends-on, back-on}
 use Rattle.format.specs.Layout.{entryAt, entryCount}
@@ -132,10 +137,13 @@ ref p l = record { ptr = (p .b, p .o); name = p .γ; now = l }
 abbrev sv : {X : Type 0} → Spot → List X → Val
 sv p l = sliceVal (p .b, p .o) (length l)
 
-module _ {M : Type 1} (𝓤 : URA M) (H : Heap 𝓤) (A : Atoms 𝓤) (W : Given 𝓤 H A) (at-mem : Memory → SProp 𝓤) (run : Routine → Fun 𝓤) (κ₀ κ₁ κ₂ : Lft) (q₀ q₁ q₂ : Share) (p₀ p₁ p₂ : Spot)
+module _ {M : Type 1} (𝓤 : URA M) (H : Heap 𝓤) (A : Atoms 𝓤) (W : Given 𝓤 H A) (at-mem : Memory → SProp 𝓤) (run : Routine → Fun 𝓤) (κ₀ κ₁ κ₂ : Lft)
+    (q₀ q₁ q₂ : Share) (p₀ p₁ p₂ : Spot)
     (cause : ℕ) (case book : List ℕ) (students workshops : ℕ) (index : List ℕ) (start : Scan)
-    (cause-fits : cause < 2 ^ 16) (students-fits : students < 2 ^ 64) (workshops-fits : workshops < 2 ^ 64) (start-is : Is S.the-row start (S′.lowered start ∷ []))
-    (room₀ : Room u8 (length case)) (room₁ : Room u8 (length book)) (room₂ : Room u16 (length index)) (ok : ScanReady cause case book students workshops start index) where
+    (cause-fits : cause < 2 ^ 16) (students-fits : students < 2 ^ 64) (workshops-fits : workshops < 2 ^ 64)
+    (start-is : Is S.the-row start (S′.lowered start ∷ []))
+    (room₀ : Room u8 (length case)) (room₁ : Room u8 (length book)) (room₂ : Room u16 (length index))
+    (ok : ScanReady cause case book students workshops start index) where
   abbrev κs : (Lft × (Lft × (Lft × Unit {0})))
   κs = (κ₀, (κ₁, (κ₂, tt)))
 
@@ -150,7 +158,13 @@ module _ {M : Type 1} (𝓤 : URA M) (H : Heap 𝓤) (A : Atoms 𝓤) (W : Given
 
   -- the machine values, which stay
   abbrev at : Vals scan-on.signature κs
-  at = (vint w16 cause ∷ [], (sv p₀ case ∷ [], (sv p₁ book ∷ [], (vint w64 students ∷ [], (vint w64 workshops ∷ [], (sv p₂ index ∷ [], (S′.lowered start ∷ [], tt)))))))
+  at = (
+    vint w16 cause ∷ [],
+    (
+      sv p₀ case ∷ [],
+      (sv p₁ book ∷ [], (vint w64 students ∷ [], (vint w64 workshops ∷ [], (sv p₂ index ∷ [], (S′.lowered start ∷ [], tt))))),
+    ),
+  )
 
   abbrev Post : Val → SProp 𝓤
   Post = walkOf 𝓤 H A scan-on.ended stayed (scan-on.clauses 𝓤 H A at-mem run) .post ((κs, qs, tt, x, at), tt)
@@ -213,7 +227,8 @@ module _ {M : Type 1} (𝓤 : URA M) (H : Heap 𝓤) (A : Atoms 𝓤) (W : Given
   abbrev cell-of : BookReader → Val
   cell-of d = LL.val (T.the-type α) (T′.the-laws α) d
 
-  lies-in : (k l : ℕ) → ent 𝓤 (sep 𝓤 (sem 𝓤 H A (fat fullShare (T′.mir erased) l 0 (cell-of (reader-at k)))) (sem 𝓤 H A (R .own (reader-at k) (T′.lowered (reader-at k) ∷ []))))
+  lies-in : (k l : ℕ) → ent 𝓤 (sep 𝓤 (sem 𝓤 H A (fat fullShare (T′.mir erased) l 0 (cell-of (reader-at k))))
+      (sem 𝓤 H A (R .own (reader-at k) (T′.lowered (reader-at k) ∷ []))))
       (sem 𝓤 H A (mem R .lies (reader-at k) l 0))
   unfolding partOf
   lies-in k l =
@@ -233,13 +248,24 @@ module _ {M : Type 1} (𝓤 : URA M) (H : Heap 𝓤) (A : Atoms 𝓤) (W : Given
   lent k l δ = record { ptr = (l, 0); name = δ; now = reader-at k }
 
   abbrev to-take : ℕ → ℕ → ℕ → GName → Take 𝓤 H A at-mem run .Ghost
-  to-take k a l δ = (((a ∷ κ₁, (κ₁, tt)), (PosShare·right q₁, (PosShare·left q₁, tt)), (meet-⊑-right (a ∷ []) κ₁, tt), (lent k l δ, tt), (vptr l 0 ∷ [], tt)), tt)
+  to-take k a l δ = (
+    (
+      (a ∷ κ₁, (κ₁, tt)),
+      (PosShare·right q₁, (PosShare·left q₁, tt)),
+      (meet-⊑-right (a ∷ []) κ₁, tt),
+      (lent k l δ, tt),
+      (vptr l 0 ∷ [], tt),
+    ),
+    tt,
+  )
 
   take-goes : (k a l : ℕ) (δ : GName) → k < entryCount book
-      → ent 𝓤 (sep 𝓤 (sem 𝓤 H A (MutRef (named 0) (a ∷ κ₁) R .own (lent k l δ) (vptr l 0 ∷ []))) (sep 𝓤 (A .lft (a ∷ κ₁) (PosShare·right q₁)) (A .lft κ₁ (PosShare·left q₁))))
+      → ent 𝓤 (sep 𝓤 (sem 𝓤 H A (MutRef (named 0) (a ∷ κ₁) R .own (lent k l δ) (vptr l 0 ∷ [])))
+      (sep 𝓤 (A .lft (a ∷ κ₁) (PosShare·right q₁)) (A .lft κ₁ (PosShare·left q₁))))
       (Take 𝓤 H A at-mem run .pre (to-take k a l δ))
   take-goes k a l δ inside =
-      qed W (‵ (MutRef (named 0) (a ∷ κ₁) R .own (lent k l δ) (vptr l 0 ∷ [])) ∷ ‵ (flft (a ∷ κ₁) (PosShare·right q₁)) ∷ ‵ (flft κ₁ (PosShare·left q₁)) ∷ []) ∵ says ! inside $
+      qed W (‵ (MutRef (named 0) (a ∷ κ₁) R .own (lent k l δ) (vptr l 0 ∷ [])) ∷ ‵ (flft (a ∷ κ₁) (PosShare·right q₁)) ∷ ‵
+      (flft κ₁ (PosShare·left q₁)) ∷ []) ∵ says ! inside $
       nothing ! $ move ! (3 ∷ 0 ∷ []) $ join ! $ move ! (2 ∷ 0 ∷ []) $ join ! $ frame ! $ nothing ! $ move ! (1 ∷ 0 ∷ []) $ fjoin ! $ done !
 
   -- what is had once it has returned r
@@ -247,7 +273,8 @@ module _ {M : Type 1} (𝓤 : URA M) (H : Heap 𝓤) (A : Atoms 𝓤) (W : Given
   Took k r d = (entryOf r ≡ entryAt book k) × ((d .book ≡ ref p₁ book) × (d .next ≡ k + 1))
 
   abbrev TakeFin : ℕ → ℕ → ℕ → GName → Entry → Item 𝓤
-  TakeFin k a l δ r = some (λ (ws : Lasts take.ended (a ∷ κ₁, (κ₁, tt)) (lent k l δ, tt)). ‵ (lasts take.ended (a ∷ κ₁, (κ₁, tt)) (lent k l δ, tt) ws) ⊛ raw (fact 𝓤 (Took k r (ws .0))))
+  TakeFin k a l δ r = some (λ (ws : Lasts take.ended (a ∷ κ₁, (κ₁, tt)) (lent k l δ, tt)). ‵
+      (lasts take.ended (a ∷ κ₁, (κ₁, tt)) (lent k l δ, tt) ws) ⊛ raw (fact 𝓤 (Took k r (ws .0))))
 
   moved-on : (k : ℕ) (r : Entry) (d : BookReader) → Took k r d → d ≡ reader-at (k + 1)
   moved-on k r d e = λ i. record { book = e .1 .0 i; next = e .1 .1 i }
@@ -291,7 +318,8 @@ module _ {M : Type 1} (𝓤 : URA M) (H : Heap 𝓤) (A : Atoms 𝓤) (W : Given
   abbrev Asks : List ℕ → Entry → Scan → Type 0
   Asks us e st = RecordReady cause case students workshops e st us
 
-  step-goes : (ν : ℕ) (δ : GName) (us : List ℕ) (e : Entry) (st : Scan) → Is E.the-row e (E′.lowered e ∷ []) → Is S.the-row st (S′.lowered st ∷ []) → Asks us e st
+  step-goes : (ν : ℕ) (δ : GName) (us : List ℕ) (e : Entry) (st : Scan) → Is E.the-row e (E′.lowered e ∷ []) → Is S.the-row st (S′.lowered st ∷ [])
+      → Asks us e st
       → ent 𝓤 (⋆ 𝓤 H A (Case ∷ ‵ (flft κ₀ q₀) ∷ Lent ν δ us ∷ ‵ (flft (ν ∷ []) fullShare) ∷ [])) (StepOf 𝓤 H A at-mem run .pre (to-step ν δ us e st))
   step-goes ν δ us e st is-e is-st asks =
       qed W (Case ∷ ‵ (flft κ₀ q₀) ∷ Lent ν δ us ∷ ‵ (flft (ν ∷ []) fullShare) ∷ []) ∵ says ! asks $
@@ -305,10 +333,12 @@ module _ {M : Type 1} (𝓤 : URA M) (H : Heap 𝓤) (A : Atoms 𝓤) (W : Given
 
   -- what is had once it has returned r
   abbrev Says : List ℕ → Entry → Scan → Scan → List ℕ → Type 0
-  Says us e st r us′ = Advanced st r × ((b : List ℕ) → Scanned cause case b (length us) st us → entryOf e ≡ entryAt b (st .next) → Scanned cause case b (length us) r us′)
+  Says us e st r us′ = Advanced st r ×
+      ((b : List ℕ) → Scanned cause case b (length us) st us → entryOf e ≡ entryAt b (st .next) → Scanned cause case b (length us) r us′)
 
   abbrev StepFin : ℕ → GName → List ℕ → Entry → Scan → Scan → Item 𝓤
-  StepFin ν δ us e st r = some (λ (ws : Lasts step.ended (κ₀, (ν ∷ [], tt)) (passed δ us e st)). ‵ (lasts step.ended (κ₀, (ν ∷ [], tt)) (passed δ us e st) ws) ⊛ raw (fact 𝓤
+  StepFin ν δ us e st r = some (λ (ws : Lasts step.ended (κ₀, (ν ∷ [], tt)) (passed δ us e st)). ‵
+      (lasts step.ended (κ₀, (ν ∷ [], tt)) (passed δ us e st) ws) ⊛ raw (fact 𝓤
       (Says us e st r (ws .1 .1 .1 .1 .1 .1 .0))))
 
   -- ---- the loop
@@ -340,7 +370,8 @@ module _ {M : Type 1} (𝓤 : URA M) (H : Heap 𝓤) (A : Atoms 𝓤) (W : Given
     fits = next-fits t l;
     is = is;
     here = λ m. ap (λ k. k + 1) (t .here l) ∙ sym (f .0 .on m);
-    known = subst (λ k. Scanned cause case book k r us′) (t .len) (f .1 book (subst (λ k. Scanned cause case book k (t .st) (t .us)) (sym (t .len)) (t .known)) (q
+    known = subst (λ k. Scanned cause case book k r us′) (t .len)
+        (f .1 book (subst (λ k. Scanned cause case book k (t .st) (t .us)) (sym (t .len)) (t .known)) (q
         ∙ ap (entryAt book) (t .here l)));
   }
 
@@ -362,7 +393,8 @@ module _ {M : Type 1} (𝓤 : URA M) (H : Heap 𝓤) (A : Atoms 𝓤) (W : Given
         read = q ∙ ap (entryAt book) (t .here l);
       }
 
-  module _ (𝓣 : Tables 𝓤 H) (known-take : Triple 𝓤 (𝓣 .C #reader·take) (Take 𝓤 H A at-mem run)) (known-step : Triple 𝓤 (𝓣 .C #book-tests·step) (StepOf 𝓤 H A at-mem run))
+  module _ (𝓣 : Tables 𝓤 H) (known-take : Triple 𝓤 (𝓣 .C #reader·take) (Take 𝓤 H A at-mem run))
+      (known-step : Triple 𝓤 (𝓣 .C #book-tests·step) (StepOf 𝓤 H A at-mem run))
       (l₀ l₁ l₂ l₃ l₄ l₅ l₆ l₇ l₈ l₉ l₁₀ l₁₁ l₁₂ l₁₃ l₁₄ l₁₅ : ℕ) where
     abbrev C : Calls 𝓤 H
     C = 𝓣 .C
@@ -371,18 +403,23 @@ module _ {M : Type 1} (𝓤 : URA M) (H : Heap 𝓤) (A : Atoms 𝓤) (W : Given
     Λ = 𝓣 .Λ
 
     abbrev En : Env 𝓤 H
-    En = (S′.mir, l₀) ∷ (tyInt w16, l₁) ∷ (bytes-ty 0, l₂) ∷ (bytes-ty 1, l₃) ∷ (tyInt w64, l₄) ∷ (tyInt w64, l₅) ∷ (index-ty, l₆) ∷ (S′.mir, l₇) ∷ (T′.mir erased, l₈)
+    En = (S′.mir, l₀) ∷ (tyInt w16, l₁) ∷ (bytes-ty 0, l₂) ∷ (bytes-ty 1, l₃) ∷ (tyInt w64, l₄) ∷ (tyInt w64, l₅) ∷ (index-ty, l₆) ∷ (S′.mir, l₇) ∷
+        (T′.mir erased, l₈)
         ∷ (S′.mir, l₉) ∷ (E′.mir, l₁₀) ∷ (S′.mir, l₁₁) ∷ (tyBool, l₁₂) ∷ (lent-ty, l₁₃) ∷ (entry-ty, l₁₄) ∷ (sliceTy entry-ty, l₁₅) ∷ []
 
     -- [the index; its token; the case; its token; the book; its token; the reader in _8; _15; …; _9; …; that _8 dies; _7; …; room for _0; …]
     abbrev At : Here → List (Item 𝓤)
     At t = Index (t .us) ∷ ‵ (flft κ₂ q₂) ∷ Case ∷ ‵ (flft κ₀ q₀) ∷ Book ∷ ‵ (flft κ₁ q₁) ∷ ‵ (fat fullShare (T′.mir erased) l₈ 0 (cell-of (reader-at (t .n))))
-        ∷ ‵ (froom (sliceTy entry-ty) l₁₅ 0) ∷ ‵ (fdies (sliceTy entry-ty) l₁₅) ∷ ‵ (froom entry-ty l₁₄ 0) ∷ ‵ (fdies entry-ty l₁₄) ∷ ‵ (froom lent-ty l₁₃ 0) ∷ ‵ (fdies lent-ty l₁₃)
+        ∷ ‵ (froom (sliceTy entry-ty) l₁₅ 0) ∷ ‵ (fdies (sliceTy entry-ty) l₁₅) ∷ ‵ (froom entry-ty l₁₄ 0) ∷ ‵ (fdies entry-ty l₁₄) ∷ ‵
+        (froom lent-ty l₁₃ 0) ∷ ‵ (fdies lent-ty l₁₃)
         ∷ ‵ (froom tyBool l₁₂ 0) ∷ ‵ (fdies tyBool l₁₂) ∷ ‵ (froom S′.mir l₁₁ 0) ∷ ‵ (fdies S′.mir l₁₁) ∷ ‵ (froom E′.mir l₁₀ 0) ∷ ‵ (fdies E′.mir l₁₀)
-        ∷ ‵ (fat fullShare S′.mir l₉ 0 (S′.lowered (t .st))) ∷ ‵ (fdies S′.mir l₉) ∷ ‵ (fdies (T′.mir erased) l₈) ∷ ‵ (fat fullShare S′.mir l₇ 0 (S′.lowered start)) ∷ ‵ (fdies S′.mir l₇)
-        ∷ ‵ (fat fullShare index-ty l₆ 0 (sv p₂ index)) ∷ ‵ (fdies index-ty l₆) ∷ ‵ (fat fullShare (tyInt w64) l₅ 0 (vint w64 workshops)) ∷ ‵ (fdies (tyInt w64) l₅) ∷ ‵
+        ∷ ‵ (fat fullShare S′.mir l₉ 0 (S′.lowered (t .st))) ∷ ‵ (fdies S′.mir l₉) ∷ ‵ (fdies (T′.mir erased) l₈) ∷ ‵
+        (fat fullShare S′.mir l₇ 0 (S′.lowered start)) ∷ ‵ (fdies S′.mir l₇)
+        ∷ ‵ (fat fullShare index-ty l₆ 0 (sv p₂ index)) ∷ ‵ (fdies index-ty l₆) ∷ ‵ (fat fullShare (tyInt w64) l₅ 0 (vint w64 workshops)) ∷ ‵
+        (fdies (tyInt w64) l₅) ∷ ‵
         (fat fullShare (tyInt w64) l₄ 0 (vint w64 students)) ∷ ‵ (fdies (tyInt w64) l₄)
-        ∷ ‵ (fat fullShare (bytes-ty 1) l₃ 0 (sv p₁ book)) ∷ ‵ (fdies (bytes-ty 1) l₃) ∷ ‵ (fat fullShare (bytes-ty 0) l₂ 0 (sv p₀ case)) ∷ ‵ (fdies (bytes-ty 0) l₂) ∷ ‵
+        ∷ ‵ (fat fullShare (bytes-ty 1) l₃ 0 (sv p₁ book)) ∷ ‵ (fdies (bytes-ty 1) l₃) ∷ ‵ (fat fullShare (bytes-ty 0) l₂ 0 (sv p₀ case)) ∷ ‵
+        (fdies (bytes-ty 0) l₂) ∷ ‵
         (fat fullShare (tyInt w16) l₁ 0 (vint w16 cause)) ∷ ‵ (fdies (tyInt w16) l₁)
         ∷ ‵ (froom S′.mir l₀ 0) ∷ ‵ (fdies S′.mir l₀) ∷ []
 
@@ -398,29 +435,35 @@ module _ {M : Type 1} (𝓤 : URA M) (H : Heap 𝓤) (A : Atoms 𝓤) (W : Given
     more : (t : Here) → ltb 0 (t .st .left) ≡ true → Sq W (At t) (runs C Λ En code-mir.turn-1 (anyQ (Turned t)))
     unfolding afterTurn
     more t e =
-        assigns ! (bin ! (lit ! tt) (load ! (from ! (fld ! refl (stop !))) (look-in ! 19 (sub ! 1 refl (whole !)))) tt) (from ! (stop !)) (init ! 13 refl (tt, tt)) $
+        assigns ! (bin ! (lit ! tt) (load ! (from ! (fld ! refl (stop !))) (look-in ! 19 (sub ! 1 refl (whole !)))) tt) (from ! (stop !))
+        (init ! 13 refl (tt, tt)) $
         rewrite ! 13 (λ (y : Bool). ‵ (fat fullShare tyBool l₁₂ 0 (vbool y))) e refl $ stays ! (load ! (from ! (stop !)) (look ! 13 refl)) $
         assigns ! (addr ! (from ! (stop !))) (from ! (stop !)) (init ! 11 refl (tt, tt)) $
         -- a copy of what the book owns goes into the reader
         move ! (4 ∷ []) $ use1 W (Book ⊛ Book) (shr-slice-copy 𝓤 H A W (named 1) κ₁ u8 .twice (ref p₁ book) (sv p₁ book ∷ [])) $ split ! $
         nothing ! $ owned ! usize (Is usize) (uint-makes 𝓤 H A W w64) (t .n) _ (refl, t .fits) $ fjoin ! $ move ! (1 ∷ 0 ∷ []) $ fjoin ! $
-        use1 W (‵ (R .own (reader-at (t .n)) (T′.lowered (reader-at (t .n)) ∷ []))) (own-shut 𝓤 H A W (T.the-type α) (T′.the-laws α) (ref p₁ book, (t .n, tt))) $
+        use1 W (‵ (R .own (reader-at (t .n)) (T′.lowered (reader-at (t .n)) ∷ [])))
+        (own-shut 𝓤 H A W (T.the-type α) (T′.the-laws α) (ref p₁ book, (t .n, tt))) $
         -- [what the reader owns; the book; the index; its token; the case; its token; the book's token; the reader's cell; _15; …]
         move ! (7 ∷ 0 ∷ []) $ use2 W (‵ (mem R .lies (reader-at (t .n)) l₈ 0)) (lies-in (t .n) l₈) $
         -- [the reader in memory; the book; the index; its token; the case; its token; the book's token; _15; …]: the token is halved, and the reader is lent
         move ! (6 ∷ []) $ use1 W (‵ (flft κ₁ (PosShare·left q₁)) ⊛ ‵ (flft κ₁ (PosShare·right q₁))) (W .lfts .lft-split κ₁ q₁) $ split ! $
-        lft-new ! tt (λ a. move ! (0 ∷ 2 ∷ []) $ use2 W (‵ (flft (a ∷ κ₁) (PosShare·right q₁)) ⊛ raw (Rest 𝓤 H A W a (PosShare·right q₁))) (within-token 𝓤 H A W a κ₁
+        lft-new ! tt (λ a. move ! (0 ∷ 2 ∷ []) $ use2 W (‵ (flft (a ∷ κ₁) (PosShare·right q₁)) ⊛ raw (Rest 𝓤 H A W a (PosShare·right q₁)))
+        (within-token 𝓤 H A W a κ₁
         (PosShare·right q₁)) $ split ! $
         move ! (3 ∷ []) $ use1 W (later (some (λ (δ : GName). ‵ (MutRef (named 0) (a ∷ κ₁) R .own (lent (t .n) l₈ δ) (vptr l₈ 0 ∷ [])) ⊛ ‵ (flent (a ∷ κ₁) (Body
         (mem R) l₈ 0 δ))))) (lends-ref 𝓤 H A W R (named 0) (a ∷ κ₁) (reader-at (t .n)) l₈ 0) $ await ! tt $ pick ! (λ δ. split ! $
         move ! (0 ∷ 2 ∷ 4 ∷ []) $ use3 W (raw (Take 𝓤 H A at-mem run .pre (to-take (t .n) a l₈ δ))) (take-goes (t .n) a l₈ δ (in-book t some-left)) $
         -- [what `take` asks; the lender's part; what is left of a's token; the book; the index; its token; the case; its token; _15; …]
-        calls-out ! fm take.signature (take.spec 𝓤 H A at-mem run) known-take (to-take (t .n) a l₈ δ) (TakeFin (t .n) a l₈ δ) (λ r. id⊢ 𝓤 _) E′.lowered (E′.lowers .val-is)
+        calls-out ! fm take.signature (take.spec 𝓤 H A at-mem run) known-take (to-take (t .n) a l₈ δ) (TakeFin (t .n) a l₈ δ)
+        (λ r. id⊢ 𝓤 _) E′.lowered (E′.lowers .val-is)
         (and-then ! (load ! (from ! (stop !)) (look ! 12 refl)) (no-more !)) (λ r made.
         pick ! (λ ws. split ! $ move ! (1 ∷ []) $ heard ! (Took (t .n) r (ws .0)) (λ took. fsplit ! $ move ! (1 ∷ []) $ drop ! $
-        move ! (1 ∷ []) $ use1 W (‵ (flft (a ∷ κ₁) (PosShare·right q₁)) ⊛ ‵ (flft κ₁ (PosShare·left q₁)) ⊛ ‵ ftrue) (id⊢ 𝓤 _) $ split ! $ move ! (1 ∷ []) $ split ! $
+        move ! (1 ∷ []) $ use1 W (‵ (flft (a ∷ κ₁) (PosShare·right q₁)) ⊛ ‵ (flft κ₁ (PosShare·left q₁)) ⊛ ‵ ftrue) (id⊢ 𝓤 _) $ split ! $ move !
+        (1 ∷ []) $ split ! $
         move ! (1 ∷ []) $ drop ! $
-        move ! (1 ∷ 4 ∷ []) $ use2 W (later (‵ (fdead (a ∷ κ₁)) ⊛ ‵ (flft κ₁ (PosShare·right q₁)))) (within-end 𝓤 H A W a κ₁ (PosShare·right q₁)) $ await ! tt $ split ! $
+        move ! (1 ∷ 4 ∷ []) $ use2 W (later (‵ (fdead (a ∷ κ₁)) ⊛ ‵ (flft κ₁ (PosShare·right q₁))))
+        (within-end 𝓤 H A W a κ₁ (PosShare·right q₁)) $ await ! tt $ split ! $
         move ! (2 ∷ 1 ∷ []) $ use2 W (‵ (flft κ₁ q₁)) (W .lfts .lft-join κ₁ q₁) $
         move ! (1 ∷ 3 ∷ 2 ∷ []) $ use3 W (later (‵ (mem R .lies (ws .0) l₈ 0))) (ref-back 𝓤 H A W R (a ∷ κ₁) δ (ws .0) l₈ 0) $ await ! tt $
         use1 W (‵ (fat fullShare (T′.mir erased) l₈ 0 (cell-of (ws .0)))) (lies-out l₈ (ws .0)) $
@@ -430,27 +473,35 @@ module _ {M : Type 1} (𝓤 : URA M) (H : Heap 𝓤) (A : Atoms 𝓤) (W : Given
         move ! (3 ∷ 4 ∷ 5 ∷ 6 ∷ 2 ∷ 1 ∷ []) $
         -- as in `At`: the index is lent again, and the case is copied
         assigns ! (addr ! (from ! (fld ! refl (hop ! (look-in ! 24 (sub ! 0 refl (whole !))) (stop !))))) (from ! (stop !)) (init ! 9 refl (tt, tt)) $
-        assigns ! (agg ! (and-then ! (load ! (from ! (stop !)) (look ! 9 refl)) (and-then ! (load ! (from ! (fld ! refl (stop !))) (look-in ! 24 (sub ! 1 refl (whole !))))
+        assigns ! (agg ! (and-then ! (load ! (from ! (stop !)) (look ! 9 refl))
+        (and-then ! (load ! (from ! (fld ! refl (stop !))) (look-in ! 24 (sub ! 1 refl (whole !))))
         (no-more !)))) (from ! (stop !)) (init ! 7 refl (tt, (tt, (record { fits = room₂ .0 }, tt)))) $
         lends-on ! tt u16 (named 2) (named 1) κ₂ q₂ (p₂ .γ) (p₂ .b) (p₂ .o) (length index) (t .us) (t .len) (λ ν η.
         move ! (3 ∷ []) $ use1 W (Case ⊛ Case) (shr-slice-copy 𝓤 H A W (named 0) κ₀ u8 .twice (ref p₀ case) (sv p₀ case ∷ [])) $ split ! $
         -- [the case; the case; the index lent; ν's token; what is kept of the index; κ₀'s token; the book; κ₁'s token; the reader's cell; _15; …]
-        move ! (0 ∷ 5 ∷ 2 ∷ 3 ∷ []) $ group ! 4 $ use1 W (raw (StepOf 𝓤 H A at-mem run .pre (to-step ν η (t .us) r (t .st)))) (step-goes ν η (t .us) r (t .st) made (t .is)
+        move ! (0 ∷ 5 ∷ 2 ∷ 3 ∷ []) $ group ! 4 $ use1 W (raw (StepOf 𝓤 H A at-mem run .pre (to-step ν η (t .us) r (t .st))))
+        (step-goes ν η (t .us) r (t .st) made (t .is)
         (asks t some-left r (took .0))) $
         -- [what `step` asks; the case; what is kept of the index; the book; κ₁'s token; the reader's cell; _15; …]
-        calls-out ! fm step.signature (step.spec 𝓤 H A at-mem run) known-step (to-step ν η (t .us) r (t .st)) (StepFin ν η (t .us) r (t .st)) (λ s. id⊢ 𝓤 _) S′.lowered (S′.lowers .val-is)
-        (and-then ! (load ! (from ! (stop !)) (look ! 33 refl)) (and-then ! (load ! (from ! (stop !)) (look ! 31 refl)) (and-then ! (load ! (from ! (stop !)) (look ! 27 refl))
+        calls-out ! fm step.signature (step.spec 𝓤 H A at-mem run) known-step (to-step ν η (t .us) r (t .st)) (StepFin ν η (t .us) r (t .st))
+        (λ s. id⊢ 𝓤 _) S′.lowered (S′.lowers .val-is)
+        (and-then ! (load ! (from ! (stop !)) (look ! 33 refl))
+        (and-then ! (load ! (from ! (stop !)) (look ! 31 refl)) (and-then ! (load ! (from ! (stop !)) (look ! 27 refl))
         (and-then ! (load ! (from ! (stop !)) (look ! 25 refl)) (and-then ! (load ! (from ! (stop !)) (look ! 16 refl)) (and-then ! (load ! (from ! (stop !))
         (look ! 18 refl)) (and-then ! (load ! (from ! (stop !)) (look ! 6 refl)) (no-more !)))))))) (λ s is-s.
         pick ! (λ vs. split ! $ move ! (1 ∷ []) $ heard ! (Says (t .us) r (t .st) s (vs .1 .1 .1 .1 .1 .1 .0)) (λ f.
-        fsplit ! $ drop ! $ fsplit ! $ drop ! $ fsplit ! $ drop ! $ fsplit ! $ drop ! $ fsplit ! $ drop ! $ fsplit ! $ drop ! $ fsplit ! $ move ! (1 ∷ []) $ drop ! $ fsplit ! $
+        fsplit ! $ drop ! $ fsplit ! $ drop ! $ fsplit ! $ drop ! $ fsplit ! $ drop ! $ fsplit ! $ drop ! $ fsplit ! $ drop ! $ fsplit ! $ move !
+        (1 ∷ []) $ drop ! $ fsplit ! $
         move ! (1 ∷ []) $ feqL ! (λ l.
-        move ! (1 ∷ []) $ use1 W (‵ (flft κ₀ q₀) ⊛ ‵ (flft (ν ∷ []) fullShare) ⊛ ‵ ftrue) (id⊢ 𝓤 _) $ split ! $ move ! (1 ∷ []) $ split ! $ move ! (1 ∷ []) $ drop ! $
+        move ! (1 ∷ []) $ use1 W (‵ (flft κ₀ q₀) ⊛ ‵ (flft (ν ∷ []) fullShare) ⊛ ‵ ftrue) (id⊢ 𝓤 _) $ split ! $ move ! (1 ∷ []) $ split ! $ move !
+        (1 ∷ []) $ drop ! $
         -- [ν's token; κ₀'s; the index's last list; the case; what is kept of the index; the book; κ₁'s token; the reader's cell; _15; …]: the index comes back
-        move ! (0 ∷ 4 ∷ 2 ∷ []) $ back-on ! tt u16 (named 2) κ₂ q₂ (p₂ .γ) (p₂ .b) (p₂ .o) (length index) ν η (t .us) (vs .1 .1 .1 .1 .1 .1 .0) room₂ (t .len) (l ∙ t .len) $
+        move ! (0 ∷ 4 ∷ 2 ∷ []) $ back-on ! tt u16 (named 2) κ₂ q₂ (p₂ .γ) (p₂ .b) (p₂ .o) (length index) ν η (t .us) (vs .1 .1 .1 .1 .1 .1 .0) room₂
+        (t .len) (l ∙ t .len) $
         move ! (0 ∷ 1 ∷ 3 ∷ 2 ∷ []) $
         land ! (from ! (stop !)) (init ! 15 refl (LL.lawful S.the-type S′.the-laws 𝓤 H A W .typed s _ is-s .0)) $
-        assigns-last ! (of-opd ! (load ! (from ! (stop !)) (look ! 15 refl))) (from ! (stop !)) (store ! 19 refl (LL.lawful S.the-type S′.the-laws 𝓤 H A W .typed s _ is-s .0)) $
+        assigns-last ! (of-opd ! (load ! (from ! (stop !)) (look ! 15 refl))) (from ! (stop !))
+        (store ! 19 refl (LL.lawful S.the-type S′.the-laws 𝓤 H A W .typed s _ is-s .0)) $
         forget ! 7 refl $ forget ! 9 refl $ forget ! 11 refl $ forget ! 13 refl $ forget ! 15 refl $ forget ! 17 refl $
         again ! Nearer At t (next t some-left r (took .0) s (vs .1 .1 .1 .1 .1 .1 .0) (l ∙ t .len) f is-s) (f .0 .fewer)))))))))))
       where
@@ -464,15 +515,20 @@ module _ {M : Type 1} (𝓤 : URA M) (H : Heap 𝓤) (A : Atoms 𝓤) (W : Given
     ends : (t : Here) → ltb 0 (t .st .left) ≡ false → Sq W (At t) (runs C Λ En code-mir.turn-1 (anyQ (Turned t)))
     unfolding afterTurn
     ends t e =
-        assigns ! (bin ! (lit ! tt) (load ! (from ! (fld ! refl (stop !))) (look-in ! 19 (sub ! 1 refl (whole !)))) tt) (from ! (stop !)) (init ! 13 refl (tt, tt)) $
+        assigns ! (bin ! (lit ! tt) (load ! (from ! (fld ! refl (stop !))) (look-in ! 19 (sub ! 1 refl (whole !)))) tt) (from ! (stop !))
+        (init ! 13 refl (tt, tt)) $
         rewrite ! 13 (λ (y : Bool). ‵ (fat fullShare tyBool l₁₂ 0 (vbool y))) e refl $ leaves-loop ! (load ! (from ! (stop !)) (look ! 13 refl)) $
         exec ! C Λ En code-mir.t-4 (atRet En Post) $
-        assigns ! (of-opd ! (load ! (from ! (stop !)) (look ! 19 refl))) (from ! (stop !)) (init ! 36 refl (LL.lawful S.the-type S′.the-laws 𝓤 H A W .typed (t .st) _ (t .is) .0)) $
-        returns ! (look ! 36 refl) $ forget ! 6 refl $ forget ! 13 refl $ forget ! 19 refl $ forget ! 22 refl $ forget ! 24 refl $ forget ! 26 refl $ forget ! 28 refl $
+        assigns ! (of-opd ! (load ! (from ! (stop !)) (look ! 19 refl))) (from ! (stop !))
+        (init ! 36 refl (LL.lawful S.the-type S′.the-laws 𝓤 H A W .typed (t .st) _ (t .is) .0)) $
+        returns ! (look ! 36 refl) $ forget ! 6 refl $ forget ! 13 refl $ forget ! 19 refl $ forget ! 22 refl $ forget ! 24 refl $ forget ! 26 refl $
+        forget ! 28 refl $
         forget ! 30 refl $ forget ! 32 refl $ forget ! 34 refl $ forget ! 36 refl $
-        move ! (36 ∷ 37 ∷ []) $ free1 ! $ move ! (34 ∷ 35 ∷ []) $ free1 ! $ move ! (32 ∷ 33 ∷ []) $ free1 ! $ move ! (30 ∷ 31 ∷ []) $ free1 ! $ move ! (28 ∷ 29 ∷ []) $ free1 ! $
+        move ! (36 ∷ 37 ∷ []) $ free1 ! $ move ! (34 ∷ 35 ∷ []) $ free1 ! $ move ! (32 ∷ 33 ∷ []) $ free1 ! $ move ! (30 ∷ 31 ∷ []) $ free1 ! $ move !
+        (28 ∷ 29 ∷ []) $ free1 ! $
         move ! (26 ∷ 27 ∷ []) $ free1 ! $ move ! (24 ∷ 25 ∷ []) $ free1 ! $ move ! (22 ∷ 23 ∷ []) $ free1 ! $
-        move ! (6 ∷ 21 ∷ []) $ free1 ! $ move ! (18 ∷ 19 ∷ []) $ free1 ! $ move ! (16 ∷ 17 ∷ []) $ free1 ! $ move ! (14 ∷ 15 ∷ []) $ free1 ! $ move ! (12 ∷ 13 ∷ []) $ free1 ! $
+        move ! (6 ∷ 21 ∷ []) $ free1 ! $ move ! (18 ∷ 19 ∷ []) $ free1 ! $ move ! (16 ∷ 17 ∷ []) $ free1 ! $ move ! (14 ∷ 15 ∷ []) $ free1 ! $ move !
+        (12 ∷ 13 ∷ []) $ free1 ! $
         move ! (10 ∷ 11 ∷ []) $ free1 ! $ move ! (8 ∷ 9 ∷ []) $ free1 ! $ move ! (6 ∷ 7 ∷ []) $ free1 ! $ free0 ! $
         keep ! (0 ∷ 1 ∷ 2 ∷ 3 ∷ 4 ∷ 5 ∷ []) $ by ! (exits (t .us) (t .st) (t .len) (t .known, none-left) (t .is))
       where
@@ -495,21 +551,27 @@ module _ {M : Type 1} (𝓤 : URA M) (H : Heap 𝓤) (A : Atoms 𝓤) (W : Given
       → ent 𝓤 (onEntry 𝓤 H A scan-on.signature κs qs x at) (WpFn 𝓤 H (𝓣 .C) (𝓣 .Λ) code.function (vint w16 cause ∷ sv p₀ case ∷ sv p₁ book ∷ vint w64 students
       ∷ vint w64 workshops ∷ sv p₂ index ∷ S′.lowered start ∷ []) Post)
   walk 𝓣 known-take known-step =
-      qed W ((‵ (flft κ₀ q₀) ⊛ ‵ (flft κ₁ q₁) ⊛ ‵ (flft κ₂ q₂) ⊛ ‵ ftrue) ∷ ‵ (owns (u16 ∷ ShrSlice (named 0) κ₀ u8 ∷ ShrSlice (named 1) κ₁ u8 ∷ usize ∷ usize ∷ MutSlice
+      qed W ((‵ (flft κ₀ q₀) ⊛ ‵ (flft κ₁ q₁) ⊛ ‵ (flft κ₂ q₂) ⊛ ‵ ftrue) ∷ ‵
+      (owns (u16 ∷ ShrSlice (named 0) κ₀ u8 ∷ ShrSlice (named 1) κ₁ u8 ∷ usize ∷ usize ∷ MutSlice
       (named 2) κ₂ u16 ∷ S.the-row ∷ []) x at) ∷ []) ∵
-      enter ! (𝓣 .C) (𝓣 .Λ) code.function (vint w16 cause ∷ sv p₀ case ∷ sv p₁ book ∷ vint w64 students ∷ vint w64 workshops ∷ sv p₂ index ∷ S′.lowered start ∷ []) _ $
-      alloc1 ! (λ l₀. alloc1 ! (λ l₁. alloc1 ! (λ l₂. alloc1 ! (λ l₃. alloc1 ! (λ l₄. alloc1 ! (λ l₅. alloc1 ! (λ l₆. alloc1 ! (λ l₇. alloc1 ! (λ l₈. alloc1 ! (λ l₉. alloc1 !
+      enter ! (𝓣 .C) (𝓣 .Λ) code.function
+      (vint w16 cause ∷ sv p₀ case ∷ sv p₁ book ∷ vint w64 students ∷ vint w64 workshops ∷ sv p₂ index ∷ S′.lowered start ∷ []) _ $
+      alloc1 ! (λ l₀. alloc1 ! (λ l₁. alloc1 !
+      (λ l₂. alloc1 ! (λ l₃. alloc1 ! (λ l₄. alloc1 ! (λ l₅. alloc1 ! (λ l₆. alloc1 ! (λ l₇. alloc1 ! (λ l₈. alloc1 ! (λ l₉. alloc1 !
       (λ l₁₀. alloc1 ! (λ l₁₁. alloc1 ! (λ l₁₂. alloc1 ! (λ l₁₃. alloc1 ! (λ l₁₄. alloc1 ! (λ l₁₅. alloc0 ! $ params1 ! $
       pass1 ! (init ! 28 refl (tt, record { fits = cause-fits })) $ pass1 ! (init ! 26 refl (tt, (tt, (record { fits = room₀ .0 }, tt)))) $
       pass1 ! (init ! 24 refl (tt, (tt, (record { fits = room₁ .0 }, tt)))) $
       pass1 ! (init ! 22 refl (tt, record { fits = students-fits })) $ pass1 ! (init ! 20 refl (tt, record { fits = workshops-fits })) $
       pass1 ! (init ! 18 refl (tt, (tt, (record { fits = room₂ .0 }, tt)))) $
       pass1 ! (init ! 16 refl (LL.lawful S.the-type S′.the-laws 𝓤 H A W .typed start _ start-is .0)) $ pass0 ! $
-      assigns ! (agg ! (and-then ! (load ! (from ! (stop !)) (look ! 24 refl)) (and-then ! (load ! (from ! (fld ! refl (stop !))) (look-in ! 16 (sub ! 0 refl (whole !))))
+      assigns ! (agg ! (and-then ! (load ! (from ! (stop !)) (look ! 24 refl))
+      (and-then ! (load ! (from ! (fld ! refl (stop !))) (look-in ! 16 (sub ! 0 refl (whole !))))
       (no-more !)))) (from ! (stop !)) (init ! 14 refl (tt, ((tt, (record { fits = room₁ .0 }, tt)), (record { fits = start-fits }, tt)))) $
-      assigns ! (of-opd ! (load ! (from ! (stop !)) (look ! 16 refl))) (from ! (stop !)) (init ! 12 refl (LL.lawful S.the-type S′.the-laws 𝓤 H A W .typed start _ start-is .0)) $
+      assigns ! (of-opd ! (load ! (from ! (stop !)) (look ! 16 refl))) (from ! (stop !))
+      (init ! 12 refl (LL.lawful S.the-type S′.the-laws 𝓤 H A W .typed start _ start-is .0)) $
       -- what the slices own, and the tokens, one by one
-      move ! (33 ∷ []) $ fsplit ! $ drop ! $ fsplit ! $ move ! (1 ∷ []) $ fsplit ! $ move ! (1 ∷ []) $ fsplit ! $ drop ! $ fsplit ! $ drop ! $ fsplit ! $ move ! (1 ∷ []) $ drop ! $
+      move ! (33 ∷ []) $ fsplit ! $ drop ! $ fsplit ! $ move ! (1 ∷ []) $ fsplit ! $ move !
+      (1 ∷ []) $ fsplit ! $ drop ! $ fsplit ! $ drop ! $ fsplit ! $ move ! (1 ∷ []) $ drop ! $
       move ! (35 ∷ []) $ split ! $ move ! (1 ∷ []) $ split ! $ move ! (1 ∷ []) $ split ! $ move ! (1 ∷ []) $ drop ! $
       move ! (3 ∷ 0 ∷ 5 ∷ 2 ∷ 4 ∷ 1 ∷ 20 ∷ []) $
       looped 𝓣 known-take known-step l₀ l₁ l₂ l₃ l₄ l₅ l₆ l₇ l₈ l₉ l₁₀ l₁₁ l₁₂ l₁₃ l₁₄ l₁₅
@@ -544,9 +606,11 @@ module _ {M : Type 1} (𝓤 : URA M) (H : Heap 𝓤) (A : Atoms 𝓤) (W : Given
         ),
       ))
       (λ κs qs bounds a g are. needs 𝓤 _ _ (λ ok.
-      walk 𝓤 H A W at-mem run (κs .0) (κs .1 .0) (κs .1 .1 .0) (qs .0) (qs .1 .0) (qs .1 .1 .0) (spot-of (a .1 .0)) (spot-of (a .1 .1 .0)) (spot-of (a .1 .1 .1 .1 .1 .0))
+      walk 𝓤 H A W at-mem run (κs .0) (κs .1 .0) (κs .1 .1 .0) (qs .0) (qs .1 .0) (qs .1 .1 .0) (spot-of (a .1 .0)) (spot-of (a .1 .1 .0))
+      (spot-of (a .1 .1 .1 .1 .1 .0))
       (a .0) (a .1 .0 .now) (a .1 .1 .0 .now) (a .1 .1 .1 .0) (a .1 .1 .1 .1 .0) (a .1 .1 .1 .1 .1 .0 .now) (a .1 .1 .1 .1 .1 .1 .0)
-      (are .0 .1) (are .1 .1 .1 .0 .1) (are .1 .1 .1 .1 .0 .1) (are .1 .1 .1 .1 .1 .1 .0) (are .1 .0 .0 .1) (are .1 .1 .0 .0 .1) (are .1 .1 .1 .1 .1 .0 .0 .1) ok 𝓣 known-take known-step))
+      (are .0 .1) (are .1 .1 .1 .0 .1) (are .1 .1 .1 .1 .0 .1) (are .1 .1 .1 .1 .1 .1 .0) (are .1 .0 .0 .1) (are .1 .1 .0 .0 .1)
+      (are .1 .1 .1 .1 .1 .0 .0 .1) ok 𝓣 known-take known-step))
 
 scan-on-meets : {M : Type 1} (𝓤 : URA M) (H : Heap 𝓤) (A : Atoms 𝓤) → Given 𝓤 H A → (at-mem : Memory → SProp 𝓤) (run : Routine → Fun 𝓤) (𝓣 : Tables 𝓤 H)
     → Triple 𝓤 (𝓣 .C #reader·take) (Take 𝓤 H A at-mem run) → Triple 𝓤 (𝓣 .C #book-tests·step) (StepOf 𝓤 H A at-mem run)

@@ -14,7 +14,8 @@ use Rattle.case_tests.proofs.Cases.{pairs-found, few}
 use Rattle.book_tests.specs.Index.{pairsFrom}
 use Rattle.book_tests.specs.Scans.{badBy, Scanned}
 use Rattle.book_tests.proofs.Indexing.{Placed}
-use Rattle.book_tests.proofs.Scanning.{bad-record, good-record, good-parts, comes, scan-stop, scan-move, stopped-on, moved-on, number-few, spot-inside, step-stop, step-fill}
+use Rattle.book_tests.proofs.Scanning.{bad-record, good-record, good-parts, comes, scan-stop, scan-move, stopped-on, moved-on, number-few}
+use Rattle.book_tests.proofs.Scanning.{spot-inside, step-stop, step-fill}
 use Rattle.book_tests.proofs.Scanning.{located as located-by}
 use borrow.Author.Needs.{needs}
 use Rattle.book_tests.proofs.step.Statement.{statement}
@@ -36,17 +37,20 @@ Of d book =
     Scanned (a .cause) (a .case .now) book (length (a .index .now)) (a .s) (a .index .now) × (entryOf (a .e) ≡ entryAt book (a .s .next))
 
 -- what the test by the record alone says
-bad : (d : tie.After-fails) (book : List ℕ) → Of d book → d .fails .result ≡ true → badBy (entry d .args .cause) (entry d .args .case .now) book (entry d .args .s .next) ≡ true
+bad : (d : tie.After-fails) (book : List ℕ) → Of d book → d .fails .result ≡ true → badBy (entry d .args .cause) (entry d .args .case .now) book
+    (entry d .args .s .next) ≡ true
 bad d book o =
     let a = entry d .args in
-    bad-record (a .case .now) book (a .s .next) (comes (o .0) (entry d .pre .more)) (a .e) (o .1) (a .cause) (rows-of d) (place-at d) (d .before .before .row-count .ensures)
+    bad-record (a .case .now) book (a .s .next) (comes (o .0) (entry d .pre .more)) (a .e) (o .1) (a .cause) (rows-of d) (place-at d)
+    (d .before .before .row-count .ensures)
     (d .before .before .before .place-of .ensures) (d .before .is-unscored .result) (d .fails .result) (d .before .is-unscored .ensures) (d .fails .ensures)
 
 good : (d : tie.After-fails) (book : List ℕ) → Of d book → d .fails .result ≡ false → (eqb (entry d .args .cause) 8 || eqb (entry d .args .cause) 9) ≡ true
     → badBy (entry d .args .cause) (entry d .args .case .now) book (entry d .args .s .next) ≡ false
 good d book o =
     let a = entry d .args in
-    good-record (a .case .now) book (a .s .next) (comes (o .0) (entry d .pre .more)) (a .e) (o .1) (a .cause) (rows-of d) (place-at d) (d .before .before .row-count .ensures)
+    good-record (a .case .now) book (a .s .next) (comes (o .0) (entry d .pre .more)) (a .e) (o .1) (a .cause) (rows-of d) (place-at d)
+    (d .before .before .row-count .ensures)
     (d .before .before .before .place-of .ensures) (d .before .is-unscored .result) (d .fails .result) (d .before .is-unscored .ensures) (d .fails .ensures)
 
 -- where the scan fills the index: the record's parts pass, and its pair has a place
@@ -59,16 +63,19 @@ parts : (c : tie.Else2) (book : List ℕ) → Of (here c) book
 parts c book o =
     let d = here c in
     let a = entry d .args in
-    good-parts (a .case .now) book (a .s .next) (comes (o .0) (entry d .pre .more)) (a .e) (o .1) (a .cause) (rows-of d) (place-at d) (d .before .before .row-count .ensures)
+    good-parts (a .case .now) book (a .s .next) (comes (o .0) (entry d .pre .more)) (a .e) (o .1) (a .cause) (rows-of d) (place-at d)
+    (d .before .before .row-count .ensures)
     (d .before .before .before .place-of .ensures) (d .before .is-unscored .result) (d .fails .result) (d .before .is-unscored .ensures) (d .fails .ensures)
     (c .before .if1 .left) (c .if2 .left)
 
 located : (c : tie.Else2) (book : List ℕ) → Of (here c) book
-    → Placed (entry (here c) .args .case .now) (entryAt book (entry (here c) .args .s .next) .student) (entryAt book (entry (here c) .args .s .next) .workshop) (place-at (here c))
+    → Placed (entry (here c) .args .case .now) (entryAt book (entry (here c) .args .s .next) .student)
+    (entryAt book (entry (here c) .args .s .next) .workshop) (place-at (here c))
 located c book o =
     let d = here c in
     let a = entry d .args in
-    located-by (a .case .now) book (a .s .next) (comes (o .0) (entry d .pre .more)) (a .e) (o .1) (a .cause) (rows-of d) (place-at d) (d .before .before .row-count .ensures)
+    located-by (a .case .now) book (a .s .next) (comes (o .0) (entry d .pre .more)) (a .e) (o .1) (a .cause) (rows-of d) (place-at d)
+    (d .before .before .row-count .ensures)
     (d .before .before .before .place-of .ensures) (d .before .is-unscored .result) (d .fails .result) (d .before .is-unscored .ensures) (d .fails .ensures)
     (entry d .pre .clean) (c .before .if1 .left) (c .if2 .left)
 
@@ -79,7 +86,8 @@ few-here : (c : tie.Else2) → entry (here c) .args .s .next ≤ 32768
 few-here c =
     let start = entry (here c) in
     let o = start .pre in
-    number-few (o .scanned) (start .pre .clean) (start .pre .room) (start .pre .more) (c .if2 .left) (place-at (here c)) (located c (o .book) (o .scanned, o .read))
+    number-few (o .scanned) (start .pre .clean) (start .pre .room) (start .pre .more) (c .if2 .left) (place-at (here c))
+    (located c (o .book) (o .scanned, o .read))
 
 spot : (c : tie.Else2)
     → (let a = entry (here c) .args in let from = a .students + a .workshops in (from ≤ place-at (here c)) × (place-at (here c) - from < 32768) × (place-at
@@ -87,7 +95,8 @@ spot : (c : tie.Else2)
 spot c =
     let start = entry (here c) in
     let o = start .pre in
-    spot-inside (o .scanned) (start .pre .clean) (start .pre .room) (start .pre .more) (c .if2 .left) (place-at (here c)) (located c (o .book) (o .scanned, o .read)) _ (first-pair c)
+    spot-inside (o .scanned) (start .pre .clean) (start .pre .room) (start .pre .more) (c .if2 .left) (place-at (here c))
+    (located c (o .book) (o .scanned, o .read)) _ (first-pair c)
 
 place-of-requires : tie.Need-place-of-requires
 place-of-requires c κs = pairs-found _ _ _ (c .before .before .pre .clean) (λ k. omega (arith, c .before .shared-slice-known .given k))
@@ -118,7 +127,8 @@ returns-2 : tie.Need-returns-2
 returns-2 c =
     let start = c .before .before .before .before .before .before .before .before .before in (
       rw (c .moved .ensures) (moved-on (start .pre .more)),
-      λ book h q. rw (c .moved .ensures) (scan-move h (start .pre .more) (good (c .before .before .before) book (h, q) (c .before .before .if1 .left) (c .before .if2 .taken))
+      λ book h q. rw (c .moved .ensures)
+          (scan-move h (start .pre .more) (good (c .before .before .before) book (h, q) (c .before .before .if1 .left) (c .before .if2 .taken))
           (h .long) (λ f. never (c .before .if2 .taken) f)),
     )
 
@@ -142,7 +152,8 @@ returns-3 c =
     let d = c .before .before .before in
     let start = entry (here d) in (
       rw (c .stopped2 .ensures) (stopped-on (start .pre .more)),
-      λ book h q. rw (c .stopped2 .ensures) (step-stop h (start .pre .clean) (start .pre .room) (start .pre .more) (d .if2 .left) (place-at (here d)) (located d book (h, q)) _
+      λ book h q. rw (c .stopped2 .ensures)
+          (step-stop h (start .pre .clean) (start .pre .room) (start .pre .more) (d .if2 .left) (place-at (here d)) (located d book (h, q)) _
           (first-pair d) (c .before .if3 .taken)),
     )
 
@@ -169,7 +180,8 @@ returns-4 c =
     let d = c .before .before .before .before in
     let start = entry (here d) in (
       rw (c .moved2 .ensures) (moved-on (start .pre .more)),
-      λ book h q. rw (c .moved2 .ensures) (step-fill h (start .pre .clean) (start .pre .room) (start .pre .more) (d .if2 .left) (place-at (here d)) (located d book (h, q)) _
+      λ book h q. rw (c .moved2 .ensures)
+          (step-fill h (start .pre .clean) (start .pre .room) (start .pre .more) (d .if2 .left) (place-at (here d)) (located d book (h, q)) _
           (first-pair d) (parts d book (h, q)) (c .before .before .if3 .left)),
     )
 
