@@ -15,7 +15,7 @@ use Rattle.records.proofs.Laws.{pair-any}
 use Rattle.model.specs.Ready.{Booked}
 use Rattle.lookup.specs.Clean.{PairAt, EntryAt, Clean, indexAt}
 
-module _ {case book index : List ℕ} {n m : ℕ} (k : Clean case book index n m) {s w : ℕ} (b : Booked (marketIn case) (resultsIn book) s w) where
+module _ {case book index table : List ℕ} {n m : ℕ} (k : Clean case book index table n m) {s w : ℕ} (b : Booked (marketIn case) (resultsIn book) s w) where
   -- the pair's record
   pub pair-known : PairAt case s w
   pair-known = k .pair s w (b .pair)
@@ -31,7 +31,7 @@ module _ {case book index : List ℕ} {n m : ℕ} (k : Clean case book index n m
   entry-known p e q r = rw (r, q) (k .met s w (b .met))
 
 -- a pair's interview is held where the index has an entry for it
-module _ {case book index : List ℕ} {n m : ℕ} (k : Clean case book index n m) (s w : ℕ) (b : marketIn case .paired s w ≡ true) (p e : ℕ)
+module _ {case book index table : List ℕ} {n m : ℕ} (k : Clean case book index table n m) (s w : ℕ) (b : marketIn case .paired s w ≡ true) (p e : ℕ)
     (q : p ≡ pairPlace case s w) (r : e ≡ getD index (p - (n + m)) 0) where
   same-entry : e ≡ indexAt case index n m s w
   same-entry = r ∙ rw q

@@ -1,4 +1,4 @@
--- What the run's code needs of a case, a book and an index of the pairs. It is true where no cause refuses them (answering/proofs/Cleaning.antt).
+-- What the run's code needs of a case, a book, an index of the pairs and the table of the case. It is true where no cause refuses them (answering/proofs/Cleaning.antt).
 use Prim.Native.Nat.{ℕ, _+_, _-_, _≤_, _<_}
 use mathlib.Core.Path.{_≡_}
 use mathlib.Core.Bool.{true, false}
@@ -7,7 +7,8 @@ use lib.ListN.{length, getD}
 use Rattle.lgs.specs.Market.{studentOutside, workshopOutside}
 use Rattle.format.specs.Layout.{rowAt, rowCount, entryAt, entryCount}
 use Rattle.format.specs.Engine.{marketIn, resultsIn}
-use Rattle.records.specs.Records.{PairsFound, pairPlace}
+use Rattle.records.specs.Records.{pairPlace}
+use Rattle.tables.specs.Table.{Tabled}
 
 -- record s - 1 is that of student s
 pub record StudentAt (case : List ℕ) (s : ℕ) : Type 0 where
@@ -40,10 +41,12 @@ pub record EntryAt (book : List ℕ) (s w e : ℕ) : Type 0 where
   pub studentScore : resultsIn book .studentScore s w ≡ entryAt book (e - 1) .studentScore
   pub workshopScore : resultsIn book .workshopScore w s ≡ entryAt book (e - 1) .workshopScore
 
-pub record Clean (case book index : List ℕ) (n m : ℕ) : Type 0 where
+pub record Clean (case book index table : List ℕ) (n m : ℕ) : Type 0 where
   pub students : marketIn case .students ≡ n
   pub workshops : marketIn case .workshops ≡ m
-  pub found : PairsFound case n m
+  pub manyStudents : n ≤ 512
+  pub manyWorkshops : m ≤ 64
+  pub tabled : Tabled case table
   pub student : (s : ℕ) → 1 ≤ s → s ≤ n → StudentAt case s
   pub workshop : (w : ℕ) → 1 ≤ w → w ≤ m → WorkshopAt case n w
   pub pair : (s w : ℕ) → marketIn case .paired s w ≡ true → PairAt case s w

@@ -1,4 +1,4 @@
-// What the run reads from the case, the book and the index of the pairs: a student's, a workshop's and a pair's fields, and the scores.
+// What the run reads from the case, the book, the index of the pairs and the table of the case: a student's, a workshop's and a pair's fields, and the scores.
 ghost use mathlib.Core.Path.{_≡_};
 ghost use Prim.Native.Nat.{_+_, _-_, _≤_, _<_};
 ghost use lib.ListN.{length, getD};
@@ -89,16 +89,17 @@ pub fn student_score_of(
     case: &[u8],
     book: &[u8],
     index: &[u16],
+    table: &[u64],
     students: usize,
     workshops: usize,
     s: usize,
     w: usize,
 ) -> i16
-    requires { ⌜ Clean (now case) (now book) (now index) students workshops ⌝ }
+    requires { ⌜ Clean (now case) (now book) (now index) (now table) students workshops ⌝ }
     requires { ⌜ Booked (marketIn (now case)) (resultsIn (now book)) s w ⌝ }
     ensures { λ r. ⌜ biased r ≡ resultsIn (now (book .entry)) .studentScore s w ⌝ }
 {
-    let pair = records::pair_of(case, students, workshops, s, w);
+    let pair = tables::pair_at(case, table, s, w);
     student_score(book, entry_of(index, students + workshops, pair))
 }
 
@@ -112,17 +113,18 @@ pub fn standing_of(
     case: &[u8],
     book: &[u8],
     index: &[u16],
+    table: &[u64],
     students: usize,
     workshops: usize,
     s: usize,
     w: usize,
 ) -> Standing
-    requires { ⌜ Clean (now case) (now book) (now index) students workshops ⌝ }
+    requires { ⌜ Clean (now case) (now book) (now index) (now table) students workshops ⌝ }
     requires { ⌜ Booked (marketIn (now case)) (resultsIn (now book)) s w ⌝ }
     ensures { λ r. ⌜ r .tier ≡ marketIn (now (case .entry)) .workshopTier w s ⌝ }
     ensures { λ r. ⌜ biased (r .score) ≡ resultsIn (now (book .entry)) .workshopScore w s ⌝ }
 {
-    let pair = records::pair_of(case, students, workshops, s, w);
+    let pair = tables::pair_at(case, table, s, w);
     Standing {
         tier: workshop_tier(case, pair),
         score: workshop_score(book, entry_of(index, students + workshops, pair)),

@@ -24,18 +24,19 @@ fn seat(
     case: &[u8],
     book: &[u8],
     index: &[u16],
+    table: &[u64],
     students: usize,
     workshops: usize,
     w: usize,
     x: u16,
 ) -> u16
-    requires { ⌜ Clean (now case) (now book) (now index) students workshops ⌝ }
+    requires { ⌜ Clean (now case) (now book) (now index) (now table) students workshops ⌝ }
     requires { ⌜ Booked (marketIn (now case)) (resultsIn (now book)) x w ⌝ }
     requires { ⌜ ((i : ℕ) → i < length (now part) → 0 < getD (now part) i 0 → Booked (marketIn (now case)) (resultsIn (now book)) (getD (now part) i 0) w) ⌝ }
     ensures { λ r. ⌜ now (part .exit) ≡ pushPadded (marketIn (now (case .entry))) (resultsIn (now (book .entry))) w x (now (part .entry)) .0 ⌝ }
     ensures { λ r. ⌜ r ≡ pushPadded (marketIn (now (case .entry))) (resultsIn (now (book .entry))) w x (now (part .entry)) .1 ⌝ }
 {
-    let own = lookup::standing_of(case, book, index, students, workshops, x as usize, w);
+    let own = lookup::standing_of(case, book, index, table, students, workshops, x as usize, w);
     let mut hand = x;
     let mut tier = own.tier;
     let mut score = own.score;
@@ -46,7 +47,16 @@ fn seat(
             part[i] = hand;
             return 0;
         }
-        let other = lookup::standing_of(case, book, index, students, workshops, y as usize, w);
+        let other = lookup::standing_of(
+            case,
+            book,
+            index,
+            table,
+            students,
+            workshops,
+            y as usize,
+            w,
+        );
         if ranks_before(tier, score, other.tier, other.score) {
             part[i] = hand;
             hand = y;
@@ -68,29 +78,6 @@ pub fn seats_of(case: &[u8], students: usize, w: usize) -> usize
     lookup::quota_of(case, students, w) as usize
 }
 
-// Where the part of workshop w ends, and the next one starts: it starts at `start`.
-pub fn end_of(case: &[u8], students: usize, w: usize, start: usize) -> usize
-    requires { ⌜ (start ≤ 65535 * 64) × WorkshopAt (now case) students w ⌝ }
-    ensures { λ r. ⌜ (r ≡ start + seatsOf (marketIn (now (case .entry))) w) × (r ≤ start + 65535) ⌝ }
-{
-    start + seats_of(case, students, w)
-}
-
-// Where the part of workshop w starts.
-fn start_of(case: &[u8], students: usize, w: usize) -> usize
-    requires { ⌜ (1 ≤ w) × (w ≤ 64) ⌝ }
-    requires { ⌜ ((v : ℕ) → 1 ≤ v → v ≤ w → WorkshopAt (now case) students v) ⌝ }
-    ensures { λ r. ⌜ (r ≡ seatsBefore (marketIn (now (case .entry))) w) × (r ≤ 65535 * 64) ⌝ }
-{
-    let mut start = 0;
-    let mut v = 1;
-    while v < w {
-        start = end_of(case, students, v, start);
-        v += 1;
-    }
-    start
-}
-
 // Who has the last of `many` seats from `start` on, or 0: nobody where it is free, or where there are no seats.
 pub fn last_of(seats: &[u16], start: usize, many: usize) -> u16
     requires { ⌜ start + many ≤ length (now seats) ⌝ }
@@ -109,12 +96,13 @@ pub fn seat_at(
     case: &[u8],
     book: &[u8],
     index: &[u16],
+    table: &[u64],
     students: usize,
     workshops: usize,
     w: usize,
     x: u16,
 ) -> u16
-    requires { ⌜ Clean (now case) (now book) (now index) students workshops ⌝ }
+    requires { ⌜ Clean (now case) (now book) (now index) (now table) students workshops ⌝ }
     requires { ⌜ Booked (marketIn (now case)) (resultsIn (now book)) x w ⌝ }
     requires { ⌜ seatsBefore (marketIn (now case)) w + seatsOf (marketIn (now case)) w ≤ length (now seats) ⌝ }
     requires { ⌜ ((i : ℕ) → i < seatsOf (marketIn (now case)) w → 0 < getD (part (marketIn (now case)) (now seats) w) i 0
@@ -123,13 +111,14 @@ pub fn seat_at(
         (pushPadded (marketIn (now (case .entry))) (resultsIn (now (book .entry))) w x (part (marketIn (now (case .entry))) (now (seats .entry)) w) .0) ⌝ }
     ensures { λ r. ⌜ r ≡ pushPadded (marketIn (now (case .entry))) (resultsIn (now (book .entry))) w x (part (marketIn (now (case .entry))) (now (seats .entry)) w) .1 ⌝ }
 {
-    let a = start_of(case, students, w);
-    let e = end_of(case, students, w, a);
+    let a = tables::start_of(case, table, w);
+    let e = a + seats_of(case, students, w);
     seat(
         &mut seats[a..e],
         case,
         book,
         index,
+        table,
         students,
         workshops,
         w,

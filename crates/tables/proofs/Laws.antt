@@ -1,4 +1,4 @@
--- The table while it is made: one pair more, by `note`, and the starts of the seats, by `note_starts`.
+-- The table while it is made: one student's pairs, by `take_pile`, all of them, by `note_pairs`, and the starts of the seats, by `note_starts`.
 use Prim.Native.Nat.{ℕ, zero, suc, _+_, _-_, _^_, _≤_, _<_}
 use mathlib.Core.Path.{_≡_, refl, sym, ap, _∙_}
 use mathlib.Core.Logic.{⊎-elim}
@@ -16,7 +16,7 @@ use Rattle.base.proofs.Counting.{find?, count-same, count-more, count-none}
 use Rattle.base.proofs.Digits.{bit-zero, count-empty}
 use Rattle.lgs.specs.Market.{Market, seatsOf, seatsBefore}
 use Rattle.format.specs.Engine.{marketIn}
-use Rattle.tables.specs.Table.{setOf, firstOf, pairsUpTo, Blank, Rise, Added, Noted, Started}
+use Rattle.tables.specs.Table.{setOf, firstOf, startOf, Blank, Rise, Piled, Noted, Started}
 
 -- nobody is in the set 0
 pub member-zero : (x : ℕ) → member 0 x ≡ false
@@ -33,51 +33,18 @@ count-stop p n (suc m) l none =
     (λ (q : suc m ≤ n). let e : n ≡ suc m = omega arith in rw e)
     (less? n (suc m))
 
--- ---- what `note` stores
-module _ (old : List ℕ) (i s w f b : ℕ) (sized : length old ≡ 1088) (from : 1 ≤ s) (to : s ≤ 512) (fits : setOf old s < 2 ^ 64)
-    (first : f ≡ cond (eqb (setOf old s) 0) i (firstOf old s)) (bits : (x : ℕ) → member b x ≡ (eqb x w || member (setOf old s) x)) where
-  abbrev middle : List ℕ
-  middle = set old (511 + s) f
-
-  abbrev new : List ℕ
-  new = set middle (s - 1) b
-
-  set-here : setOf new s ≡ b
-  set-here = getD-set-same middle (s - 1) b 0 (omega (arith, length-set old (511 + s) f))
-
-  first-here : firstOf new s ≡ f
-  first-here = getD-set-other middle (s - 1) (511 + s) b 0 (λ q. omega arith) ∙ getD-set-same old (511 + s) f 0 (omega arith)
-
-  elsewhere : (k : ℕ) → (k ≡ s - 1 → ⊥) → (k ≡ 511 + s → ⊥) → getD new k 0 ≡ getD old k 0
-  elsewhere k p q = getD-set-other middle (s - 1) k b 0 p ∙ getD-set-other old (511 + s) k f 0 q
-
-  pub added : Added old new i s w
-  added =
-      record {
-        sized = length-set middle (s - 1) b ∙ (length-set old (511 + s) f ∙ sized);
-        set = λ x. rw set-here (bits x);
-        fresh = λ none.
-            let e : setOf old s ≡ 0 = count-empty (setOf old s) fits none in
-            first-here ∙ (first ∙ rw (eq-eqb (setOf old s) 0 e));
-        kept = λ x m.
-            first-here ∙ (first ∙ rw (ne-eqb (setOf old s) 0 (λ q. never (rw q at m) (member-zero x))));
-        others = λ t a c ne. (
-          elsewhere (t - 1) (λ q. ne (omega arith)) (λ q. omega arith),
-          elsewhere (511 + t) (λ q. omega arith) (λ q. ne (omega arith)),
-        );
-      }
-
 -- ---- a blank table describes no pairs
 
--- the table as a caller makes it, `[0; 1088]`, is blank
-pub blank : Blank (replicate 1088 0)
-blank = record { sized = length-replicate {A = ℕ} 1088 0; zero = zeros 1088 }
+-- the table as a caller makes it, `[0; 1089]`, is blank
+pub blank : Blank (replicate 1089 0)
+blank = record { sized = length-replicate {A = ℕ} 1089 0; zero = zeros 1089 }
   where
     zeros : (n k : ℕ) → _≡_ {A = ℕ} (getD (replicate n 0) k 0) 0
     zeros zero k = refl
     zeros (suc n) zero = refl
     zeros (suc n) (suc k) = zeros n k
 
+-- no pair is noted, and each later student's set is empty
 pub noted-none : (a b : ℕ → ℕ) (from : ℕ) (table : List ℕ) → Blank table → Noted a b from from table
 noted-none a b from table z =
     record {
@@ -85,126 +52,205 @@ noted-none a b from table z =
       sound = λ s x f g m. never (rw (z .zero (s - 1)) at m) (member-zero x);
       full = λ k f h. absurd (omega arith);
       place = λ k f h. absurd (omega arith);
-      last = λ h. absurd (omega arith);
     }
 
--- ---- one pair more
-module _ (a b : ℕ → ℕ) (from n i : ℕ) (o : Rise a b from n) (l : from ≤ i) (u : i < n) (old new : List ℕ)
-    (I : Noted a b from i old) (A : Added old new i (a i) (b i)) where
-  -- her earlier pairs have lower workshops
-  earlier : (k : ℕ) → from ≤ k → k < i → a k ≡ a i → b k < b i
-  earlier k f h e = omega (arith, o .rise k i f h u)
+-- ---- the pairs of one student, from record `from` to i - 1
+pub record Piling (a b : ℕ → ℕ) (from i s set : ℕ) : Type 0 where
+  pub hers : (k : ℕ) → from ≤ k → k < i → a k ≡ s
+  pub sound : (x : ℕ) → member set x ≡ true → (k : ℕ) × (from ≤ k) × (k < i) × (b k ≡ x)
+  pub full : (k : ℕ) → from ≤ k → k < i → member set (b k) ≡ true
+  pub place : (k : ℕ) → from ≤ k → k < i → from + count (member set) (b k - 1) ≡ k
+  pub many : from + count (member set) 64 ≡ i
 
-  -- where she has an earlier pair, the last one is hers
-  hers : (k : ℕ) → from ≤ k → k < i → a k ≡ a i → a (i - 1) ≡ a i
-  hers k f h e =
-      ⊎-elim
-      (λ (q : k < i - 1).
-      omega (
-        arith,
-        o .rise k (i - 1) f q (omega arith),
-        o .rise (i - 1) i (omega arith) (omega arith) u,
-        o .workshop k f (omega arith),
-        o .workshop (i - 1) (omega arith) (omega arith),
-        o .workshop i l u,
-      ))
-      (λ (q : i - 1 ≤ k). let r : k ≡ i - 1 = omega arith in rw (← r) e)
-      (less? k (i - 1))
-
-  abbrev had : ℕ → Bool
-  had = member (setOf old (a i))
-
-  abbrev has : ℕ → Bool
-  has = member (setOf new (a i))
-
-  none-from : (x : ℕ) → b i ≤ x → had x ≡ false
-  none-from x g =
-      is-false (had x)
-      (λ m.
-      let r : (k : ℕ) × (from ≤ k) × (k < i) × (a k ≡ a i) × (b k ≡ x) = I .sound (a i) x (o .student i l u .0) (o .student i l u .1) m in
-      omega (arith, earlier (r .0) (r .1) (r .2) (r .3), r .4))
-
-  -- her pairs so far end before record i
-  so-far : firstOf new (a i) + count had 64 ≡ i
-  so-far =
-      ⊎-elim
-      (λ (m : (h : ℕ) × (1 ≤ h) × (h ≤ 64) × (had h ≡ true)).
-      let r : (k : ℕ) × (from ≤ k) × (k < i) × (a k ≡ a i) × (b k ≡ m .0) = I .sound (a i) (m .0) (o .student i l u .0) (o .student i l u .1) (m .3) in
-      let t : firstOf old (a i) + count had 64 ≡ i = rw (hers (r .0) (r .1) (r .2) (r .3)) at (I .last (omega (arith, r .1, r .2))) in
-      omega (arith, A .kept (m .0) (m .3)))
-      (λ (none : (h : ℕ) → 1 ≤ h → h ≤ 64 → had h ≡ false).
-      let z : count had 64 ≡ 0 = count-none had 64 none in
-      omega (arith, A .fresh z))
-      (find? had 64)
-
-  before : (x : ℕ) → (x ≡ b i → ⊥) → has x ≡ had x
-  before x ne = A .set x ∙ rw (ne-eqb x (b i) ne)
-
-  below : count has (b i - 1) ≡ count had 64
-  below =
-      count-same has had (b i - 1) (λ t g. before t (λ q. omega (arith, o .workshop i l u .0)))
-      ∙ sym (count-stop had (b i - 1) 64 (omega (arith, o .workshop i l u .1)) (λ x g h. none-from x (omega arith)))
-
-  one-more : count has 64 ≡ suc (count had 64)
-  one-more =
-      count-more had has 64 (b i) (o .workshop i l u .0) (o .workshop i l u .1) (none-from (b i) (omega arith))
-      (A .set (b i) ∙ rw (eq-eqb (b i) (b i) refl))
-      (λ t ne. sym (before t ne))
-
-  -- what each set has
-  has-now : (s x : ℕ) → 1 ≤ s → s ≤ 512 → member (setOf new s) x ≡ ((eqb s (a i) && eqb x (b i)) || member (setOf old s) x)
-  has-now s x f g =
-      ⊎-elim (λ (q : s ≡ a i). rw (q, eq-eqb (a i) (a i) refl) (A .set x))
-      (λ (ne : s ≡ a i → ⊥). rw (ne-eqb s (a i) ne, A .others s f g ne .0))
-      (eq? s (a i))
-
-  sound-now : (s x : ℕ) → 1 ≤ s → s ≤ 512 → member (setOf new s) x ≡ true → (k : ℕ) × (from ≤ k) × (k < i + 1) × (a k ≡ s) × (b k ≡ x)
-  sound-now s x f g m =
-      ⊎-elim
-      (λ (e : (eqb s (a i) && eqb x (b i)) ≡ true).
-      (i, l, omega arith, sym (eqb-true s (a i) (and-left (eqb s (a i)) _ e)), sym (eqb-true x (b i) (and-right (eqb s (a i)) _ e))))
-      (λ (e : member (setOf old s) x ≡ true).
-      let r : (k : ℕ) × (from ≤ k) × (k < i) × (a k ≡ s) × (b k ≡ x) = I .sound s x f g e in
-      (r .0, r .1, omega (arith, r .2), r .3, r .4))
-      (or-true (eqb s (a i) && eqb x (b i)) _ (sym (has-now s x f g) ∙ m))
-
-  full-now : (k : ℕ) → from ≤ k → k < i + 1 → member (setOf new (a k)) (b k) ≡ true
-  full-now k f h =
-      has-now (a k) (b k) (o .student k f (omega arith) .0) (o .student k f (omega arith) .1)
-      ∙ ⊎-elim (λ (q : k < i). or-right (eqb (a k) (a i) && eqb (b k) (b i)) _ (I .full k f q))
-      (λ (q : i ≤ k).
-      let e : k ≡ i = omega arith in
-      or-left (eqb (a k) (a i) && eqb (b k) (b i)) _ (and-make (eq-eqb (a k) (a i) (ap a e)) (eq-eqb (b k) (b i) (ap b e))))
-      (less? k i)
-
-  -- an earlier pair keeps its place
-  place-before : (k : ℕ) → from ≤ k → k < i → firstOf new (a k) + pairsUpTo new (a k) (b k - 1) ≡ k
-  place-before k f h =
-      ⊎-elim
-      (λ (e : a k ≡ a i).
-      let m : had (b k) ≡ true = rw e at (I .full k f h) in
-      let p : firstOf old (a i) + count had (b k - 1) ≡ k = rw e at (I .place k f h) in
-      let q : count has (b k - 1) ≡ count had (b k - 1) =
-      count-same has had (b k - 1) (λ t g. before t (λ r. omega (arith, earlier k f h e, o .workshop k f (omega arith)))) in
-      rw e (omega (arith, A .kept (b k) m)))
-      (λ (ne : a k ≡ a i → ⊥).
-      let r : (setOf new (a k) ≡ setOf old (a k)) × (firstOf new (a k) ≡ firstOf old (a k)) =
-      A .others (a k) (o .student k f (omega arith) .0) (o .student k f (omega arith) .1) ne in
-      rw (r .0, r .1) (I .place k f h))
-      (eq? (a k) (a i))
-
-  pub noted-more : Noted a b from (i + 1) new
-  noted-more =
+module _ (a b : ℕ → ℕ) (from s : ℕ) where
+  pub piling-none : Piling a b from from s 0
+  piling-none =
       record {
-        sized = A .sized;
-        sound = sound-now;
-        full = full-now;
-        place = λ k f h.
-            ⊎-elim (λ (q : k < i). place-before k f q)
-            (λ (q : i ≤ k). let e : k ≡ i = omega arith in rw e (omega (arith, so-far, below)))
-            (less? k i);
-        last = λ h. let e : i + 1 - 1 ≡ i = omega arith in rw e (omega (arith, so-far, one-more));
+        hers = λ k f h. absurd (omega arith);
+        sound = λ x m. never m (member-zero x);
+        full = λ k f h. absurd (omega arith);
+        place = λ k f h. absurd (omega arith);
+        many = omega (arith, count-none (member 0) 64 (λ t f h. member-zero t));
       }
+
+  pub piled : (n i set : ℕ) → Piling a b from i s set → from ≤ i → i ≤ n → (i < n → a i ≡ s → ⊥) → Piled a b from n s set i
+  piled n i set I f g stop =
+      record { reach = (f, g); hers = I .hers; stop = stop; sound = I .sound; full = I .full; place = I .place }
+
+  -- one pair more
+  module _ (n i old new : ℕ) (o : Rise a b from n) (l : from ≤ i) (u : i < n) (e : a i ≡ s) (I : Piling a b from i s old)
+      (adds : (x : ℕ) → member new x ≡ (eqb x (b i) || member old x)) where
+    -- her earlier pairs have lower workshops
+    earlier : (k : ℕ) → from ≤ k → k < i → b k < b i
+    earlier k f h = omega (arith, o .rise k i f h u, I .hers k f h, e)
+
+    none-from : (x : ℕ) → b i ≤ x → member old x ≡ false
+    none-from x g =
+        is-false (member old x)
+        (λ m.
+        let r : (k : ℕ) × (from ≤ k) × (k < i) × (b k ≡ x) = I .sound x m in
+        omega (arith, earlier (r .0) (r .1) (r .2), r .3))
+
+    before : (x : ℕ) → (x ≡ b i → ⊥) → member new x ≡ member old x
+    before x ne = adds x ∙ rw (ne-eqb x (b i) ne)
+
+    below : (w : ℕ) → w < b i → count (member new) w ≡ count (member old) w
+    below w h = count-same (member new) (member old) w (λ t g. before t (λ q. omega arith))
+
+    all-below : count (member old) (b i - 1) ≡ count (member old) 64
+    all-below = sym (count-stop (member old) (b i - 1) 64 (omega (arith, o .workshop i l u .1)) (λ x g h. none-from x (omega arith)))
+
+    one-more : count (member new) 64 ≡ suc (count (member old) 64)
+    one-more =
+        count-more (member old) (member new) 64 (b i) (o .workshop i l u .0) (o .workshop i l u .1) (none-from (b i) (omega arith))
+        (adds (b i) ∙ rw (eq-eqb (b i) (b i) refl))
+        (λ t ne. sym (before t ne))
+
+    pub piling-more : Piling a b from (i + 1) s new
+    piling-more =
+        record {
+          hers = λ k f h. either k h (λ q. I .hers k f q) (λ q. ap a q ∙ e);
+          sound = λ x m.
+              ⊎-elim (λ (q : eqb x (b i) ≡ true). (i, l, omega arith, sym (eqb-true x (b i) q)))
+              (λ (q : member old x ≡ true).
+              let r : (k : ℕ) × (from ≤ k) × (k < i) × (b k ≡ x) = I .sound x q in
+              (r .0, r .1, omega (arith, r .2), r .3))
+              (or-true (eqb x (b i)) _ (sym (adds x) ∙ m));
+          full = λ k f h.
+              adds (b k)
+              ∙ either k h (λ q. or-right (eqb (b k) (b i)) _ (I .full k f q)) (λ q. or-left (eqb (b k) (b i)) _ (eq-eqb (b k) (b i) (ap b q)));
+          place = λ k f h.
+              either k h (λ q. omega (arith, I .place k f q, below (b k - 1) (omega (arith, earlier k f q))))
+              (λ q. rw q (omega (arith, below (b i - 1) (omega (arith, o .workshop i l u .0)), all-below, I .many)));
+          many = omega (arith, I .many, one-more);
+        }
+      where
+        either : {A : Type 0} (k : ℕ) → k < i + 1 → (k < i → A) → (k ≡ i → A) → A
+        either k h f g = ⊎-elim (λ (q : k < i). f q) (λ (q : i ≤ k). g (omega arith)) (less? k i)
+
+-- the order of the pairs holds from a later one on
+pub rise-from : (a b : ℕ → ℕ) (from i n : ℕ) → from ≤ i → Rise a b from n → Rise a b i n
+rise-from a b from i n l o =
+    record {
+      student = λ k f h. o .student k (omega arith) h;
+      workshop = λ k f h. o .workshop k (omega arith) h;
+      rise = λ k j f h u. o .rise k j (omega arith) h u;
+    }
+
+-- ---- one student more: the pairs of students 1 to s stand before record i, and the table has them
+pub record Shelved (a b : ℕ → ℕ) (from n s i : ℕ) (table : List ℕ) : Type 0 where
+  pub reach : (from ≤ i) × (i ≤ n)
+  pub done : (k : ℕ) → from ≤ k → k < i → a k ≤ s
+  pub left : (k : ℕ) → i ≤ k → k < n → s < a k
+  pub noted : Noted a b from i table
+
+pub shelved-none : (a b : ℕ → ℕ) (from n : ℕ) (table : List ℕ) → from ≤ n → Rise a b from n → Blank table → Shelved a b from n 0 from table
+shelved-none a b from n table l o z =
+    record {
+      reach = (omega arith, l);
+      done = λ k f h. absurd (omega arith);
+      left = λ k f h. omega (arith, o .student k f h .0);
+      noted = noted-none a b from table z;
+    }
+
+module _ (a b : ℕ → ℕ) (from n s i : ℕ) (old : List ℕ) (o : Rise a b from n) (I : Shelved a b from n s i old) (less : s < 512)
+    (set′ end : ℕ) (P : Piled a b i n (suc s) set′ end) where
+  abbrev middle : List ℕ
+  middle = set old (512 + s) i
+
+  abbrev new : List ℕ
+  new = set middle s set′
+
+  long : length middle ≡ 1089
+  long = length-set old (512 + s) i ∙ I .noted .sized
+
+  set-here : setOf new (suc s) ≡ set′
+  set-here = let e : suc s - 1 ≡ s = omega arith in rw e (getD-set-same middle s set′ 0 (omega (arith, long)))
+
+  first-here : firstOf new (suc s) ≡ i
+  first-here =
+      let e : 511 + suc s ≡ 512 + s = omega arith in
+      rw e (getD-set-other middle s (512 + s) set′ 0 (λ q. omega arith) ∙ getD-set-same old (512 + s) i 0 (omega (arith, I .noted .sized)))
+
+  elsewhere : (t : ℕ) → 1 ≤ t → t ≤ 512 → (t ≡ suc s → ⊥) → (setOf new t ≡ setOf old t) × (firstOf new t ≡ firstOf old t)
+  elsewhere t f g ne = (
+    getD-set-other middle s (t - 1) set′ 0 (λ q. ne (omega arith)) ∙ getD-set-other old (512 + s) (t - 1) i 0 (λ q. omega arith),
+    getD-set-other middle s (511 + t) set′ 0 (λ q. omega arith) ∙ getD-set-other old (512 + s) (511 + t) i 0 (λ q. ne (omega arith)),
+  )
+
+  -- a pair that was noted before is another student's
+  other : (k : ℕ) → from ≤ k → k < i → (setOf new (a k) ≡ setOf old (a k)) × (firstOf new (a k) ≡ firstOf old (a k))
+  other k f h =
+      let r : (1 ≤ a k) × (a k ≤ 512) = o .student k f (omega (arith, I .reach)) in
+      elsewhere (a k) (r .0) (r .1) (λ q. omega (arith, I .done k f h))
+
+  either : {A : Type 0} (k : ℕ) → k < end → (k < i → A) → (i ≤ k → A) → A
+  either k h f g = ⊎-elim (λ (q : k < i). f q) (λ (q : i ≤ k). g q) (less? k i)
+
+  noted-next : Noted a b from end new
+  noted-next =
+      record {
+        sized = length-set middle s set′ ∙ long;
+        sound = λ t x f g m.
+            ⊎-elim
+            (λ (q : t ≡ suc s).
+            let r : (k : ℕ) × (i ≤ k) × (k < end) × (b k ≡ x) = P .sound x (rw (q, set-here) at m) in
+            (r .0, omega (arith, I .reach, r .1), r .2, P .hers (r .0) (r .1) (r .2) ∙ sym q, r .3))
+            (λ (ne : t ≡ suc s → ⊥).
+            let r : (k : ℕ) × (from ≤ k) × (k < i) × (a k ≡ t) × (b k ≡ x) = I .noted .sound t x f g (rw (elsewhere t f g ne .0) at m) in
+            (r .0, r .1, omega (arith, r .2, P .reach), r .3, r .4))
+            (eq? t (suc s));
+        full = λ k f h.
+            either k h (λ q. rw (other k f q .0) (I .noted .full k f q))
+            (λ q. rw (P .hers k q h, set-here) (P .full k q h));
+        place = λ k f h.
+            either k h (λ q. rw (other k f q .0, other k f q .1) (I .noted .place k f q))
+            (λ q. rw (P .hers k q h, set-here, first-here) (P .place k q h));
+      }
+
+  pub shelved-more : Shelved a b from n (s + 1) end new
+  shelved-more =
+      record {
+        reach = (omega (arith, I .reach, P .reach), P .reach .1);
+        done = λ k f h.
+            either k h (λ q. omega (arith, I .done k f q)) (λ q. omega (arith, P .hers k q h));
+        left = λ k f h. after k f h;
+        noted = noted-next;
+      }
+    where
+      -- the first record that is left is of a later student, and so are those after it
+      after : (k : ℕ) → end ≤ k → k < n → s + 1 < a k
+      after k f h =
+          let l : s < a end = I .left end (P .reach .0) (omega arith) in
+          let ne : a end ≡ suc s → ⊥ = P .stop (omega arith) in
+          ⊎-elim
+          (λ (q : end < k).
+          ⊎-elim (λ (e : a end ≡ suc s). absurd (ne e))
+          (λ (d : a end ≡ suc s → ⊥). beyond k q h (past (a end) l d))
+          (eq? (a end) (suc s)))
+          (λ (q : k ≤ end). let e : k ≡ end = omega arith in rw e (past (a end) l ne))
+          (less? end k)
+        where
+          past : (x : ℕ) → s < x → (x ≡ suc s → ⊥) → s + 1 < x
+          past x l d = ⊎-elim (λ (q : s + 1 < x). q) (λ (q : x ≤ s + 1). absurd (d (omega arith))) (less? (s + 1) x)
+
+          beyond : (k : ℕ) → end < k → k < n → s + 1 < a end → s + 1 < a k
+          beyond k q h l =
+              omega (
+                arith,
+                l,
+                o .rise end k (omega (arith, I .reach, P .reach)) q h,
+                o .workshop end (omega (arith, I .reach, P .reach)) (omega arith),
+                o .workshop k (omega (arith, I .reach, P .reach)) h,
+              )
+
+-- where all students are done, all pairs are noted
+pub shelved-all : (a b : ℕ → ℕ) (from n s i : ℕ) (table : List ℕ) → ((k : ℕ) → from ≤ k → k < n → a k ≤ s) → Shelved a b from n s i table
+    → Noted a b from n table
+shelved-all a b from n s i table named I =
+    ⊎-elim (λ (q : i < n). absurd (omega (arith, named i (I .reach .0) q, I .left i (omega arith) q)))
+    (λ (q : n ≤ i). let e : i ≡ n = omega (arith, I .reach) in rw e at (I .noted))
+    (less? i n)
 
 -- ---- where the seats start
 pub seats-first : (M : Market) → seatsBefore M 1 ≡ 0
@@ -220,12 +266,28 @@ seats-next M (suc v) l =
     rw (e, d) (omega arith)
 
 module _ (case old : List ℕ) where
-  pub started-none : length old ≡ 1088 → Started case old old 1
-  started-none sized = record { sized = sized; others = λ k l. refl; start = λ w f g. absurd (omega arith) }
+  -- the starts of workshops 1 to w - 1, and in `all` the set of them
+  pub record Starting (table : List ℕ) (w all : ℕ) : Type 0 where
+    pub sized : length table ≡ 1089
+    pub others : (k : ℕ) → k < 1024 → getD table k 0 ≡ getD old k 0
+    pub start : (v : ℕ) → 1 ≤ v → v < w → startOf table v ≡ seatsBefore (marketIn case) v
+    pub has : (x : ℕ) → 1 ≤ x → x < w → member all x ≡ true
+    pub only : (x : ℕ) → member all x ≡ true → x < w
 
-  pub started-more : (table : List ℕ) (w sum : ℕ) → Started case old table w → 1 ≤ w → w ≤ 64 → sum ≡ seatsBefore (marketIn case) w
-      → Started case old (set table (1023 + w) sum) (w + 1)
-  started-more table w sum I f g e =
+  pub starting-none : length old ≡ 1089 → Starting old 1 0
+  starting-none sized =
+      record {
+        sized = sized;
+        others = λ k l. refl;
+        start = λ w f g. absurd (omega arith);
+        has = λ x f g. absurd (omega arith);
+        only = λ x m. never m (member-zero x);
+      }
+
+  pub starting-more : (table : List ℕ) (w sum all new : ℕ) → Starting table w all → 1 ≤ w → w ≤ 64 → sum ≡ seatsBefore (marketIn case) w
+      → ((x : ℕ) → member new x ≡ (eqb x w || member all x))
+      → Starting (set table (1023 + w) sum) (w + 1) new
+  starting-more table w sum all new I f g e adds =
       record {
         sized = length-set table (1023 + w) sum ∙ I .sized;
         others = λ k l. getD-set-other table (1023 + w) k sum 0 (λ q. omega arith) ∙ I .others k l;
@@ -233,4 +295,23 @@ module _ (case old : List ℕ) where
             ⊎-elim (λ (q : v < w). getD-set-other table (1023 + w) (1023 + v) sum 0 (λ r. omega arith) ∙ I .start v h q)
             (λ (q : w ≤ v). let r : v ≡ w = omega arith in rw r (getD-set-same table (1023 + w) sum 0 (omega (arith, I .sized)) ∙ e))
             (less? v w);
+        has = λ x f h.
+            adds x
+            ∙ ⊎-elim (λ (q : x < w). or-right (eqb x w) _ (I .has x f q))
+            (λ (q : w ≤ x). or-left (eqb x w) _ (eq-eqb x w (omega arith)))
+            (less? x w);
+        only = λ x m.
+            ⊎-elim (λ (q : eqb x w ≡ true). omega (arith, eqb-true x w q)) (λ (q : member all x ≡ true). omega (arith, I .only x q))
+            (or-true (eqb x w) _ (sym (adds x) ∙ m));
+      }
+
+  pub started : (table : List ℕ) (w all : ℕ) → Starting table w all → w ≤ 65 → Started case old (set table 1088 all) w
+  started table w all I u =
+      record {
+        sized = length-set table 1088 all ∙ I .sized;
+        others = λ k l. getD-set-other table 1088 k all 0 (λ q. omega arith) ∙ I .others k l;
+        all = λ v x m f h.
+            let e : getD (set table 1088 all) 1088 0 ≡ all = getD-set-same table 1088 all 0 (omega (arith, I .sized)) in
+            rw e (I .has x f (omega (arith, I .only v (rw e at m))));
+        start = λ v h k. getD-set-other table 1088 (1023 + v) all 0 (λ q. omega arith) ∙ I .start v h k;
       }

@@ -13,7 +13,7 @@ use borrow.Author.Tests.{eq-eqb, ltb-true, ltb-false, le-ltb}
 use Rattle.base.specs.Lists.{count}
 use Rattle.base.specs.Bits.{bit, member}
 use Rattle.base.proofs.Tests.{bool-cases, is-false, never, and-make, or-false, less?}
-use Rattle.base.proofs.Counting.{count-same}
+use Rattle.base.proofs.Counting.{count-same, count-le}
 use Rattle.base.proofs.Below.{any-at}
 use Rattle.base.proofs.Search.{end-some, end-none, first-passes}
 use Rattle.base.proofs.Digits.{bit-zero, bit-and, bit-not, ones-count, one-shifted}
@@ -22,7 +22,7 @@ use Rattle.format.specs.Engine.{marketIn}
 use Rattle.format.proofs.Positions.{pair-says}
 use Rattle.records.specs.Records.{pairPlace}
 use Rattle.records.proofs.Laws.{pair-any}
-use Rattle.tables.specs.Table.{setOf, firstOf, pairsUpTo, studentIn, workshopIn, Tabled, Stretch, Standing, Noted, Started}
+use Rattle.tables.specs.Table.{setOf, firstOf, allOf, pairsUpTo, studentIn, workshopIn, Tabled, Stretch, Standing, Noted, Started}
 
 -- ---- a pair and its record
 pub pair-there : (case : List ℕ) (s w : ℕ) → marketIn case .paired s w ≡ true
@@ -90,6 +90,7 @@ module _ (case : List ℕ) (n m : ℕ) (o : Standing case n m) (table : List ℕ
         place = λ s w e.
             let r : ((1 ≤ s) × (s ≤ 512)) × ((1 ≤ w) × (w ≤ 64)) = noted-names s w e in
             rw (S .others (s - 1) (omega arith), S .others (511 + s) (omega arith)) (noted-place s w e);
+        all = S .all;
         few = omega (arith, o .workshops);
         start = λ w f g. S .start w f (omega (arith, o .workshops));
       }
@@ -146,13 +147,29 @@ module _ (p : ℕ → Bool) where
       rw (r, d, rw r at e) (omega arith))
       (less? w (suc n))
 
+-- where all up to n pass, n are counted
+count-all : (p : ℕ → Bool) (n : ℕ) → ((x : ℕ) → 1 ≤ x → x ≤ n → p x ≡ true) → count p n ≡ n
+unfolding count
+count-all p zero all = refl
+count-all p (suc n) all = rw (all (suc n) (omega arith) (omega arith)) (omega (arith, count-all p n (λ x f g. all x f (omega arith))))
+
 -- ---- what the readers give
 module _ (case table : List ℕ) (T : Tabled case table) (s : ℕ) where
   pub stretch : 1 ≤ s → s ≤ 512 → Stretch case s (firstOf table s) (pairsUpTo table s 64)
-  stretch f g = record { inside = λ k l. at k l .0; each = λ k l. (at k l .1, at k l .2); all = all }
+  stretch f g =
+      record {
+        few = count-le (member (setOf table s)) 64;
+        inside = λ k l. at k l .0;
+        each = λ k l. (at k l .1, at k l .2);
+        paired = λ k l. at k l .3;
+        place = λ k l. at k l .4;
+        all = all;
+      }
     where
       at : (k : ℕ) → k < pairsUpTo table s 64
           → (firstOf table s + k < rowCount case) × (rowAt case (firstOf table s + k) .kind ≡ 3) × (rowAt case (firstOf table s + k) .first ≡ s)
+          × (marketIn case .paired s (workshopIn case (firstOf table s + k)) ≡ true)
+          × (pairPlace case s (workshopIn case (firstOf table s + k)) ≡ firstOf table s + k)
       at k l =
           let r : (w : ℕ) × (1 ≤ w) × (w ≤ 64) × (member (setOf table s) w ≡ true) × (pairsUpTo table s (w - 1) ≡ k) = nth (member (setOf table s)) 64 k l in
           let e : marketIn case .paired s (r .0) ≡ true = sym (T .set s (r .0) f g) ∙ r .3 in
@@ -161,7 +178,7 @@ module _ (case table : List ℕ) (T : Tabled case table) (s : ℕ) where
           let y : (rowAt case (firstOf table s + k) .kind ≡ 3) × (rowAt case (firstOf table s + k) .first ≡ s) ×
           (rowAt case (firstOf table s + k) .second ≡ r .0) =
           pair-says s (r .0) (rowAt case (firstOf table s + k)) (t .1) in
-          (t .0, y .0, y .1)
+          (t .0, y .0, y .1, rw (y .2) e, rw (y .2) q)
 
       all : (w : ℕ) → marketIn case .paired s w ≡ true
           → (firstOf table s ≤ pairPlace case s w) × (pairPlace case s w < firstOf table s + pairsUpTo table s 64)
@@ -171,7 +188,22 @@ module _ (case table : List ℕ) (T : Tabled case table) (s : ℕ) where
           under (member (setOf table s)) 64 w (T .named s w e .1 .0) (T .named s w e .1 .1) (T .set s w f g ∙ e) in
           (omega arith, omega arith)
 
+  -- her pairs' records rise with the workshops
+  pub places-rise : (v w : ℕ) → marketIn case .paired s v ≡ true → marketIn case .paired s w ≡ true → v < w → pairPlace case s v < pairPlace case s w
+  places-rise v w d e l =
+      let r : ((1 ≤ s) × (s ≤ 512)) × ((1 ≤ v) × (v ≤ 64)) = T .named s v d in
+      let h : pairsUpTo table s (v - 1) < pairsUpTo table s (w - 1) =
+      under (member (setOf table s)) (w - 1) v (r .1 .0) (omega arith) (T .set s v (r .0 .0) (r .0 .1) ∙ d) in
+      omega (arith, T .place s v d, T .place s w e)
+
   module _ (w : ℕ) where
+    -- a student who has a pair with every workshop has one with all below w
+    pub all-below : marketIn case .paired s w ≡ true → setOf table s ≡ allOf table → pairsUpTo table s (w - 1) ≡ w - 1
+    all-below e q =
+        let r : ((1 ≤ s) × (s ≤ 512)) × ((1 ≤ w) × (w ≤ 64)) = T .named s w e in
+        let m : member (setOf table s) w ≡ true = T .set s w (r .0 .0) (r .0 .1) ∙ e in
+        count-all (member (setOf table s)) (w - 1) (λ x f g. rw q (T .all w x (rw q at m) f (omega arith)))
+
     -- the test of names that nobody has
     pub nobody : ((ltb s 1 || ltb 512 s) || (ltb w 1 || ltb 64 w)) ≡ true → false ≡ marketIn case .paired s w
     nobody t = sym (is-false (marketIn case .paired s w) (λ e. none (T .named s w e)))

@@ -40,5 +40,6 @@ module _ (case : List ℕ) (c : Clean case (rowCount case)) (few : marketIn case
         quota = quota-at case c;
         only = pair-from case c;
         pair = places case c .pair;
+        named = λ k f l. pair-names case c k l (places case c .pair k f l) .0 .1;
         rises = rises;
       }

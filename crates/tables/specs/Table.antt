@@ -1,9 +1,8 @@
--- The table of a case: 1088 entries of 64 bits, made once for a call. By it a pair's record and a workshop's seats are found without a search.
+-- The table of a case: 1089 entries of 64 bits, made once for a call. By it a pair's record and a workshop's seats are found without a search.
 use Prim.Native.Nat.{ℕ, _+_, _-_, _*_, _≤_, _<_}
 use mathlib.Core.Path.{_≡_}
-use mathlib.Core.Bool.{true, _||_}
+use mathlib.Core.Bool.{true}
 use mathlib.Core.List.{List}
-use lib.Dec.{eqb}
 use lib.ListN.{length, getD}
 use Rattle.base.specs.Lists.{count}
 use Rattle.base.specs.Bits.{member}
@@ -26,30 +25,17 @@ firstOf table s = getD table (511 + s) 0
 abbrev pub startOf : List ℕ → ℕ → ℕ
 startOf table w = getD table (1023 + w) 0
 
+-- the set of all workshops, from 1 on
+abbrev pub allOf : List ℕ → ℕ
+allOf table = getD table 1088 0
+
 -- how many of her pairs are with the workshops 1 to n
 abbrev pub pairsUpTo : List ℕ → ℕ → ℕ → ℕ
 pairsUpTo table s n = count (member (setOf table s)) n
 
 pub record Blank (table : List ℕ) : Type 0 where
-  pub sized : length table ≡ 1088
+  pub sized : length table ≡ 1089
   pub zero : (k : ℕ) → getD table k 0 ≡ 0
-
--- ---- The table describes the case.
-pub record Tabled (case table : List ℕ) : Type 0 where
-  pub sized : length table ≡ 1088
-  pub named : (s w : ℕ) → marketIn case .paired s w ≡ true → ((1 ≤ s) × (s ≤ 512)) × ((1 ≤ w) × (w ≤ 64))
-  pub set : (s w : ℕ) → 1 ≤ s → s ≤ 512 → member (setOf table s) w ≡ marketIn case .paired s w
-  pub place : (s w : ℕ) → marketIn case .paired s w ≡ true → pairPlace case s w ≡ firstOf table s + pairsUpTo table s (w - 1)
-  pub few : marketIn case .workshops ≤ 64
-  pub start : (w : ℕ) → 1 ≤ w → w ≤ marketIn case .workshops → startOf table w ≡ seatsBefore (marketIn case) w
-
--- The pairs of student s are the records from `first` on, as many as `many`.
-pub record Stretch (case : List ℕ) (s first many : ℕ) : Type 0 where
-  pub inside : (k : ℕ) → k < many → first + k < rowCount case
-  pub each : (k : ℕ) → k < many → (rowAt case (first + k) .kind ≡ 3) × (rowAt case (first + k) .first ≡ s)
-  pub all : (w : ℕ) → marketIn case .paired s w ≡ true → (first ≤ pairPlace case s w) × (pairPlace case s w < first + many)
-
--- ---- What the table is made from.
 
 -- the student and the workshop of record k, a pair
 abbrev pub studentIn : List ℕ → ℕ → ℕ
@@ -57,6 +43,27 @@ studentIn case k = rowAt case k .first
 
 abbrev pub workshopIn : List ℕ → ℕ → ℕ
 workshopIn case k = rowAt case k .second
+
+-- ---- The table describes the case.
+pub record Tabled (case table : List ℕ) : Type 0 where
+  pub sized : length table ≡ 1089
+  pub named : (s w : ℕ) → marketIn case .paired s w ≡ true → ((1 ≤ s) × (s ≤ 512)) × ((1 ≤ w) × (w ≤ 64))
+  pub set : (s w : ℕ) → 1 ≤ s → s ≤ 512 → member (setOf table s) w ≡ marketIn case .paired s w
+  pub place : (s w : ℕ) → marketIn case .paired s w ≡ true → pairPlace case s w ≡ firstOf table s + pairsUpTo table s (w - 1)
+  pub all : (w x : ℕ) → member (allOf table) w ≡ true → 1 ≤ x → x ≤ w → member (allOf table) x ≡ true
+  pub few : marketIn case .workshops ≤ 64
+  pub start : (w : ℕ) → 1 ≤ w → w ≤ marketIn case .workshops → startOf table w ≡ seatsBefore (marketIn case) w
+
+-- The pairs of student s are the records from `first` on, as many as `many`.
+pub record Stretch (case : List ℕ) (s first many : ℕ) : Type 0 where
+  pub few : many ≤ 64
+  pub inside : (k : ℕ) → k < many → first + k < rowCount case
+  pub each : (k : ℕ) → k < many → (rowAt case (first + k) .kind ≡ 3) × (rowAt case (first + k) .first ≡ s)
+  pub paired : (k : ℕ) → k < many → marketIn case .paired s (workshopIn case (first + k)) ≡ true
+  pub place : (k : ℕ) → k < many → pairPlace case s (workshopIn case (first + k)) ≡ first + k
+  pub all : (w : ℕ) → marketIn case .paired s w ≡ true → (first ≤ pairPlace case s w) × (pairPlace case s w < first + many)
+
+-- ---- What the table is made from.
 
 -- the pairs (a k, b k), with k from `from` to n - 1, rise by student and then workshop
 pub record Rise (a b : ℕ → ℕ) (from n : ℕ) : Type 0 where
@@ -73,28 +80,30 @@ pub record Standing (case : List ℕ) (n m : ℕ) : Type 0 where
   pub quota : (w : ℕ) → 1 ≤ w → w ≤ m → marketIn case .quota w ≡ rowAt case (n + w - 1) .second
   pub only : (k : ℕ) → k < rowCount case → rowAt case k .kind ≡ 3 → n + m ≤ k
   pub pair : (k : ℕ) → n + m ≤ k → k < rowCount case → rowAt case k .kind ≡ 3
+  pub named : (k : ℕ) → n + m ≤ k → k < rowCount case → studentIn case k ≤ n
   pub rises : Rise (studentIn case) (workshopIn case) (n + m) (rowCount case)
 
 -- ---- What the steps of its making give.
 
--- the table with record i, a pair of student s and workshop w, beside what it had
-pub record Added (old new : List ℕ) (i s w : ℕ) : Type 0 where
-  pub sized : length new ≡ 1088
-  pub set : (x : ℕ) → member (setOf new s) x ≡ (eqb x w || member (setOf old s) x)
-  pub fresh : pairsUpTo old s 64 ≡ 0 → firstOf new s ≡ i
-  pub kept : (x : ℕ) → member (setOf old s) x ≡ true → firstOf new s ≡ firstOf old s
-  pub others : (t : ℕ) → 1 ≤ t → t ≤ 512 → (t ≡ s → ⊥) → (setOf new t ≡ setOf old t) × (firstOf new t ≡ firstOf old t)
+-- those of the pairs (a k, b k), with k from `from` to n - 1, that stand first and are of student s: the set of their workshops, and the end
+pub record Piled (a b : ℕ → ℕ) (from n s set end : ℕ) : Type 0 where
+  pub reach : (from ≤ end) × (end ≤ n)
+  pub hers : (k : ℕ) → from ≤ k → k < end → a k ≡ s
+  pub stop : end < n → a end ≡ s → ⊥
+  pub sound : (x : ℕ) → member set x ≡ true → (k : ℕ) × (from ≤ k) × (k < end) × (b k ≡ x)
+  pub full : (k : ℕ) → from ≤ k → k < end → member set (b k) ≡ true
+  pub place : (k : ℕ) → from ≤ k → k < end → from + count (member set) (b k - 1) ≡ k
 
 -- the table describes the pairs (a k, b k) with k from `from` to i - 1
 pub record Noted (a b : ℕ → ℕ) (from i : ℕ) (table : List ℕ) : Type 0 where
-  pub sized : length table ≡ 1088
+  pub sized : length table ≡ 1089
   pub sound : (s x : ℕ) → 1 ≤ s → s ≤ 512 → member (setOf table s) x ≡ true → (k : ℕ) × (from ≤ k) × (k < i) × (a k ≡ s) × (b k ≡ x)
   pub full : (k : ℕ) → from ≤ k → k < i → member (setOf table (a k)) (b k) ≡ true
   pub place : (k : ℕ) → from ≤ k → k < i → firstOf table (a k) + pairsUpTo table (a k) (b k - 1) ≡ k
-  pub last : from < i → firstOf table (a (i - 1)) + pairsUpTo table (a (i - 1)) 64 ≡ i
 
--- the table with the starts of the seats of workshops 1 to m - 1 beside its other entries
+-- the table with the starts of the seats of workshops 1 to m - 1, and their set, beside its other entries
 pub record Started (case : List ℕ) (old new : List ℕ) (m : ℕ) : Type 0 where
-  pub sized : length new ≡ 1088
+  pub sized : length new ≡ 1089
   pub others : (k : ℕ) → k < 1024 → getD new k 0 ≡ getD old k 0
+  pub all : (w x : ℕ) → member (allOf new) w ≡ true → 1 ≤ x → x ≤ w → member (allOf new) x ≡ true
   pub start : (w : ℕ) → 1 ≤ w → w < m → startOf new w ≡ seatsBefore (marketIn case) w

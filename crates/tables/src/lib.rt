@@ -1,8 +1,7 @@
 // A table of the pairs and of where the seats start, made once for a call: a pair's record is her first pair's plus the count of her workshops before it.
 ghost use mathlib.Core.Path.{_≡_};
-ghost use mathlib.Core.Bool.{true, cond};
-ghost use Prim.Native.Nat.{_+_, _-_, _≤_, _<_};
-ghost use lib.Dec.{eqb};
+ghost use mathlib.Core.Bool.{true};
+ghost use Prim.Native.Nat.{ℕ, _+_, _-_, _≤_, _<_};
 ghost use lib.ListN.{length};
 ghost use Rattle.base.specs.Lists.{count};
 ghost use Rattle.base.specs.Bits.{member};
@@ -10,62 +9,70 @@ ghost use Rattle.lgs.specs.Market.{seatsBefore};
 ghost use Rattle.format.specs.Layout.{rowCount};
 ghost use Rattle.format.specs.Engine.{marketIn};
 ghost use Rattle.records.specs.Records.{pairPlace};
-ghost use Rattle.tables.specs.Table.{Blank, Tabled, Stretch, Rise, Standing, Added, Noted, Started, studentIn, workshopIn};
+ghost use Rattle.tables.specs.Table.{Blank, Tabled, Stretch, Rise, Standing, Noted, Started, Piled, studentIn, workshopIn};
 
 // ---- the making
 
-// Where a student's pairs begin, given that record i is one: there, unless she had pairs before.
-fn begin(set: u64, first: u64, i: usize) -> u64
-    ensures { λ r. ⌜ r ≡ cond (eqb set 0) i first ⌝ }
+// The workshops of one student's pairs, and the record after the last of them.
+struct Pile {
+    set: u64,
+    end: usize,
+}
+
+// The pairs of student s, which begin at record `from` where she has any.
+fn take_pile(case: &[u8], rows: usize, from: usize, s: usize) -> Pile
+    requires { ⌜ (rows ≡ rowCount (now case)) × (from ≤ rows) ⌝ }
+    requires { ⌜ Rise (studentIn (now case)) (workshopIn (now case)) from rows ⌝ }
+    ensures { λ r. ⌜ Piled (studentIn (now (case .entry))) (workshopIn (now (case .entry))) from rows s (r .set) (r .end) ⌝ }
 {
-    if set == 0 {
-        return i as u64;
+    let mut set = 0;
+    let mut i = from;
+    while i < rows {
+        if records::first_at(case, i) as usize != s {
+            return Pile { set, end: i };
+        }
+        set = bits::with_bit(set, records::second_at(case, i) as usize);
+        i += 1;
     }
-    first
+    Pile { set, end: i }
 }
 
-// Record i, a pair of student s and workshop w, goes into the table.
-fn note(table: &mut [u64], i: usize, s: usize, w: usize)
-    requires { ⌜ length (now table) ≡ 1088 ⌝ }
-    requires { ⌜ ((1 ≤ s) × (s ≤ 512)) × ((1 ≤ w) × (w ≤ 64)) ⌝ }
-    ensures { λ _. ⌜ Added (now (table .entry)) (now (table .exit)) i s w ⌝ }
-{
-    let set = table[s - 1];
-    let first = begin(set, table[511 + s], i);
-    table[511 + s] = first;
-    table[s - 1] = bits::with_bit(set, w);
-}
-
-// The pairs' records, from record `from` on.
-fn note_pairs(case: &[u8], from: usize, table: &mut [u64])
-    requires { ⌜ from ≤ rowCount (now case) ⌝ }
+// The pairs' records, from record `from` on, student by student.
+fn note_pairs(case: &[u8], from: usize, students: usize, table: &mut [u64])
+    requires { ⌜ (from ≤ rowCount (now case)) × (students ≤ 512) ⌝ }
     requires { ⌜ Rise (studentIn (now case)) (workshopIn (now case)) from (rowCount (now case)) ⌝ }
+    requires { ⌜ ((k : ℕ) → from ≤ k → k < rowCount (now case) → studentIn (now case) k ≤ students) ⌝ }
     requires { ⌜ Blank (now table) ⌝ }
     ensures { λ _. ⌜ Noted (studentIn (now (case .entry))) (workshopIn (now (case .entry))) from (rowCount (now (case .entry))) (now (table .exit)) ⌝ }
 {
     let rows = records::row_count(case.len());
     let mut i = from;
-    while i < rows {
-        let s = records::first_at(case, i) as usize;
-        let w = records::second_at(case, i) as usize;
-        note(&mut *table, i, s, w);
-        i += 1;
+    let mut s = 0;
+    while s < students {
+        let own = take_pile(case, rows, i, s + 1);
+        table[512 + s] = i as u64;
+        table[s] = own.set;
+        i = own.end;
+        s += 1;
     }
 }
 
-// The workshops' records: where the seats of each start.
+// The workshops' records: where the seats of each start, and the set of them all.
 fn note_starts(case: &[u8], students: usize, workshops: usize, table: &mut [u64])
     requires { ⌜ Standing (now case) students workshops ⌝ }
-    requires { ⌜ length (now table) ≡ 1088 ⌝ }
+    requires { ⌜ length (now table) ≡ 1089 ⌝ }
     ensures { λ _. ⌜ Started (now (case .entry)) (now (table .entry)) (now (table .exit)) (workshops + 1) ⌝ }
 {
     let mut sum = 0;
+    let mut all = 0;
     let mut w = 1;
     while w <= workshops {
         table[1023 + w] = sum;
         sum += records::second_at(case, students + w - 1) as u64;
+        all = bits::with_bit(all, w);
         w += 1;
     }
+    table[1088] = all;
 }
 
 // The table of a case that passed causes 2 to 5.
@@ -74,7 +81,7 @@ pub fn build(case: &[u8], students: usize, workshops: usize, table: &mut [u64])
     requires { ⌜ Blank (now table) ⌝ }
     ensures { λ _. ⌜ Tabled (now (case .entry)) (now (table .exit)) ⌝ }
 {
-    note_pairs(case, students + workshops, &mut *table);
+    note_pairs(case, students + workshops, students, &mut *table);
     note_starts(case, students, workshops, &mut *table);
 }
 
@@ -99,13 +106,18 @@ fn members_below(set: u64, w: usize) -> usize
     u64::count_ones(set & ((1u64 << (w - 1)) - 1)) as usize
 }
 
-// The number of the pair's record.
+// The number of the pair's record. A student who has a pair with every workshop has one with all below w.
 pub fn pair_at(case: &[u8], table: &[u64], s: usize, w: usize) -> usize
     requires { ⌜ Tabled (now case) (now table) ⌝ }
     requires { ⌜ marketIn (now case) .paired s w ≡ true ⌝ }
     ensures { λ r. ⌜ r ≡ pairPlace (now (case .entry)) s w ⌝ }
 {
-    table[511 + s] as usize + members_below(table[s - 1], w)
+    let set = table[s - 1];
+    let first = table[511 + s] as usize;
+    if set == table[1088] {
+        return first + (w - 1);
+    }
+    first + members_below(set, w)
 }
 
 // The number of the pair's record, or how many records there are where it has none.

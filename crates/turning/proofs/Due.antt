@@ -51,10 +51,6 @@ module _ (M : Market) (B : Results) (seats : List ℕ) (s t w : ℕ) where
 
 -- p is the place of the pair's record, or how many records there are
 module _ (case : List ℕ) (s w t p : ℕ) (e : p ≡ pairPlace case s w) where
-  pub tier-unpaired : rowCount case ≤ p → inTier (marketIn case) s t w ≡ false
-  unfolding inTier
-  tier-unpaired h = rw (paired-place case s w, le-ltb (pairPlace case s w) (rowCount case) (omega arith))
-
   module _ (l : p < rowCount case) where
     pair-there : marketIn case .paired s w ≡ true
     pair-there = paired-place case s w ∙ lt-ltb (pairPlace case s w) (rowCount case) (omega arith)

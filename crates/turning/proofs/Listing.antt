@@ -1,21 +1,22 @@
 -- The workshops of one tier: as they are listed, and as the list is gone over.
-use Prim.Native.Nat.{ℕ, zero, suc, _+_, _*_, _≤_, _<_}
+use Prim.Native.Nat.{ℕ, zero, suc, _+_, _-_, _≤_, _<_}
 use mathlib.Core.Path.{_≡_, refl, sym, ap, _∙_}
-use mathlib.Core.Logic.{⊎-elim}
+use mathlib.Core.Logic.{_⊎_, inl, inr, ⊎-elim}
 use mathlib.Core.Bool.{Bool, true, false}
 use mathlib.Core.List.{List}
 use native.Mathlib.Omega.{arith}
-use native.Mathlib.Numerals.{add-one}
 use lib.ListN.{length, getD, set, length-set}
 use lib.Seq.{getD-set-same, getD-set-other}
 use Rattle.base.specs.Lists.{one, count}
-use Rattle.base.proofs.Tests.{less?, is-false, never}
+use Rattle.base.proofs.Tests.{less?, is-false, never, and-left}
 use Rattle.base.proofs.Counting.{count-le}
-use Rattle.lgs.specs.Market.{Market, Results, seatsOf, seatsBefore}
+use Rattle.lgs.specs.Market.{Market, Results}
 use Rattle.format.specs.Layout.{rowAt, rowCount}
 use Rattle.format.specs.Engine.{marketIn}
 use Rattle.records.specs.Records.{pairPlace}
-use Rattle.model.proofs.Storage.{before-first, before-on}
+use Rattle.tables.specs.Table.{workshopIn, Tabled, Stretch}
+use Rattle.tables.proofs.Laws.{count-stop}
+use Rattle.tables.proofs.Reading.{places-rise}
 use Rattle.model.specs.Turn.{dueAt, roundTo}
 use Rattle.lookup.specs.Clean.{PairAt}
 use Rattle.turning.specs.Round.{inTier, TierListed}
@@ -34,75 +35,116 @@ placed f g k x l h room e v b p =
     (λ (q : k ≤ v). let y : v ≡ k = omega arith in rw y (getD-set-same l (count f k) x 0 room ∙ e))
     (less? v k)
 
-module _ (case : List ℕ) (s t : ℕ) (pairs starts : List ℕ) where
-  pub list-start : TierListed case s t 0 0 pairs starts
+module _ (case : List ℕ) (s t : ℕ) (pairs : List ℕ) where
+  abbrev of-tier : ℕ → Bool
+  of-tier = inTier (marketIn case) s t
+
+  pub list-start : TierListed case s t 0 0 pairs
   unfolding count
-  list-start = record { many = refl; pair = λ v l p. absurd (omega arith); start = λ v l p. absurd (omega arith) }
+  list-start = record { many = refl; pair = λ v l p. absurd (omega arith) }
 
-  pub list-more : (k n : ℕ) → TierListed case s t k n pairs starts → n < length pairs → n < length starts → (p q x : ℕ)
-      → p ≡ pairPlace case s (k + 1)
-      → q ≡ seatsBefore (marketIn case) (k + 1)
-      → x ≡ one (inTier (marketIn case) s t (k + 1))
-      → TierListed case s t (k + 1) (n + x) (set pairs n p) (set starts n q)
+  pub list-more : (k n : ℕ) → TierListed case s t k n pairs → n < length pairs → (p x : ℕ)
+      → p ≡ pairPlace case s (suc k)
+      → x ≡ one (of-tier (suc k))
+      → TierListed case s t (suc k) (n + x) (set pairs n p)
   unfolding count
-  list-more k n l a b p q x d e f = rw (add-one k) (record { many = more; pair = pair′; start = start′ })
-    where
-      more : n + x ≡ count (inTier (marketIn case) s t) (suc k)
-      more = let f′ : x ≡ one (inTier (marketIn case) s t (suc k)) = rw (add-one k) at f in omega (arith, l .many)
+  list-more k n l a p x d f =
+      record {
+        many = omega (arith, l .many);
+        pair = rw (l .many) (placed of-tier (pairPlace case s) k p pairs (l .pair) (omega (arith, l .many)) d);
+      }
 
-      pair′ : (v : ℕ) → v < suc k → inTier (marketIn case) s t (suc v) ≡ true → getD (set pairs n p)
-          (count (inTier (marketIn case) s t) v) 0 ≡ pairPlace case s (suc v)
-      pair′ = rw (l .many) (placed (inTier (marketIn case) s t) (pairPlace case s) k p pairs (l .pair) (omega (arith, l .many)) (rw (add-one k) at d))
+  -- where none of the next workshops is of the tier, the list stays
+  pub list-on : (a b n : ℕ) → a ≤ b → ((w : ℕ) → a < w → w ≤ b → of-tier w ≡ false) → TierListed case s t a n pairs → TierListed case s t b n pairs
+  list-on a b n l none i =
+      record {
+        many = i .many ∙ sym (count-stop of-tier a b l none);
+        pair = λ v h p. ⊎-elim (λ (q : v < a). i .pair v q p) (λ (q : a ≤ v). never p (none (suc v) (omega arith) (omega arith))) (less? v a);
+      }
 
-      start′ : (v : ℕ) → v < suc k → inTier (marketIn case) s t (suc v) ≡ true → getD (set starts n q)
-          (count (inTier (marketIn case) s t) v) 0 ≡ seatsBefore (marketIn case) (suc v)
-      start′ = rw (l .many) (placed (inTier (marketIn case) s t) (seatsBefore (marketIn case)) k q starts (l .start) (omega (arith, l .many))
-          (rw (add-one k) at e))
+-- her first k pairs, from record `first` on, have been gone over; they are those with the workshops 1 to `upTo`
+pub record Listing (case : List ℕ) (s t first : ℕ) (old pairs : List ℕ) (n k : ℕ) : Type 0 where
+  pub upTo : ℕ
+  pub listed : TierListed case s t upTo n pairs
+  pub hers : (upTo ≡ 0) ⊎ (marketIn case .paired s upTo ≡ true)
+  pub left : (w : ℕ) → marketIn case .paired s w ≡ true → upTo < w → first + k ≤ pairPlace case s w
+  pub done : (w : ℕ) → marketIn case .paired s w ≡ true → w ≤ upTo → pairPlace case s w < first + k
+  pub few : n ≤ k
+  pub same : length pairs ≡ length old
 
--- after the first k workshops: n are listed, and `from` is where the next one's seats start
-pub record Listing (case : List ℕ) (s t m : ℕ) (oldPairs oldStarts pairs starts : List ℕ) (n from k : ℕ) : Type 0 where
-  pub within : k ≤ m
-  pub listed : TierListed case s t k n pairs starts
-  pub seats : from ≡ seatsBefore (marketIn case) (k + 1)
-  pub small : from ≤ 65535 * k
-  pub samePairs : length pairs ≡ length oldPairs
-  pub sameStarts : length starts ≡ length oldStarts
+module _ (case table : List ℕ) (T : Tabled case table) (s t first many : ℕ) (S : Stretch case s first many) (old : List ℕ) where
+  pub listing-start : Listing case s t first old old 0 0
+  listing-start =
+      record {
+        upTo = 0;
+        listed = list-start case s t old;
+        hers = inl refl;
+        left = λ w p l. omega (arith, S .all w p);
+        done = λ w p l. omega (arith, T .named s w p);
+        few = omega arith;
+        same = refl;
+      }
 
-module _ (case : List ℕ) (s t m : ℕ) (oldPairs oldStarts : List ℕ) where
-  pub listing-start : Listing case s t m oldPairs oldStarts oldPairs oldStarts 0 0 0
-  listing-start = record {
-    within = omega arith;
-    listed = list-start case s t oldPairs oldStarts;
-    seats = sym (before-first (marketIn case));
-    small =
-        omega arith;
-    samePairs = refl;
-    sameStarts = refl;
-  }
+  module _ (pairs : List ℕ) (n k : ℕ) (i : Listing case s t first old pairs n k) where
+    -- a workshop of the tier has a pair with her
+    unpaired : (w : ℕ) → (marketIn case .paired s w ≡ true → ⊥) → inTier (marketIn case) s t w ≡ false
+    unfolding inTier
+    unpaired w f = is-false _ (λ e. f (and-left (marketIn case .paired s w) _ e))
 
-  module _ (pairs starts : List ℕ) (n from k : ℕ) (i : Listing case s t m oldPairs oldStarts pairs starts n from k) where
-    pub listing-few : n ≤ k
-    listing-few = omega (arith, i .listed .many, count-le (inTier (marketIn case) s t) k)
+    pub listing-end : many ≤ k → (m : ℕ) → ((w : ℕ) → marketIn case .paired s w ≡ true → w ≤ m) → TierListed case s t m n pairs
+    listing-end h m named =
+        list-on case s t pairs (i .upTo) m n within
+        (λ w l u. unpaired w (λ p. omega (arith, i .left w p l, S .all w p)))
+        (i .listed)
+      where
+        within : i .upTo ≤ m
+        within = ⊎-elim (λ (e : i .upTo ≡ 0). omega arith) (λ (p : marketIn case .paired s (i .upTo) ≡ true). named (i .upTo) p) (i .hers)
 
-    pub listing-end : m ≤ k → TierListed case s t m n pairs starts
-    listing-end l = let e : m ≡ k = omega (arith, i .within) in rw e (i .listed)
+    module _ (l : k < many) (w : ℕ) (e : w ≡ workshopIn case (first + k)) where
+      hers-at : marketIn case .paired s w ≡ true
+      hers-at = rw e (S .paired k l)
 
-    pub listing-more : k < m → m ≤ length oldPairs → m ≤ length oldStarts → (p q x : ℕ)
-        → p ≡ pairPlace case s (k + 1)
-        → q ≡ from + seatsOf (marketIn case) (k + 1)
-        → q ≤ from + 65535
-        → x ≡ one (inTier (marketIn case) s t (k + 1))
-        → Listing case s t m oldPairs oldStarts (set pairs n p) (set starts n from) (n + x) q (k + 1)
-    listing-more l a b p q x d e f g =
-        record {
-          within = omega arith;
-          listed = list-more case s t pairs starts k n (i .listed) (omega (arith, i .samePairs, listing-few))
-              (omega (arith, i .sameStarts, listing-few)) p from x d (i .seats) g;
-          seats = omega (arith, i .seats, before-on (marketIn case) (k + 1) (omega arith));
-          small = omega (arith, i .small);
-          samePairs = length-set pairs n p ∙ i .samePairs;
-          sameStarts = length-set starts n from ∙ i .sameStarts;
-        }
+      place-at : pairPlace case s w ≡ first + k
+      place-at = rw e (S .place k l)
+
+      from-one : 1 ≤ w
+      from-one = T .named s w hers-at .1 .0
+
+      beyond : i .upTo < w
+      beyond = ⊎-elim (λ (q : i .upTo < w). q) (λ (q : w ≤ i .upTo). absurd (omega (arith, i .done w hers-at q, place-at))) (less? (i .upTo) w)
+
+      between : TierListed case s t (w - 1) n pairs
+      between =
+          list-on case s t pairs (i .upTo) (w - 1) n (omega (arith, beyond))
+          (λ v a b. unpaired v (λ p. omega (
+            arith,
+            i .left v p a,
+            places-rise case table T s v w p hers-at (omega (arith, from-one)),
+            place-at,
+          )))
+          (i .listed)
+
+      pub listing-more : (x : ℕ) → n < length pairs → x ≡ one (inTier (marketIn case) s t w) → Listing case s t first old (set pairs n (first + k)) (n + x) (k + 1)
+      listing-more x room f =
+          record {
+            upTo = w;
+            listed = rw d at (list-more case s t pairs (w - 1) n between room (first + k) x (rw d (sym place-at)) (rw d f));
+            hers = inr hers-at;
+            left = λ v p a. omega (arith, places-rise case table T s w v hers-at p a, place-at);
+            done = λ v p a.
+                ⊎-elim (λ (q : v < w). omega (arith, places-rise case table T s v w p hers-at q, place-at))
+                (λ (q : w ≤ v). let y : v ≡ w = omega arith in rw y (omega (arith, place-at)))
+                (less? v w);
+            few = omega (arith, i .few, one-few (inTier (marketIn case) s t w));
+            same = length-set pairs n (first + k) ∙ i .same;
+          }
+        where
+          d : suc (w - 1) ≡ w
+          d = omega (arith, from-one)
+
+          one-few : (b : Bool) → one b ≤ 1
+          one-few true = omega arith
+          one-few false = omega arith
 
 -- ---- the list is gone over
 
@@ -162,30 +204,29 @@ module _ (M : Market) (B : Results) (seats : List ℕ) (s t set held : ℕ) (old
       record { all = rw q (r .all); sets = rw q (r .sets); on = rw q (r .on); written = rw q (r .written) }
 
 -- k of the n workshops listed have been gone over
-pub record Going (case : List ℕ) (B : Results) (seats : List ℕ) (s t set held m n : ℕ) (pairs starts old visits : List ℕ) (total openings k : ℕ) : Type 0 where
-  pub listed : TierListed case s t m n pairs starts
+pub record Going (case : List ℕ) (B : Results) (seats : List ℕ) (s t set held m n : ℕ) (pairs old visits : List ℕ) (total openings k : ℕ) : Type 0 where
+  pub listed : TierListed case s t m n pairs
   pub done : ℕ
   pub within : done ≤ m
   pub place : count (inTier (marketIn case) s t) done ≡ k
   pub so : Rounding (marketIn case) B seats s t set held old visits total openings done
 
--- the workshop at place k of the list is w; its pair's record is p, and its seats start at f
-pub record Coming (case : List ℕ) (B : Results) (seats : List ℕ) (s t set held m : ℕ) (old visits : List ℕ) (total openings k w p f : ℕ) : Type 0 where
+-- the workshop at place k of the list is w; its pair's record is p
+pub record Coming (case : List ℕ) (B : Results) (seats : List ℕ) (s t set held m : ℕ) (old visits : List ℕ) (total openings k w p : ℕ) : Type 0 where
   pub at : ℕ
   pub below : at < m
   pub number : w ≡ suc at
   pub place : count (inTier (marketIn case) s t) at ≡ k
   pub tier : inTier (marketIn case) s t w ≡ true
   pub pair : p ≡ pairPlace case s w
-  pub start : f ≡ seatsBefore (marketIn case) w
   pub so : Rounding (marketIn case) B seats s t set held old visits total openings at
 
-module _ (case : List ℕ) (B : Results) (seats : List ℕ) (s t set held m n : ℕ) (pairs starts old : List ℕ) where
-  pub going-start : TierListed case s t m n pairs starts → Going case B seats s t set held m n pairs starts old old held set 0
+module _ (case : List ℕ) (B : Results) (seats : List ℕ) (s t set held m n : ℕ) (pairs old : List ℕ) where
+  pub going-start : TierListed case s t m n pairs → Going case B seats s t set held m n pairs old old held set 0
   unfolding count
   going-start l = record { listed = l; done = 0; within = omega arith; place = refl; so = round-start (marketIn case) B seats s t set held old }
 
-  module _ (visits : List ℕ) (total openings k : ℕ) (g : Going case B seats s t set held m n pairs starts old visits total openings k) where
+  module _ (visits : List ℕ) (total openings k : ℕ) (g : Going case B seats s t set held m n pairs old visits total openings k) where
     -- there are no more places than workshops
     pub going-few : n ≤ m
     going-few = omega (arith, g .listed .many, count-le (inTier (marketIn case) s t) m)
@@ -200,7 +241,7 @@ module _ (case : List ℕ) (B : Results) (seats : List ℕ) (s t set held m n : 
       pub ahead : Next (inTier (marketIn case) s t) (g .done) m
       ahead = next (inTier (marketIn case) s t) (g .done) m (g .within) (omega (arith, g .listed .many, g .place))
 
-      pub coming : Coming case B seats s t set held m old visits total openings k (suc (ahead .at)) (getD pairs k 0) (getD starts k 0)
+      pub coming : Coming case B seats s t set held m old visits total openings k (suc (ahead .at)) (getD pairs k 0)
       coming =
           let e : count (inTier (marketIn case) s t) (ahead .at) ≡ k = ahead .same ∙ g .place in
           record {
@@ -210,7 +251,6 @@ module _ (case : List ℕ) (B : Results) (seats : List ℕ) (s t set held m n : 
             place = e;
             tier = ahead .passes;
             pair = ap (λ (i : ℕ). getD pairs i 0) (sym e) ∙ g .listed .pair (ahead .at) (ahead .to) (ahead .passes);
-            start = ap (λ (i : ℕ). getD starts i 0) (sym e) ∙ g .listed .start (ahead .at) (ahead .to) (ahead .passes);
             so = round-passed (marketIn case) B seats s t set held old visits total openings (g .done) (ahead .at) (ahead .from) (ahead .same) (g .so);
           }
 
@@ -220,15 +260,15 @@ module _ (case : List ℕ) (B : Results) (seats : List ℕ) (s t set held m n : 
         coming-within = omega (arith, coming .pair, found (suc (ahead .at)) (tier-pair (marketIn case) B seats s t (suc (ahead .at)) (coming .tier)) .within)
 
         pub coming-as : (w : ℕ) → w ≡ rowAt case (getD pairs k 0) .second → Coming case B seats s t set held m old visits total openings k w
-            (getD pairs k 0) (getD starts k 0)
+            (getD pairs k 0)
         coming-as w e = rw (e ∙ pair-second case s (suc (ahead .at)) t (getD pairs k 0) (coming .pair) coming-within) coming
 
     -- the workshop has been dealt with
-    pub going-on : (w p f : ℕ) (visits′ : List ℕ) (total′ openings′ : ℕ)
-        → Coming case B seats s t set held m old visits total openings k w p f
+    pub going-on : (w p : ℕ) (visits′ : List ℕ) (total′ openings′ : ℕ)
+        → Coming case B seats s t set held m old visits total openings k w p
         → Rounding (marketIn case) B seats s t set held old visits′ total′ openings′ w
-        → Going case B seats s t set held m n pairs starts old visits′ total′ openings′ (k + 1)
+        → Going case B seats s t set held m n pairs old visits′ total′ openings′ (k + 1)
     unfolding count
-    going-on w p f visits′ total′ openings′ c r =
+    going-on w p visits′ total′ openings′ c r =
         let y : inTier (marketIn case) s t (suc (c .at)) ≡ true = rw (← c .number) (c .tier) in
         record { listed = g .listed; done = w; within = omega (arith, c .number, c .below); place = rw (c .number) (omega (arith, c .place, ap one y)); so = r }

@@ -45,19 +45,21 @@ module _ (M : Market) (B : Results) (seats : List ℕ) (a : SeatedAll M B seats)
   pub long-to : seatsBefore M w + seatsOf M w ≤ length seats
   long-to = omega (arith, part-inside M w l h, a .long)
 
-pub seats-at : {case book index : List ℕ} {n m : ℕ} (k : Clean case book index n m) (seats : List ℕ)
+pub seats-at : {case book index table : List ℕ} {n m : ℕ} (k : Clean case book index table n m) (seats : List ℕ)
     → SeatedAll (marketIn case) (resultsIn book) seats
     → (w : ℕ)
     → 1 ≤ w
     → w ≤ m
     → SeatsAt case seats n w
-seats-at {case} {book} {index} {n} {m} k seats a w l h =
+seats-at {case} {book} {index} {table} {n} {m} k seats a w l h =
     let u : w ≤ marketIn case .workshops = omega (arith, k .workshops) in
     record {
-      workshop = (l, omega (arith, k .found .manyWorkshops));
+      workshop = (l, omega (arith, k .manyWorkshops));
       each = λ v p q. k .workshop v p (omega arith);
       long = long-to (marketIn case) (resultsIn book) seats a w l u;
-      last = λ z. k .pair (lastOf (marketIn case) seats w) w (last-booked (marketIn case) (resultsIn book) seats a w l u z .pair);
+      last = λ z.
+          let p : marketIn case .paired (lastOf (marketIn case) seats w) w ≡ true = last-booked (marketIn case) (resultsIn book) seats a w l u z .pair in
+          (p, k .pair (lastOf (marketIn case) seats w) w p);
     }
 
 -- what she is told leaves her tier

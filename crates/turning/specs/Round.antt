@@ -20,7 +20,8 @@ pub record SeatsAt (case seats : List ℕ) (n w : ℕ) : Type 0 where
   pub workshop : (1 ≤ w) × (w ≤ 64)
   pub each : (v : ℕ) → 1 ≤ v → v ≤ w → WorkshopAt case n v
   pub long : seatsBefore (marketIn case) w + seatsOf (marketIn case) w ≤ length seats
-  pub last : 0 < lastOf (marketIn case) seats w → PairAt case (lastOf (marketIn case) seats w) w
+  pub last : 0 < lastOf (marketIn case) seats w
+      → (marketIn case .paired (lastOf (marketIn case) seats w) w ≡ true) × PairAt case (lastOf (marketIn case) seats w) w
 
 -- all seats are there, and whoever has one has been interviewed
 pub record SeatedAll (M : Market) (B : Results) (seats : List ℕ) : Type 0 where
@@ -35,10 +36,8 @@ roundOf count o = record { count = count + length (o .interviews); openings = o 
 unfoldable pub inTier : Market → ℕ → ℕ → ℕ → Bool
 inTier M s t w = M .paired s w && eqb (M .studentTier s w) t
 
--- of workshops 1 to m, the n that are of tier t for the student, in rising number: where each one's pair has its record, and where its seats start;
+-- of workshops 1 to m, the n that are of tier t for the student, in rising number: where each one's pair has its record;
 -- the place of each is how many come before it
-pub record TierListed (case : List ℕ) (s t m n : ℕ) (pairs starts : List ℕ) : Type 0 where
+pub record TierListed (case : List ℕ) (s t m n : ℕ) (pairs : List ℕ) : Type 0 where
   pub many : n ≡ count (inTier (marketIn case) s t) m
   pub pair : (v : ℕ) → v < m → inTier (marketIn case) s t (suc v) ≡ true → getD pairs (count (inTier (marketIn case) s t) v) 0 ≡ pairPlace case s (suc v)
-  pub start : (v : ℕ) → v < m → inTier (marketIn case) s t (suc v) ≡ true → getD starts (count (inTier (marketIn case) s t) v) 0 ≡ seatsBefore
-      (marketIn case) (suc v)

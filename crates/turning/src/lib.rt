@@ -17,7 +17,7 @@ ghost use Rattle.model.specs.Model.{shutBy};
 ghost use Rattle.model.specs.Store.{comesAfter, nextIn, lastOf};
 ghost use Rattle.model.specs.Turn.{toldState, withMember, favouriteIn, RoundSoFar, dueAt, roundTo, putAt, nextRun, afterRound, afterSeating, openTier, applyTo, turnOf, beginRun};
 ghost use Rattle.model.specs.Ready.{Booked, Ready};
-ghost use Rattle.records.specs.Records.{PairsFound};
+ghost use Rattle.tables.specs.Table.{Tabled};
 ghost use Rattle.lookup.specs.Clean.{StudentAt, WorkshopAt, PairAt, Clean};
 ghost use Rattle.turning.specs.Round.{SeatsAt, SeatedAll, roundOf, TierListed};
 use api::StudentState;
@@ -125,19 +125,20 @@ fn score_of(
     case: &[u8],
     book: &[u8],
     index: &[u16],
+    table: &[u64],
     students: usize,
     workshops: usize,
     s: usize,
     w: usize,
 ) -> i16
-    requires { ⌜ Clean (now case) (now book) (now index) students workshops ⌝ }
+    requires { ⌜ Clean (now case) (now book) (now index) (now table) students workshops ⌝ }
     requires { ⌜ (0 < w → Booked (marketIn (now case)) (resultsIn (now book)) s w) ⌝ }
     ensures { λ r. ⌜ biased r ≡ resultsIn (now (book .entry)) .studentScore s w ⌝ }
 {
     if w == 0 {
         return 0;
     }
-    lookup::student_score_of(case, book, index, students, workshops, s, w)
+    lookup::student_score_of(case, book, index, table, students, workshops, s, w)
 }
 
 // The best of `start` and the set: the lowest is compared and taken out until none is left.
@@ -145,23 +146,24 @@ fn best_from(
     case: &[u8],
     book: &[u8],
     index: &[u16],
+    table: &[u64],
     students: usize,
     workshops: usize,
     s: usize,
     start: usize,
     set: u64,
 ) -> usize
-    requires { ⌜ Clean (now case) (now book) (now index) students workshops ⌝ }
+    requires { ⌜ Clean (now case) (now book) (now index) (now table) students workshops ⌝ }
     requires { ⌜ (0 < start → Booked (marketIn (now case)) (resultsIn (now book)) s start) ⌝ }
     requires { ⌜ ((w : ℕ) → member set w ≡ true → Booked (marketIn (now case)) (resultsIn (now book)) s w) ⌝ }
     ensures { λ r. ⌜ r ≡ best (marketIn (now (case .entry))) (resultsIn (now (book .entry))) s start (members set) ⌝ }
 {
     let mut best = start;
-    let mut top = score_of(case, book, index, students, workshops, s, start);
+    let mut top = score_of(case, book, index, table, students, workshops, s, start);
     let mut rest = set;
     while rest > 0 {
         let w = bits::lowest(rest);
-        let score = score_of(case, book, index, students, workshops, s, w);
+        let score = score_of(case, book, index, table, students, workshops, s, w);
         rest = bits::without_lowest(rest);
         if records::above(score, top) {
             best = w;
@@ -176,62 +178,55 @@ fn favourite(
     case: &[u8],
     book: &[u8],
     index: &[u16],
+    table: &[u64],
     students: usize,
     workshops: usize,
     s: usize,
     outside: bool,
     set: u64,
 ) -> usize
-    requires { ⌜ Clean (now case) (now book) (now index) students workshops ⌝ }
+    requires { ⌜ Clean (now case) (now book) (now index) (now table) students workshops ⌝ }
     requires { ⌜ ((w : ℕ) → member set w ≡ true → Booked (marketIn (now case)) (resultsIn (now book)) s w) ⌝ }
     ensures { λ r. ⌜ r ≡ favouriteIn (marketIn (now (case .entry))) (resultsIn (now (book .entry))) s outside set ⌝ }
 {
     if outside {
-        return best_from(case, book, index, students, workshops, s, 0, set);
+        return best_from(case, book, index, table, students, workshops, s, 0, set);
     }
     if bits::count(set) == 0 {
         return 0;
     }
     let w = bits::lowest(set);
     let rest = bits::without_bit(set, w);
-    best_from(case, book, index, students, workshops, s, w, rest)
+    best_from(case, book, index, table, students, workshops, s, w, rest)
 }
 
 // ---- a round of interviews
 
 // Somebody, l, has workshop w's last seat, and stands in a better tier there; 0 is nobody.
-fn is_full_above(
-    case: &[u8],
-    students: usize,
-    workshops: usize,
-    w: usize,
-    l: usize,
-    tier: u16,
-) -> bool
-    requires { ⌜ (l < 65536) × (1 ≤ w) × (w < 65536) ⌝ }
-    requires { ⌜ PairsFound (now case) students workshops ⌝ }
-    requires { ⌜ (0 < l → PairAt (now case) l w) ⌝ }
+fn is_full_above(case: &[u8], table: &[u64], w: usize, l: usize, tier: u16) -> bool
+    requires { ⌜ Tabled (now case) (now table) ⌝ }
+    requires { ⌜ (0 < l → (marketIn (now case) .paired l w ≡ true) × PairAt (now case) l w) ⌝ }
     ensures { λ r. ⌜ r ≡ (ltb 0 l && ltb (marketIn (now (case .entry)) .workshopTier w l) tier) ⌝ }
 {
     if l == 0 {
         return false; // the last seat is free
     }
-    lookup::workshop_tier(case, records::pair_of(case, students, workshops, l, w)) < tier
+    lookup::workshop_tier(case, tables::pair_at(case, table, l, w)) < tier
 }
 
 // Workshop w, whose `many` seats stand from place `from` on, is not to be interviewed by a student whom it has in this tier: it has no seats, she is
 // beyond its outside tier, or it is full of students in better tiers.
 fn is_shut(
     case: &[u8],
+    table: &[u64],
     seats: &[u16],
     students: usize,
-    workshops: usize,
     w: usize,
     from: usize,
     many: usize,
     tier: u16,
 ) -> bool
-    requires { ⌜ PairsFound (now case) students workshops ⌝ }
+    requires { ⌜ Tabled (now case) (now table) ⌝ }
     requires { ⌜ SeatsAt (now case) (now seats) students w ⌝ }
     requires { ⌜ (from ≡ seatsBefore (marketIn (now case)) w) × (many ≡ seatsOf (marketIn (now case)) w) ⌝ }
     ensures { λ r. ⌜ ((B : Results) (s : ℕ) → tier ≡ marketIn (now (case .entry)) .workshopTier w s
@@ -244,7 +239,7 @@ fn is_shut(
         return true;
     }
     let l = seating::last_of(seats, from, many) as usize;
-    is_full_above(case, students, workshops, w, l, tier)
+    is_full_above(case, table, w, l, tier)
 }
 
 // "She is in that workshop's line group with a negative mark": workshop w does not take the student whose pair with it has the record `pair`, and
@@ -302,37 +297,25 @@ fn opened(
     bits::with_bit(set, w)
 }
 
-// How many workshops are of the student's tier `tier`; of each, in rising number, its pair's record and where its seats start are written. Every
-// workshop is written at the next free place, and the place is kept where the workshop is of the tier.
-fn list_tier(
-    case: &[u8],
-    students: usize,
-    workshops: usize,
-    s: usize,
-    tier: u16,
-    pairs: &mut [usize],
-    starts: &mut [usize],
-) -> usize
-    requires { ⌜ (s < 65536) × (workshops ≤ length (now pairs)) × (workshops ≤ length (now starts)) ⌝ }
-    requires { ⌜ PairsFound (now case) students workshops ⌝ }
-    requires { ⌜ ((w : ℕ) → 1 ≤ w → w ≤ workshops → WorkshopAt (now case) students w) ⌝ }
+// How many of the student's pairs are of her tier `tier`; the record of each is written, in rising order. Every pair is written at the next free
+// place, and the place is kept where the pair is of the tier.
+fn list_tier(case: &[u8], table: &[u64], s: usize, tier: u16, pairs: &mut [usize]) -> usize
+    requires { ⌜ Tabled (now case) (now table) ⌝ }
+    requires { ⌜ (1 ≤ s) × (s ≤ 512) × (64 ≤ length (now pairs)) ⌝ }
     requires { ⌜ ((w : ℕ) → marketIn (now case) .paired s w ≡ true → PairAt (now case) s w) ⌝ }
-    ensures { λ r. ⌜ TierListed (now (case .entry)) s tier workshops r (now (pairs .exit)) (now (starts .exit)) ⌝ }
+    ensures { λ r. ⌜ ((m : ℕ) → ((w : ℕ) → marketIn (now (case .entry)) .paired s w ≡ true → w ≤ m)
+        → TierListed (now (case .entry)) s tier m r (now (pairs .exit))) ⌝ }
 {
-    let rows = records::row_count(case.len());
+    let own = tables::pairs_of(case, table, s);
+    let first = own.first;
+    let many = own.many;
     let mut n = 0;
-    let mut from = 0;
-    let mut done = 0;
-    while done < workshops {
-        let w = done + 1;
-        let pair = records::pair_of(case, students, workshops, s, w);
+    let mut k = 0;
+    while k < many {
+        let pair = first + k;
         pairs[n] = pair;
-        starts[n] = from;
-        from = seating::end_of(case, students, w, from);
-        done = w;
-        if pair < rows {
-            n += records::one_if(lookup::student_tier(case, pair) == tier);
-        }
+        n += records::one_if(lookup::student_tier(case, pair) == tier);
+        k += 1;
     }
     n
 }
@@ -342,6 +325,7 @@ fn hold_round(
     case: &[u8],
     book: &[u8],
     index: &[u16],
+    table: &[u64],
     visits: &mut [u16],
     seats: &[u16],
     students: usize,
@@ -351,7 +335,7 @@ fn hold_round(
     set: u64,
     held: usize,
 ) -> Round
-    requires { ⌜ Clean (now case) (now book) (now index) students workshops ⌝ }
+    requires { ⌜ Clean (now case) (now book) (now index) (now table) students workshops ⌝ }
     requires { ⌜ (1 ≤ s) × (s ≤ students) ⌝ }
     requires { ⌜ ((w : ℕ) → 1 ≤ w → w ≤ workshops → SeatsAt (now case) (now seats) students w) ⌝ }
     requires { ⌜ 2 * (held + count (dueAt (marketIn (now case)) (resultsIn (now book)) (now seats) s tier) workshops) ≤ length (now visits) ⌝ }
@@ -360,18 +344,17 @@ fn hold_round(
         (flat (roundTo (marketIn (now (case .entry))) (resultsIn (now (book .entry))) (now (seats .entry)) s tier set workshops .interviews)) (now (visits .entry)) ⌝ }
 {
     let mut pairs = [0usize; 64];
-    let mut starts = [0usize; 64];
-    let n = list_tier(case, students, workshops, s, tier, &mut pairs, &mut starts);
+    let n = list_tier(case, table, s, tier, &mut pairs);
     let mut count = held;
     let mut openings = set;
     let mut k = 0;
     while k < n {
         let pair = pairs[k];
-        let from = starts[k];
         let w = records::second_at(case, pair) as usize;
+        let from = tables::start_of(case, table, w);
         let many = seating::seats_of(case, students, w);
         let its_tier = lookup::workshop_tier(case, pair);
-        if is_shut(case, seats, students, workshops, w, from, many, its_tier) {
+        if is_shut(case, table, seats, students, w, from, many, its_tier) {
             k += 1;
         } else {
             let e = lookup::entry_of(index, students + workshops, pair);
@@ -460,6 +443,7 @@ fn open_tier(
     case: &[u8],
     book: &[u8],
     index: &[u16],
+    table: &[u64],
     visits: &mut [u16],
     seats: &[u16],
     state: StudentState,
@@ -467,7 +451,7 @@ fn open_tier(
     students: usize,
     workshops: usize,
 ) -> Turned
-    requires { ⌜ Clean (now case) (now book) (now index) students workshops ⌝ }
+    requires { ⌜ Clean (now case) (now book) (now index) (now table) students workshops ⌝ }
     requires { ⌜ (1 ≤ run .hand) × (run .hand ≤ students) × (state .reached < 65535) ⌝ }
     requires { ⌜ ((w : ℕ) → 1 ≤ w → w ≤ workshops → SeatsAt (now case) (now seats) students w) ⌝ }
     requires { ⌜ 2 * (run .count + count (dueAt (marketIn (now case)) (resultsIn (now book)) (now seats) (run .hand) (suc (state .reached))) workshops) ≤ length (now visits) ⌝ }
@@ -480,6 +464,7 @@ fn open_tier(
         case,
         book,
         index,
+        table,
         visits,
         seats,
         students,
@@ -526,6 +511,7 @@ fn apply_to(
     case: &[u8],
     book: &[u8],
     index: &[u16],
+    table: &[u64],
     seats: &mut [u16],
     state: StudentState,
     run: Run,
@@ -533,7 +519,7 @@ fn apply_to(
     workshops: usize,
     c: usize,
 ) -> Turned
-    requires { ⌜ Clean (now case) (now book) (now index) students workshops ⌝ }
+    requires { ⌜ Clean (now case) (now book) (now index) (now table) students workshops ⌝ }
     requires { ⌜ (run .last ≤ students) ⌝ }
     requires { ⌜ (0 < c → Booked (marketIn (now case)) (resultsIn (now book)) (run .hand) c) ⌝ }
     requires { ⌜ SeatedAll (marketIn (now case)) (resultsIn (now book)) (now seats) ⌝ }
@@ -545,7 +531,17 @@ fn apply_to(
         return Turned { state, run: next };
     }
     let hand = run.hand as u16;
-    let x = seating::seat_at(seats, case, book, index, students, workshops, c, hand) as usize;
+    let x = seating::seat_at(
+        seats,
+        case,
+        book,
+        index,
+        table,
+        students,
+        workshops,
+        c,
+        hand,
+    ) as usize;
     let next = after_seating(case, students, run, c, x);
     let held = c as u32;
     let after = StudentState {
@@ -564,6 +560,7 @@ pub fn turn(
     case: &[u8],
     book: &[u8],
     index: &[u16],
+    table: &[u64],
     visits: &mut [u16],
     seats: &mut [u16],
     state: StudentState,
@@ -571,7 +568,7 @@ pub fn turn(
     students: usize,
     workshops: usize,
 ) -> Turned
-    requires { ⌜ Clean (now case) (now book) (now index) students workshops ⌝ }
+    requires { ⌜ Clean (now case) (now book) (now index) (now table) students workshops ⌝ }
     requires { ⌜ Ready (marketIn (now case)) (resultsIn (now book)) (now visits) (now seats) state run ⌝ }
     ensures { λ r. ⌜ r ≡ turnOf (marketIn (now (case .entry))) (resultsIn (now (book .entry))) (now (visits .entry)) (now (seats .entry)) state run .turned ⌝ }
     ensures { λ r. ⌜ now (visits .exit) ≡ turnOf (marketIn (now (case .entry))) (resultsIn (now (book .entry))) (now (visits .entry)) (now (seats .entry)) state run .visits ⌝ }
@@ -586,6 +583,7 @@ pub fn turn(
             case,
             book,
             index,
+            table,
             visits,
             &seats[..],
             told,
@@ -594,6 +592,27 @@ pub fn turn(
             workshops,
         );
     }
-    let c = favourite(case, book, index, students, workshops, hand, outside, set);
-    apply_to(case, book, index, seats, told, run, students, workshops, c)
+    let c = favourite(
+        case,
+        book,
+        index,
+        table,
+        students,
+        workshops,
+        hand,
+        outside,
+        set,
+    );
+    apply_to(
+        case,
+        book,
+        index,
+        table,
+        seats,
+        told,
+        run,
+        students,
+        workshops,
+        c,
+    )
 }

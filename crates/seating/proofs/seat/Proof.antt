@@ -13,19 +13,19 @@ use Rattle.seating.proofs.seat.Statement.{statement}
 use Rattle.seating.proofs.seat.Tie as tie
 
 abbrev Inv-loop : tie.InvT-loop
-Inv-loop part₀ case book index students workshops w x hand₀ tier₀ score₀ i₀ part hand tier score i =
+Inv-loop part₀ case book index table students workshops w x hand₀ tier₀ score₀ i₀ part hand tier score i =
     Pushing (marketIn case) (resultsIn book) w x part₀ part i hand × Booked (marketIn case) (resultsIn book) hand w × Stands (marketIn case)
     (resultsIn book) w hand tier (toZ w16 score)
 
 abbrev μ-loop : tie.MeasureT-loop
-μ-loop part₀ case book index students workshops w x hand₀ tier₀ score₀ i₀ part hand tier score i = length part₀ - i
+μ-loop part₀ case book index table students workshops w x hand₀ tier₀ score₀ i₀ part hand tier score i = length part₀ - i
 
 -- who has the seat has been interviewed, and stands as has been looked up
-seated : (c : tie.Else1 Inv-loop μ-loop) → (let a = c .before .before .before .before .before .before .before .before .before .before .args in
+seated : (c : tie.Else1 Inv-loop μ-loop) → (let a = c .before .before .before .before .before .before .before .before .before .before .before .args in
     let here = c .before .before .before .loop in Booked (marketIn (a .case .now)) (resultsIn (a .book .now)) (getD (here .part) (here .i) 0) (a .w))
 seated c =
     let here = c .before .before .before .loop in
-    let start = c .before .before .before .before .before .before .before .before .before .before in
+    let start = c .before .before .before .before .before .before .before .before .before .before .before in
     let a = start .args in
     let M = marketIn (a .case .now) in
     let B = resultsIn (a .book .now) in
@@ -33,18 +33,18 @@ seated c =
     (start .pre .1 .1) (c .if1 .left)
 
 stands : (c : tie.After-struct-told2 Inv-loop μ-loop) → (let a = c .before .before .before .before .before .before .before .before .before .before
-    .before .before .args in let here = c .before .before .before .before .before .loop in let y = c .before .standing-of2 .result in Stands
+    .before .before .before .args in let here = c .before .before .before .before .before .loop in let y = c .before .standing-of2 .result in Stands
     (marketIn (a .case .now)) (resultsIn (a .book .now)) (a .w) (getD (here .part) (here .i) 0) (y .tier) (toZ w16 (ofZ w16 (y .score))))
 stands c =
     let y = c .before .standing-of2 in
     record { tier = y .ensures .0; score = rw (toZ-ofZ w16 (y .result .score) (record { sfits = c .struct-told2 .given .1 .0 .1 })) (y .ensures .1) }
 
 standing-of-requires : tie.Need-standing-of-requires Inv-loop μ-loop
-standing-of-requires c κs = let start = c .before .before .before .before in (start .pre .0, start .pre .1 .0)
+standing-of-requires c κs = let start = c .before .before .before .before .before in (start .pre .0, start .pre .1 .0)
 
 loop-holds : tie.Need-loop-holds Inv-loop μ-loop
 loop-holds c =
-    let start = c .before .before .before .before .before .before in
+    let start = c .before .before .before .before .before .before .before in
     let a = start .args in
     let x = c .before .standing-of in (
       push-start (marketIn (a .case .now)) (resultsIn (a .book .now)) (a .w) (a .x) (a .part .now),
@@ -70,7 +70,7 @@ same-length c = simp length-set (c .before .before .before .loop .inv .0 .long)
 returns : tie.Need-returns Inv-loop μ-loop
 returns c =
     let here = c .before .before .before .loop in
-    let a = c .before .before .before .before .before .before .before .before .before .before .args in
+    let a = c .before .before .before .before .before .before .before .before .before .before .before .args in
     let M = marketIn (a .case .now) in
     let B = resultsIn (a .book .now) in
     let r = push-free M B (a .w) (a .x) (a .part .now) (here .part) (here .i) (here .hand) (here .inv .0) (omega arith) (c .if1 .taken) in
@@ -80,7 +80,7 @@ cast-standing-of : tie.Need-cast-standing-of Inv-loop μ-loop
 cast-standing-of c = omega (arith, c .before .slice-known2 .given (c .before .before .before .loop .i))
 
 standing-of-requires-2 : tie.Need-standing-of-requires-2 Inv-loop μ-loop
-standing-of-requires-2 c κs = (c .before .before .before .before .before .before .before .before .before .before .pre .0, seated c)
+standing-of-requires-2 c κs = (c .before .before .before .before .before .before .before .before .before .before .before .pre .0, seated c)
 
 ranks-before-requires : tie.Need-ranks-before-requires Inv-loop μ-loop
 ranks-before-requires c κs = tt
@@ -100,7 +100,7 @@ loop-less c = omega arith
 loop-again : tie.Need-loop-again Inv-loop μ-loop
 loop-again c =
     let here = c .before .before .before .before .before .before .before .before .loop in
-    let a = c .before .before .before .before .before .before .before .before .before .before .before .before .before .before .before .args in
+    let a = c .before .before .before .before .before .before .before .before .before .before .before .before .before .before .before .before .args in
     let M = marketIn (a .case .now) in
     let B = resultsIn (a .book .now) in
     let y = stands (c .before .before .before) in
@@ -120,7 +120,7 @@ loop-less-2 c = omega arith
 loop-again-2 : tie.Need-loop-again-2 Inv-loop μ-loop
 loop-again-2 c =
     let here = c .before .before .before .before .before .before .before .loop in
-    let a = c .before .before .before .before .before .before .before .before .before .before .before .before .before .before .args in
+    let a = c .before .before .before .before .before .before .before .before .before .before .before .before .before .before .before .args in
     let M = marketIn (a .case .now) in
     let B = resultsIn (a .book .now) in
     let before = before-by M B (a .w) (here .hand) (getD (here .part) (here .i) 0) _ _ _ _ (here .inv .2) (stands (c .before .before)) _
@@ -137,7 +137,7 @@ same-length-2 c = c .before .loop .inv .0 .long
 returns-2 : tie.Need-returns-2 Inv-loop μ-loop
 returns-2 c =
     let here = c .before .loop in
-    let a = c .before .before .before .before .before .before .before .before .args in
+    let a = c .before .before .before .before .before .before .before .before .before .args in
     let M = marketIn (a .case .now) in
     let B = resultsIn (a .book .now) in
     let r = push-end M B (a .w) (a .x) (a .part .now) (here .part) (here .i) (here .hand) (here .inv .0) (omega arith) in

@@ -12,7 +12,7 @@ next-run-requires c κs = search needs
 
 returns : tie.Need-returns
 returns c =
-    let a = c .before .before .before .before .before .before .args in (
+    let a = c .before .before .before .before .before .before .before .args in (
       (λ visits. apply-none (marketIn (a .case .now)) (resultsIn (a .book .now)) visits (a .seats .now) (a .state) (a .run) (a .c)
           (c .next-run .result) (c .before .if1 .taken) (c .next-run .ensures (resultsIn (a .book .now))) .0),
       (λ visits. apply-none (marketIn (a .case .now)) (resultsIn (a .book .now)) visits (a .seats .now) (a .state) (a .run) (a .c)
@@ -20,12 +20,12 @@ returns c =
     )
 
 cast-hand : tie.Need-cast-hand
-cast-hand c = let start = c .before .before .before .before .before .before in let b = start .pre .1 .1 .0
+cast-hand c = let start = c .before .before .before .before .before .before .before in let b = start .pre .1 .1 .0
     (positive (start .args .c) (c .before .if1 .left)) in omega (arith, b, start .pre .0)
 
 seat-at-requires : tie.Need-seat-at-requires
 seat-at-requires c κs =
-    let start = c .before .before .before .before .before .before .before in
+    let start = c .before .before .before .before .before .before .before .before in
     let a = start .args in
     let b = start .pre .1 .1 .0 (positive (a .c) (c .before .before .if1 .left)) in
     let s = start .pre .1 .1 .1 in (
@@ -47,7 +47,7 @@ after-seating-requires : tie.Need-after-seating-requires
 after-seating-requires c κs = search needs
 
 cast-held : tie.Need-cast-held
-cast-held c = let start = c .before .before .before .before .before .before .before .before .before .before .before in let b = start .pre .1 .1 .0
+cast-held c = let start = c .before .before .before .before .before .before .before .before .before .before .before .before in let b = start .pre .1 .1 .0
     (positive (start .args .c) (c .before .before .before .before .before .before .if1 .left)) in omega (arith, b, start .pre .0)
 
 same-length : tie.Need-same-length
@@ -55,7 +55,7 @@ same-length c = search needs
 
 returns-2 : tie.Need-returns-2
 returns-2 c =
-    let a = c .before .before .before .before .before .before .before .before .before .before .before .args in (
+    let a = c .before .before .before .before .before .before .before .before .before .before .before .before .args in (
       (λ visits. apply-some (marketIn (a .case .now)) (resultsIn (a .book .now)) visits (a .seats .now) (a .state) (a .run) (a .c)
           (c .before .before .before .seat-at .result) _ (c .after-seating .result) (c .before .before .before .before .before .before .if1 .left)
           (c .before .before .before .seat-at .ensures .0) (c .before .before .before .seat-at .ensures .1)

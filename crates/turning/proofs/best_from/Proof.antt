@@ -11,18 +11,18 @@ use Rattle.turning.proofs.best_from.Statement.{statement}
 use Rattle.turning.proofs.best_from.Tie as tie
 
 abbrev Inv-loop : tie.InvT-loop
-Inv-loop case book index students workshops s start set best₀ top₀ rest₀ best top rest = Best (marketIn case) (resultsIn book) s start set best
+Inv-loop case book index table students workshops s start set best₀ top₀ rest₀ best top rest = Best (marketIn case) (resultsIn book) s start set best
     (toZ w16 top) rest
 
 abbrev μ-loop : tie.MeasureT-loop
-μ-loop case book index students workshops s start set best₀ top₀ rest₀ best top rest = rest
+μ-loop case book index table students workshops s start set best₀ top₀ rest₀ best top rest = rest
 
 score-of-requires : tie.Need-score-of-requires Inv-loop μ-loop
-score-of-requires c κs = let start = c .before .before .before in (start .pre .0, start .pre .1 .0)
+score-of-requires c κs = let start = c .before .before .before .before in (start .pre .0, start .pre .1 .0)
 
 loop-holds : tie.Need-loop-holds Inv-loop μ-loop
 loop-holds c =
-    let start = c .before .before .before .before in
+    let start = c .before .before .before .before .before in
     let a = start .args in
     let e : biased (toZ w16 (ofZ w16 (c .score-of .result))) ≡ resultsIn (a .book .now) .studentScore (a .s) (a .start) = rw
     (toZ-ofZ w16 (c .score-of .result) (record { sfits = c .score-of .ok })) (c .score-of .ensures) in
@@ -33,7 +33,7 @@ lowest-requires c κs = omega arith
 
 score-of-requires-2 : tie.Need-score-of-requires-2 Inv-loop μ-loop
 score-of-requires-2 c κs = let here = c .before .before .loop in (
-  c .before .before .before .before .before .before .before .pre .0,
+  c .before .before .before .before .before .before .before .before .pre .0,
   λ l. here .inv
       .known (c .lowest .result) (c .lowest .ensures .set),
 )
@@ -50,7 +50,7 @@ loop-less c = c .before .before .without-lowest .ensures .1
 loop-again : tie.Need-loop-again Inv-loop μ-loop
 loop-again c =
     let here = c .before .before .before .before .before .before .loop in
-    let a = c .before .before .before .before .before .before .before .before .before .before .before .args in
+    let a = c .before .before .before .before .before .before .before .before .before .before .before .before .args in
     let w = c .before .before .before .before .lowest in
     let x = c .before .before .before .score-of2 in
     let r = c .before .before .without-lowest in
@@ -66,7 +66,7 @@ loop-less-2 c = c .before .before .without-lowest .ensures .1
 loop-again-2 : tie.Need-loop-again-2 Inv-loop μ-loop
 loop-again-2 c =
     let here = c .before .before .before .before .before .before .loop in
-    let a = c .before .before .before .before .before .before .before .before .before .before .before .args in
+    let a = c .before .before .before .before .before .before .before .before .before .before .before .before .args in
     let w = c .before .before .before .before .lowest in
     let x = c .before .before .before .score-of2 in
     let r = c .before .before .without-lowest in
@@ -77,7 +77,7 @@ loop-again-2 c =
     (sym (c .before .above .ensures) ∙ c .if1 .left)
 
 returns : tie.Need-returns Inv-loop μ-loop
-returns c = let here = c .before .loop in let a = c .before .before .before .before .before .before .args in best-end (marketIn (a .case .now))
+returns c = let here = c .before .loop in let a = c .before .before .before .before .before .before .before .args in best-end (marketIn (a .case .now))
     (resultsIn (a .book .now)) (a .s) (a .start) (a .set) (here .best) (here .rest) _ (here .inv) (omega arith)
 
 pub best-from-spec : {M : Type 1} → statement M

@@ -12,22 +12,22 @@ use Rattle.turning.proofs.favourite.Statement.{statement}
 use Rattle.turning.proofs.favourite.Tie as tie
 
 best-from-requires : tie.Need-best-from-requires
-best-from-requires c κs = let start = c .before .before .before .before in (start .pre .0, ((λ l. absurd (omega arith)), start .pre .1))
+best-from-requires c κs = let start = c .before .before .before .before .before in (start .pre .0, ((λ l. absurd (omega arith)), start .pre .1))
 
 returns : tie.Need-returns
-returns c = let a = c .before .before .before .before .before .args in c .best-from .ensures ∙ sym
+returns c = let a = c .before .before .before .before .before .before .args in c .best-from .ensures ∙ sym
     (with-outside (marketIn (a .case .now)) (resultsIn (a .book .now)) (a .s) (a .set) (a .outside) (c .before .if1 .taken))
 
 count-requires : tie.Need-count-requires
 count-requires c κs = search needs
 
 returns-2 : tie.Need-returns-2
-returns-2 c = let a = c .before .before .before .before .before .before .args in sym
+returns-2 c = let a = c .before .before .before .before .before .before .before .args in sym
     (none-open (marketIn (a .case .now)) (resultsIn (a .book .now)) (a .s) (a .set) (a .outside) (c .before .before .if1 .left)
     (count-empty (a .set) (omega arith) (omega (arith, c .before .count .ensures))))
 
 lowest-requires : tie.Need-lowest-requires
-lowest-requires c κs = let a = c .before .before .before .before .before .before .args in positive (a .set)
+lowest-requires c κs = let a = c .before .before .before .before .before .before .before .args in positive (a .set)
     (λ z. c .if2 .left (c .before .count .ensures ∙ empty-count (a .set) z))
 
 without-bit-requires : tie.Need-without-bit-requires
@@ -35,7 +35,7 @@ without-bit-requires c κs = search needs
 
 best-from-requires-2 : tie.Need-best-from-requires-2
 best-from-requires-2 c κs =
-    let start = c .before .before .before .before .before .before .before .before in
+    let start = c .before .before .before .before .before .before .before .before .before in
     let w = c .before .lowest in (
       start .pre .0,
       (
@@ -45,7 +45,7 @@ best-from-requires-2 c κs =
     )
 
 returns-3 : tie.Need-returns-3
-returns-3 c = let a = c .before .before .before .before .before .before .before .before .before .args in c .best-from2 .ensures ∙ sym
+returns-3 c = let a = c .before .before .before .before .before .before .before .before .before .before .args in c .best-from2 .ensures ∙ sym
     (some-open (marketIn (a .case .now)) (resultsIn (a .book .now)) (a .s) (a .set) (a .outside) (c .before .before .lowest .result)
     (c .before .without-bit .result) (c .before .before .before .before .before .if1 .left) (c .before .before .lowest .ensures)
     (c .before .without-bit .ensures .1 .0))

@@ -21,28 +21,25 @@ use Rattle.turning.proofs.hold_round.Statement.{statement}
 use Rattle.turning.proofs.hold_round.Tie as tie
 
 abbrev Inv-loop : tie.InvT-loop
-Inv-loop case book index visits₀ seats students workshops s tier set held pairs starts n count₀ openings₀ k₀ visits count openings k =
-    Going case (resultsIn book) seats s tier set held workshops n pairs starts visits₀ visits count openings k
+Inv-loop case book index table visits₀ seats students workshops s tier set held pairs n count₀ openings₀ k₀ visits count openings k =
+    Going case (resultsIn book) seats s tier set held workshops n pairs visits₀ visits count openings k
 
 abbrev μ-loop : tie.MeasureT-loop
-μ-loop case book index visits₀ seats students workshops s tier set held pairs starts n count₀ openings₀ k₀ visits count openings k = n - k
+μ-loop case book index table visits₀ seats students workshops s tier set held pairs n count₀ openings₀ k₀ visits count openings k = n - k
 
 -- the function's entry, what has been listed and the loop's head, from inside the loop
 abbrev entry : tie.In-loop Inv-loop μ-loop → tie.Start Inv-loop μ-loop
-entry c = c .before .before .before .before .before .before .before .before .before .before .before .before
+entry c = c .before .before .before .before .before .before .before .before .before .before .before
 
 abbrev pairs-of : tie.In-loop Inv-loop μ-loop → List ℕ
-pairs-of c = c .before .before .before .before .list-tier .last .1 .1 .1 .1 .1 .0
-
-abbrev starts-of : tie.In-loop Inv-loop μ-loop → List ℕ
-starts-of c = c .before .before .before .before .list-tier .last .1 .1 .1 .1 .1 .1 .0
+pairs-of c = c .before .before .before .list-tier .last .1 .1 .1 .1 .0
 
 abbrev Comes : tie.In-loop Inv-loop μ-loop → ℕ → Type 0
 Comes c w =
     let a = entry c .args in
     let here = c .before .loop in
     Coming (a .case .now) (resultsIn (a .book .now)) (a .seats .now) (a .s) (a .tier) (a .set) (a .held) (a .workshops) (a .visits .now)
-    (here .visits) (here .count) (here .openings) (here .k) w (getD (pairs-of c) (here .k) 0) (getD (starts-of c) (here .k) 0)
+    (here .visits) (here .count) (here .openings) (here .k) w (getD (pairs-of c) (here .k) 0)
 
 few : (c : tie.In-loop Inv-loop μ-loop) → c .before .loop .k < 64
 few c =
@@ -51,9 +48,9 @@ few c =
     omega (
       arith,
       going-few (a .case .now) (resultsIn (a .book .now)) (a .seats .now) (a .s) (a .tier) (a .set) (a .held) (a .workshops)
-          (c .before .before .before .before .list-tier .result) (pairs-of c) (starts-of c) (a .visits .now) (here .visits) (here .count) (here .openings)
+          (c .before .before .before .list-tier .result) (pairs-of c) (a .visits .now) (here .visits) (here .count) (here .openings)
           (here .k) (here .inv),
-      entry c .pre .0 .found .manyWorkshops,
+      entry c .pre .0 .manyWorkshops,
     )
 
 -- the record at place k of the list is that of a pair, which names the workshop
@@ -62,7 +59,7 @@ within c =
     let a = entry c .args in
     let here = c .before .loop in
     coming-within (a .case .now) (resultsIn (a .book .now)) (a .seats .now) (a .s) (a .tier) (a .set) (a .held) (a .workshops)
-    (c .before .before .before .before .list-tier .result) (pairs-of c) (starts-of c) (a .visits .now) (here .visits) (here .count) (here .openings)
+    (c .before .before .before .list-tier .result) (pairs-of c) (a .visits .now) (here .visits) (here .count) (here .openings)
     (here .k) (here .inv) (omega arith) (entry c .pre .0 .pair (a .s))
 
 comes : (c : tie.After-second-at Inv-loop μ-loop) → Comes (c .before) (c .second-at .result)
@@ -71,7 +68,7 @@ comes c =
     let a = entry d .args in
     let here = d .before .loop in
     coming-as (a .case .now) (resultsIn (a .book .now)) (a .seats .now) (a .s) (a .tier) (a .set) (a .held) (a .workshops)
-    (d .before .before .before .before .list-tier .result) (pairs-of d) (starts-of d) (a .visits .now) (here .visits) (here .count) (here .openings)
+    (d .before .before .before .list-tier .result) (pairs-of d) (a .visits .now) (here .visits) (here .count) (here .openings)
     (here .k) (here .inv) (omega arith) (entry d .pre .0 .pair (a .s)) (c .second-at .result) (c .second-at .ensures)
 
 pair-at : (c : tie.After-second-at Inv-loop μ-loop) → (let a = entry (c .before) .args in
@@ -84,31 +81,31 @@ pair-at c =
 -- the workshop's number is that of one of the workshops
 bounds : (c : tie.After-second-at Inv-loop μ-loop) → (1 ≤ c .second-at .result) × (c .second-at .result ≤ entry (c .before) .args .workshops) ×
     (entry (c .before) .args .workshops ≤ 64)
-bounds c = let x = comes c in (omega (arith, x .number), omega (arith, x .number, x .below), entry (c .before) .pre .0 .found .manyWorkshops)
+bounds c = let x = comes c in (omega (arith, x .number), omega (arith, x .number, x .below), entry (c .before) .pre .0 .manyWorkshops)
 
 -- whether the workshop is to be interviewed
-shut : (c : tie.After-is-shut Inv-loop μ-loop) → (let d = c .before .before .before in let a = entry (d .before) .args in c .is-shut .result ≡ shutBy
+shut : (c : tie.After-is-shut Inv-loop μ-loop) → (let d = c .before .before .before .before in let a = entry (d .before) .args in c .is-shut .result ≡ shutBy
     (marketIn (a .case .now)) (resultsIn (a .book .now)) (lastOf (marketIn (a .case .now)) (a .seats .now) (d .second-at .result)) (a .s)
     (d .second-at .result))
 shut c =
-    let d = c .before .before .before in
+    let d = c .before .before .before .before in
     let a = entry (d .before) .args in
     c .is-shut .ensures (resultsIn (a .book .now)) (a .s) (tier-at (a .case .now) (a .s) (d .second-at .result) _ (c .before .workshop-tier .result)
     (pair-at d .1) (comes d .pair) (c .before .workshop-tier .ensures))
 
-due : (c : tie.Else1 Inv-loop μ-loop) → (let d = c .before .before .before .before in let a = entry (d .before) .args in dueAt
+due : (c : tie.Else1 Inv-loop μ-loop) → (let d = c .before .before .before .before .before in let a = entry (d .before) .args in dueAt
     (marketIn (a .case .now)) (resultsIn (a .book .now)) (a .seats .now) (a .s) (a .tier) (d .second-at .result) ≡ true)
 due c =
-    let d = c .before .before .before .before in
+    let d = c .before .before .before .before .before in
     let a = entry (d .before) .args in
     tier-due (marketIn (a .case .now)) (resultsIn (a .book .now)) (a .seats .now) (a .s) (a .tier) (d .second-at .result) (comes d .tier) false
     (sym (shut (c .before)) ∙ c .if1 .left)
 
 -- its interview is in the book, where the index says
-booked : (c : tie.Else2 Inv-loop μ-loop) → (let d = c .before .before .before .before .before .before in let a = entry (d .before) .args in Booked
+booked : (c : tie.Else2 Inv-loop μ-loop) → (let d = c .before .before .before .before .before .before .before in let a = entry (d .before) .args in Booked
     (marketIn (a .case .now)) (resultsIn (a .book .now)) (a .s) (d .second-at .result))
 booked c =
-    let d = c .before .before .before .before .before .before in
+    let d = c .before .before .before .before .before .before .before in
     let start = entry (d .before) in
     let k = start .pre .0 in
     let p = pair-at d .0 in
@@ -119,15 +116,15 @@ booked c =
       met = met-by k (start .args .s) (d .second-at .result) p _ (c .before .entry-of .result) (comes d .pair) (c .before .entry-of .ensures) (c .if2 .left);
     }
 
-entered : (c : tie.Else2 Inv-loop μ-loop) → (let d = c .before .before .before .before .before .before in let a = entry (d .before) .args in EntryAt
+entered : (c : tie.Else2 Inv-loop μ-loop) → (let d = c .before .before .before .before .before .before .before in let a = entry (d .before) .args in EntryAt
     (a .book .now) (a .s) (d .second-at .result) (c .before .entry-of .result))
-entered c = let d = c .before .before .before .before .before .before in entry-known (entry (d .before) .pre .0) (booked c) _
+entered c = let d = c .before .before .before .before .before .before .before in entry-known (entry (d .before) .pre .0) (booked c) _
     (c .before .entry-of .result) (comes d .pair) (c .before .entry-of .ensures)
 
 -- there is room for it in the visits
-room : (c : tie.Else1 Inv-loop μ-loop) → (let here = c .before .before .before .before .before .before .loop in 2 * here .count + 2 ≤ length (here .visits))
+room : (c : tie.Else1 Inv-loop μ-loop) → (let here = c .before .before .before .before .before .before .before .loop in 2 * here .count + 2 ≤ length (here .visits))
 room c =
-    let d = c .before .before .before .before in
+    let d = c .before .before .before .before .before in
     let start = entry (d .before) in
     let a = start .args in
     let here = d .before .before .loop in
@@ -139,19 +136,19 @@ room c =
 slice-aggregate-list-tier : tie.Need-slice-aggregate-list-tier Inv-loop μ-loop
 slice-aggregate-list-tier c = refl
 
-slice-aggregate-list-tier-2 : tie.Need-slice-aggregate-list-tier-2 Inv-loop μ-loop
-slice-aggregate-list-tier-2 c = refl
-
 list-tier-requires : tie.Need-list-tier-requires Inv-loop μ-loop
-list-tier-requires c κs = let start = c .before .before .before .before .before .before .before in let k = start .pre .0 in
-    ((omega (arith, k), k .found .manyWorkshops, k .found .manyWorkshops), (k .found, (k .workshop, k .pair (start .args .s))))
+list-tier-requires c κs =
+    let start = c .before .before .before .before .before .before .before in
+    let k = start .pre .0 in
+    (k .tabled, ((start .pre .1 .0 .0, omega (arith, k .manyStudents, start .pre .1 .0 .1), omega arith), k .pair (start .args .s)))
 
 loop-holds : tie.Need-loop-holds Inv-loop μ-loop
 loop-holds c =
-    let a = c .before .before .before .before .before .before .before .before .before .before .args in
-    let l = c .before .before .list-tier in
+    let start = c .before .before .before .before .before .before .before .before .before in
+    let a = start .args in
+    let l = c .before .list-tier in
     going-start (a .case .now) (resultsIn (a .book .now)) (a .seats .now) (a .s) (a .tier) (a .set) (a .held) (a .workshops) (l .result)
-    (l .last .1 .1 .1 .1 .1 .0) (l .last .1 .1 .1 .1 .1 .1 .0) (a .visits .now) (l .ensures)
+    (l .last .1 .1 .1 .1 .0) (a .visits .now) (l .ensures (a .workshops) (λ w p. start .pre .0 .named (a .s) w p .1 .1))
 
 mul-pair : tie.Need-mul-pair Inv-loop μ-loop
 mul-pair c = omega (arith, few c)
@@ -159,40 +156,41 @@ mul-pair c = omega (arith, few c)
 array-read-pair : tie.Need-array-read-pair Inv-loop μ-loop
 array-read-pair c = few c
 
-mul-from : tie.Need-mul-from Inv-loop μ-loop
-mul-from c = omega (arith, few c)
-
-array-read-from : tie.Need-array-read-from Inv-loop μ-loop
-array-read-from c = few c
-
 second-at-requires : tie.Need-second-at-requires Inv-loop μ-loop
 second-at-requires c κs = omega (arith, within c)
 
 cast-w : tie.Need-cast-w Inv-loop μ-loop
 cast-w c = omega arith
 
+start-of-requires : tie.Need-start-of-requires Inv-loop μ-loop
+start-of-requires c κs =
+    let b = bounds c in
+    let k = entry (c .before) .pre .0 in
+    (k .tabled, (b .0, omega (arith, b .1, k .workshops)))
+
 seats-of-requires : tie.Need-seats-of-requires Inv-loop μ-loop
-seats-of-requires c κs = let b = bounds c in entry (c .before) .pre .0 .workshop (c .second-at .result) (b .0) (b .1)
+seats-of-requires c κs =
+    let b = bounds (c .before) in entry (c .before .before) .pre .0 .workshop (c .before .second-at .result) (b .0) (b .1)
 
 workshop-tier-requires : tie.Need-workshop-tier-requires Inv-loop μ-loop
-workshop-tier-requires c κs = within (c .before .before)
+workshop-tier-requires c κs = within (c .before .before .before)
 
 is-shut-requires : tie.Need-is-shut-requires Inv-loop μ-loop
 is-shut-requires c κs =
-    let d = c .before .before in
+    let d = c .before .before .before in
     let b = bounds d in
     let start = entry (d .before) in
-    (start .pre .0 .found, (start .pre .1 .1 .0 (d .second-at .result) (b .0) (b .1), (comes d .start, c .before .seats-of .ensures .0)))
+    (start .pre .0 .tabled, (start .pre .1 .1 .0 (d .second-at .result) (b .0) (b .1), (c .before .before .start-of .ensures, c .before .seats-of .ensures .0)))
 
 add-k : tie.Need-add-k Inv-loop μ-loop
-add-k c = omega (arith, few (c .before .before .before .before .before))
+add-k c = omega (arith, few (c .before .before .before .before .before .before))
 
 loop-less : tie.Need-loop-less Inv-loop μ-loop
 loop-less c = omega arith
 
 loop-again : tie.Need-loop-again Inv-loop μ-loop
 loop-again c =
-    let d = c .before .before .before .before in
+    let d = c .before .before .before .before .before in
     let start = entry (d .before) in
     let a = start .args in
     let here = d .before .before .loop in
@@ -203,8 +201,8 @@ loop-again c =
     (here .visits) (here .count) (here .openings) (x .at) (a .workshops) (x .so) (start .pre .1 .1 .1) (x .below) (d .second-at .result) (x .number)
     e in
     going-on (a .case .now) (resultsIn (a .book .now)) (a .seats .now) (a .s) (a .tier) (a .set) (a .held) (a .workshops)
-    (d .before .before .before .before .before .list-tier .result) (pairs-of (d .before)) (starts-of (d .before)) (a .visits .now) (here .visits)
-    (here .count) (here .openings) (here .k) (here .inv) (d .second-at .result) _ _ _ _ _ x r
+    (d .before .before .before .before .list-tier .result) (pairs-of (d .before)) (a .visits .now) (here .visits)
+    (here .count) (here .openings) (here .k) (here .inv) (d .second-at .result) _ _ _ _ x r
 
 add-entry-of : tie.Need-add-entry-of Inv-loop μ-loop
 add-entry-of c = omega (
@@ -215,13 +213,13 @@ add-entry-of c = omega (
 
 entry-of-requires : tie.Need-entry-of-requires Inv-loop μ-loop
 entry-of-requires c κs =
-    let d = c .before .before .before .before in
+    let d = c .before .before .before .before .before in
     let start = entry (d .before) in
     omega (arith, start .pre .0 .indexed (start .args .s) (d .second-at .result) (pair-at d .0), comes d .pair)
 
 same-length : tie.Need-same-length Inv-loop μ-loop
 same-length c =
-    let d = c .before .before .before .before .before .before .before in
+    let d = c .before .before .before .before .before .before .before .before in
     let a = entry d .args in
     let here = d .before .loop in
     round-length (marketIn (a .case .now)) (resultsIn (a .book .now)) (a .seats .now) (a .s) (a .tier) (a .set) (a .held) (a .visits .now)
@@ -229,7 +227,7 @@ same-length c =
 
 returns : tie.Need-returns Inv-loop μ-loop
 returns c =
-    let d = c .before .before .before .before .before .before in
+    let d = c .before .before .before .before .before .before .before in
     let start = entry (d .before) in
     let a = start .args in
     let here = d .before .before .loop in
@@ -245,9 +243,9 @@ cast-put-interview : tie.Need-cast-put-interview Inv-loop μ-loop
 cast-put-interview c = let start = c .before .before .before .before .before .before .before .before .before .before .before .before .before .before
     .before .before .before .before .before .before in omega (
       arith,
-      bounds (c .before .before .before .before .before .before .before),
+      bounds (c .before .before .before .before .before .before .before .before),
       start .pre .0
-          .found .manyStudents,
+          .manyStudents,
       start .pre .1 .0,
     )
 
@@ -255,9 +253,9 @@ cast-put-interview-2 : tie.Need-cast-put-interview-2 Inv-loop μ-loop
 cast-put-interview-2 c = let start = c .before .before .before .before .before .before .before .before .before .before .before .before .before .before
     .before .before .before .before .before .before in omega (
       arith,
-      bounds (c .before .before .before .before .before .before .before),
+      bounds (c .before .before .before .before .before .before .before .before),
       start .pre .0
-          .found .manyStudents,
+          .manyStudents,
       start .pre .1 .0,
     )
 
@@ -266,14 +264,14 @@ put-interview-requires c κs = room (c .before .before .before)
 
 opened-requires : tie.Need-opened-requires Inv-loop μ-loop
 opened-requires c κs =
-    let d = c .before .before .before .before .before .before .before .before .before .before in
+    let d = c .before .before .before .before .before .before .before .before .before .before .before in
     let b = bounds d in
     let e = entered (c .before .before .before .before) in
     ((omega (arith, b), entry (d .before) .pre .0 .workshop (d .second-at .result) (b .0) (b .1)), (within (d .before), omega (arith, e), omega (arith, e)))
 
 add-count : tie.Need-add-count Inv-loop μ-loop
 add-count c =
-    let d = c .before .before .before .before .before .before .before .before .before .before .before .before in
+    let d = c .before .before .before .before .before .before .before .before .before .before .before .before .before in
     let a = entry d .args in
     let here = d .before .loop in
     omega (
@@ -286,14 +284,14 @@ add-count c =
     )
 
 add-k-2 : tie.Need-add-k-2 Inv-loop μ-loop
-add-k-2 c = omega (arith, few (c .before .before .before .before .before .before .before .before .before .before .before .before))
+add-k-2 c = omega (arith, few (c .before .before .before .before .before .before .before .before .before .before .before .before .before))
 
 loop-less-2 : tie.Need-loop-less-2 Inv-loop μ-loop
 loop-less-2 c = omega arith
 
 loop-again-2 : tie.Need-loop-again-2 Inv-loop μ-loop
 loop-again-2 c =
-    let d = c .before .before .before .before .before .before .before .before .before .before .before in
+    let d = c .before .before .before .before .before .before .before .before .before .before .before .before in
     let start = entry (d .before) in
     let a = start .args in
     let here = d .before .before .loop in
@@ -304,14 +302,14 @@ loop-again-2 c =
     (here .visits) (here .count) (here .openings) (x .at) (a .workshops) (x .so) (start .pre .1 .1 .1) (x .below) (d .second-at .result) (x .number)
     (due (c .before .before .before .before .before .before .before)) (booked (c .before .before .before .before .before) .met) in
     going-on (a .case .now) (resultsIn (a .book .now)) (a .seats .now) (a .s) (a .tier) (a .set) (a .held) (a .workshops)
-    (d .before .before .before .before .before .list-tier .result) (pairs-of (d .before)) (starts-of (d .before)) (a .visits .now) (here .visits)
-    (here .count) (here .openings) (here .k) (here .inv) (d .second-at .result) _ _ _ _ _ x
+    (d .before .before .before .before .list-tier .result) (pairs-of (d .before)) (a .visits .now) (here .visits)
+    (here .count) (here .openings) (here .k) (here .inv) (d .second-at .result) _ _ _ _ x
     (rw (c .before .before .before .put-interview .ensures, o) r)
 
 same-length-2 : tie.Need-same-length-2 Inv-loop μ-loop
 same-length-2 c =
     let here = c .before .loop in
-    let start = c .before .before .before .before .before .before .before .before .before .before .before .before in
+    let start = c .before .before .before .before .before .before .before .before .before .before .before in
     let a = start .args in
     round-length (marketIn (a .case .now)) (resultsIn (a .book .now)) (a .seats .now) (a .s) (a .tier) (a .set) (a .held) (a .visits .now)
     (here .visits) (here .count) (here .openings) (here .inv .done) (a .workshops) (here .inv .so) (start .pre .1 .1 .1) (here .inv .within)
@@ -319,10 +317,10 @@ same-length-2 c =
 returns-2 : tie.Need-returns-2 Inv-loop μ-loop
 returns-2 c =
     let here = c .before .loop in
-    let l = c .before .before .before .before .list-tier in
-    let a = c .before .before .before .before .before .before .before .before .before .before .before .before .args in
+    let l = c .before .before .before .list-tier in
+    let a = c .before .before .before .before .before .before .before .before .before .before .before .args in
     let g = going-end (a .case .now) (resultsIn (a .book .now)) (a .seats .now) (a .s) (a .tier) (a .set) (a .held) (a .workshops) (l .result)
-    (l .last .1 .1 .1 .1 .1 .0) (l .last .1 .1 .1 .1 .1 .1 .0) (a .visits .now) (here .visits) (here .count) (here .openings) (here .k) (here .inv)
+    (l .last .1 .1 .1 .1 .0) (a .visits .now) (here .visits) (here .count) (here .openings) (here .k) (here .inv)
     (omega arith) in
     let r = round-end (marketIn (a .case .now)) (resultsIn (a .book .now)) (a .seats .now) (a .s) (a .tier) (a .set) (a .held) (a .visits .now)
     (here .visits) (here .count) (here .openings) (a .workshops) (a .workshops) g refl in
@@ -335,15 +333,13 @@ hold-round-spec =
     Inv-loop
     μ-loop
     slice-aggregate-list-tier
-    slice-aggregate-list-tier-2
     list-tier-requires
     loop-holds
     mul-pair
     array-read-pair
-    mul-from
-    array-read-from
     second-at-requires
     cast-w
+    start-of-requires
     seats-of-requires
     workshop-tier-requires
     is-shut-requires

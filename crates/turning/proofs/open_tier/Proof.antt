@@ -16,7 +16,7 @@ add-tier : tie.Need-add-tier
 add-tier c = search needs
 
 hold-round-requires : tie.Need-hold-round-requires
-hold-round-requires c κs = let start = c .before .before .before .before .before .before .before in
+hold-round-requires c κs = let start = c .before .before .before .before .before .before .before .before in
     (start .pre .0, ((omega arith, omega arith), (start .pre .1 .1 .0, rw (add-one (start .args .state .reached)) (start .pre .1 .1 .1))))
 
 after-round-requires : tie.Need-after-round-requires
@@ -30,7 +30,7 @@ same-length c = search needs
 
 returns : tie.Need-returns
 returns c =
-    let start = c .before .before .before .before .before .before .before .before .before .before .before in
+    let start = c .before .before .before .before .before .before .before .before .before .before .before .before in
     let a = start .args in
     let o = roundTo (marketIn (a .case .now)) (resultsIn (a .book .now)) (a .seats .now) (a .run .hand) (a .state .reached + 1) (a .state .openings)
     (a .workshops) in (

@@ -18,7 +18,7 @@ use Rattle.turning.proofs.turn.Tie as tie
 
 -- the function's entry, and her state after she has been told, from where the two ways part
 abbrev entry : tie.After-count → tie.Start
-entry c = c .before .before .before .before .before .before .before .before .before
+entry c = c .before .before .before .before .before .before .before .before .before .before
 
 abbrev told : tie.After-count → StudentState
 told c = c .before .before .before .told-state .result
@@ -65,7 +65,7 @@ told-state-requires : tie.Need-told-state-requires
 told-state-requires c κs = search needs
 
 student-outside-requires : tie.Need-student-outside-requires
-student-outside-requires c κs = let start = c .before .before .before .before .before .before in start .pre .0 .student (start .args .run .hand)
+student-outside-requires c κs = let start = c .before .before .before .before .before .before .before in start .pre .0 .student (start .args .run .hand)
     (omega (arith, start .pre .1)) (omega (arith, start .pre .0, start .pre .1))
 
 cast-outside : tie.Need-cast-outside
@@ -76,7 +76,7 @@ count-requires c κs = search needs
 
 open-tier-requires : tie.Need-open-tier-requires
 open-tier-requires c κs =
-    let start = c .before .before .before .before .before .before .before .before .before .before .before .before in
+    let start = c .before .before .before .before .before .before .before .before .before .before .before .before .before in
     let a = start .args in
     let t = c .before .before .before .before .before .before .told-state in
     let o = c .before .before .before .before .before .student-outside in
@@ -97,7 +97,7 @@ same-length-2 c = search needs
 
 returns : tie.Need-returns
 returns c =
-    let start = c .before .before .before .before .before .before .before .before .before .before .before .before .before .before .before in
+    let start = c .before .before .before .before .before .before .before .before .before .before .before .before .before .before .before .before in
     let a = start .args in
     let t = c .before .before .before .before .before .before .before .before .before .told-state in
     let o = c .before .before .before .before .before .before .before .before .student-outside in
@@ -113,7 +113,7 @@ returns c =
 
 favourite-requires : tie.Need-favourite-requires
 favourite-requires c κs =
-    let start = c .before .before .before .before .before .before .before .before .before .before in
+    let start = c .before .before .before .before .before .before .before .before .before .before .before in
     let a = start .args in
     let t = c .before .before .before .before .told-state in
     let o = c .before .before .before .student-outside in
@@ -121,7 +121,7 @@ favourite-requires c κs =
 
 apply-to-requires : tie.Need-apply-to-requires
 apply-to-requires c κs =
-    let start = c .before .before .before .before .before .before .before .before .before .before .before .before in
+    let start = c .before .before .before .before .before .before .before .before .before .before .before .before .before in
     let a = start .args in
     let t = c .before .before .before .before .before .before .told-state in
     let o = c .before .before .before .before .before .student-outside in
@@ -136,7 +136,7 @@ same-length-3 c = search needs
 
 returns-2 : tie.Need-returns-2
 returns-2 c =
-    let start = c .before .before .before .before .before .before .before .before .before .before .before .before .before .before .before in
+    let start = c .before .before .before .before .before .before .before .before .before .before .before .before .before .before .before .before in
     let a = start .args in
     let t = c .before .before .before .before .before .before .before .before .before .told-state in
     let o = c .before .before .before .before .before .before .before .before .student-outside in
