@@ -22,7 +22,8 @@ use Rattle.answering.specs.Steps.{Halted, Started, Found, noRun}
 use Rattle.answering.proofs.Cleaning.{valid-clean, valid-stands}
 
 module _ (case book index : List ℕ) (room : Room) (checked : Checked) (says : Tested case book room checked index) where
-  pub found-halted : (table : List ℕ) (k i : ℕ) → checked ≡ Halts k i → (p : Prepared) → p ≡ record { run = noRun; cause = k; «record» = i; students = 0; workshops = 0 }
+  pub found-halted : (table : List ℕ) (k i : ℕ) → checked ≡ Halts k i → (p : Prepared)
+      → p ≡ record { run = noRun; cause = k; «record» = i; students = 0; workshops = 0 }
       → Found case book index table p (refusal case book room)
   found-halted table k i e p h =
       subst (λ (o : Option (ℕ × ℕ)). Found case book index table p o) (sym (as-refused case (refusal case book room) k i (sym e ∙ says .answer)))
@@ -48,7 +49,8 @@ module _ (case book index : List ℕ) (room : Room) (checked : Checked) (says : 
         rw (free .1, free .2)
         (valid-stands case book room (refusal-none case book room (free .0)) bytes)
 
-    pub found-started : (table : List ℕ) → Tabled case table → (p : Prepared) → p .run ≡ beginRun (marketIn case) (resultsIn book) → p .cause ≡ 0 → p .students ≡ n → p .workshops ≡ m
+    pub found-started : (table : List ℕ) → Tabled case table → (p : Prepared)
+        → p .run ≡ beginRun (marketIn case) (resultsIn book) → p .cause ≡ 0 → p .students ≡ n → p .workshops ≡ m
         → Found case book index table p (refusal case book room)
     found-started table t p r c s w =
         subst (λ (o : Option (ℕ × ℕ)). Found case book index table p o) (sym (free .0))

@@ -30,23 +30,31 @@ enum-known-checked-2 c = search needs
 
 build-requires : tie.Need-build-requires
 build-requires c κs =
-    let start = c .before .before .before .before .before .before .before .before .before .before .before .before .before .before .before .before .before in
-    let tested = c .before .before .before .before .before .before .check in
-    let v = c .before .before .checked2 .given in (
-      stands (start .args .case .now) (start .args .book .now) (tested .last .1 .1 .1 .0)
-          (roomOf (start .args .places) (start .args .visits) (length (start .args .seats .now)) (length (start .args .index .now)) (start .args .states)) (tested .result) (tested .ensures)
-          (v .0 .0) (v .0 .1 .0) (v .0 .1 .1 .0) (v .1) (λ j. omega (arith, c .before .before .before .before .before .before .before .before .before .before .before .before .before .before .before .before .shared-slice-known .given j)),
+    let read = c .before .before .before .before .before .before in
+    let tested = read .check in
+    let known = read .before .before .before .before .before .before .before .before .before .before in
+    let start = known .before in
+    let v = c .before .before .checked2 .given in
+    let room = roomOf (start .args .places) (start .args .visits) (length (start .args .seats .now)) (length (start .args .index .now)) (start .args .states) in
+    let byte = known .shared-slice-known .given in (
+      stands (start .args .case .now) (start .args .book .now) (tested .last .1 .1 .1 .0) room (tested .result) (tested .ensures)
+          (v .0 .0) (v .0 .1 .0) (v .0 .1 .1 .0) (v .1)
+          (λ j. omega (arith, byte j)),
       start .pre,
     )
 
 begin-run-requires : tie.Need-begin-run-requires
 begin-run-requires c κs =
-    let start = c .before .before .before .before .before .before .before .before .before .before .before .before .before .before .before .before .before .before .before .before in
-    let tested = c .before .before .before .before .before .before .before .before .before .check in
+    let read = c .before .before .before .before .before .before .before .before .before in
+    let tested = read .check in
+    let known = read .before .before .before .before .before .before .before .before .before .before in
+    let start = known .before in
     let v = c .before .before .before .before .before .checked2 .given in
-    let k = clean (start .args .case .now) (start .args .book .now) (tested .last .1 .1 .1 .0)
-    (roomOf (start .args .places) (start .args .visits) (length (start .args .seats .now)) (length (start .args .index .now)) (start .args .states)) (tested .result) (tested .ensures)
-    (v .0 .0) (v .0 .1 .0) (v .0 .1 .1 .0) (v .1) (λ j. omega (arith, c .before .before .before .before .before .before .before .before .before .before .before .before .before .before .before .before .before .before .before .shared-slice-known .given j)) in
+    let room = roomOf (start .args .places) (start .args .visits) (length (start .args .seats .now)) (length (start .args .index .now)) (start .args .states) in
+    let byte = known .shared-slice-known .given in
+    let k = clean (start .args .case .now) (start .args .book .now) (tested .last .1 .1 .1 .0) room (tested .result) (tested .ensures)
+    (v .0 .0) (v .0 .1 .0) (v .0 .1 .1 .0) (v .1)
+    (λ j. omega (arith, byte j)) in
     ((sym (k .students), k .found .manyStudents), k .student)
 
 same-length : tie.Need-same-length
@@ -57,13 +65,15 @@ same-length-2 c = search needs
 
 returns : tie.Need-returns
 returns c =
-    let start = c .before .before .before .before .before .before .before .before .before .before .before .before .before .before .before .before .before in
-    let tested = c .before .before .before .before .before .before .check in
+    let read = c .before .before .before .before .before .before in
+    let tested = read .check in
+    let known = read .before .before .before .before .before .before .before .before .before .before in
+    let start = known .before in
     let v = c .before .before .checked .given in
+    let room = roomOf (start .args .places) (start .args .visits) (length (start .args .seats .now)) (length (start .args .index .now)) (start .args .states) in
     record {
       cleared = c .before .before .before .before .before .before .before .before .before .before .clear .ensures;
-      found = found-halted (start .args .case .now) (start .args .book .now) (tested .last .1 .1 .1 .0)
-          (roomOf (start .args .places) (start .args .visits) (length (start .args .seats .now)) (length (start .args .index .now)) (start .args .states)) (tested .result) (tested .ensures) _ (v .0 .0) (v .0 .1 .0) (v .1) _
+      found = found-halted (start .args .case .now) (start .args .book .now) (tested .last .1 .1 .1 .0) room (tested .result) (tested .ensures) _ (v .0 .0) (v .0 .1 .0) (v .1) _
           (ap (λ r. record { run = r; cause = v .0 .0; «record» = v .0 .1 .0; students = 0; workshops = 0 }) (c .no-run .ensures));
       left = tested .ensures .left;
     }
@@ -79,14 +89,18 @@ same-length-5 c = search needs
 
 returns-2 : tie.Need-returns-2
 returns-2 c =
-    let start = c .before .before .before .before .before .before .before .before .before .before .before .before .before .before .before .before .before .before .before .before .before in
-    let tested = c .before .before .before .before .before .before .before .before .before .before .check in
+    let read = c .before .before .before .before .before .before .before .before .before .before in
+    let tested = read .check in
+    let known = read .before .before .before .before .before .before .before .before .before .before in
+    let start = known .before in
     let v = c .before .before .before .before .before .before .checked2 .given in
+    let room = roomOf (start .args .places) (start .args .visits) (length (start .args .seats .now)) (length (start .args .index .now)) (start .args .states) in
+    let byte = known .shared-slice-known .given in
     record {
       cleared = c .before .before .before .before .before .before .before .before .before .before .before .before .before .before .clear .ensures;
-      found = found-started (start .args .case .now) (start .args .book .now) (tested .last .1 .1 .1 .0)
-          (roomOf (start .args .places) (start .args .visits) (length (start .args .seats .now)) (length (start .args .index .now)) (start .args .states)) (tested .result) (tested .ensures) (v .0 .0) (v .0 .1 .0) (v .0 .1 .1 .0) (v .1)
-          (λ j. omega (arith, c .before .before .before .before .before .before .before .before .before .before .before .before .before .before .before .before .before .before .before .before .shared-slice-known .given j))
+      found = found-started (start .args .case .now) (start .args .book .now) (tested .last .1 .1 .1 .0) room (tested .result) (tested .ensures)
+          (v .0 .0) (v .0 .1 .0) (v .0 .1 .1 .0) (v .1)
+          (λ j. omega (arith, byte j))
           _ (c .before .before .before .build .ensures) _ (c .begin-run .ensures (resultsIn (start .args .book .now))) refl refl refl;
       left = tested .ensures .left;
     }
