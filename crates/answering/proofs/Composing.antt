@@ -72,8 +72,8 @@ cause-above case book room k i f =
     number : Cause → ℕ
     number c = c .0
 
-module _ (case book places visits seats index : List ℕ) (states : List StudentState) (p : Prepared) (seats₁ index₁ : List ℕ)
-    (prepared : Prepares case book (length places) (length visits) (length states) seats index p seats₁ index₁) where
+module _ (case book places visits seats index : List ℕ) (states : List StudentState) (p : Prepared) (seats₁ index₁ table₁ : List ℕ)
+    (prepared : Prepares case book (length places) (length visits) (length states) seats index p seats₁ index₁ table₁) where
   abbrev M : Market
   M = marketIn case
 
@@ -96,7 +96,7 @@ module _ (case book places visits seats index : List ℕ) (states : List Student
   -- ---- a refusal: nobody is in hand, and no turn is taken
   module _ (k i : ℕ) (e : refusal case book room ≡ some (k, i)) where
     halted : Halted k i p
-    halted = subst (λ (o : Option (ℕ × ℕ)). Found case book index₁ p o) e (prepared .found)
+    halted = subst (λ (o : Option (ℕ × ℕ)). Found case book index₁ table₁ p o) e (prepared .found)
 
     refused-above : 0 < k
     refused-above = cause-above case book room k i (refusal-some case book room k i e)
@@ -115,8 +115,8 @@ module _ (case book places visits seats index : List ℕ) (states : List Student
     valid : Valid case book room
     valid = refusal-none case book room e
 
-    started : Started case book index₁ p
-    started = subst (λ (o : Option (ℕ × ℕ)). Found case book index₁ p o) e (prepared .found)
+    started : Started case book index₁ table₁ p
+    started = subst (λ (o : Option (ℕ × ℕ)). Found case book index₁ table₁ p o) e (prepared .found)
 
     long : Enough case room
     long = enough case book room valid
@@ -146,16 +146,17 @@ module _ (case book places visits seats index : List ℕ) (states : List Student
 
   -- ---- the run can be taken
   pub turn-ready : (j : ℕ) → 0 < hand (after j)
-      → StepReady case book index₁ (after j .0) (after j .1 .0) (getD (after j .1 .1 .0) (hand (after j) - 1) zeroState) (after j .1 .1 .1)
+      → StepReady case book index₁ table₁ (after j .0) (after j .1 .0) (getD (after j .1 .1 .0) (hand (after j) - 1) zeroState) (after j .1 .1 .1)
       (p .students) (p .workshops)
   turn-ready j = by-refusal (refusal case book room) refl
     where
       by-refusal : (o : Option (ℕ × ℕ)) → refusal case book room ≡ o → 0 < hand (after j)
-          → StepReady case book index₁ (after j .0) (after j .1 .0) (getD (after j .1 .1 .0) (hand (after j) - 1) zeroState) (after j .1 .1 .1)
+          → StepReady case book index₁ table₁ (after j .0) (after j .1 .0) (getD (after j .1 .1 .0) (hand (after j) - 1) zeroState) (after j .1 .1 .1)
           (p .students) (p .workshops)
       by-refusal (some (k, i)) e pos = absurd (omega (arith, ap hand (idle k i e j), ap (λ r. r .hand) (halted k i e .run)))
       by-refusal none e pos = record {
         clean = started e .clean;
+        tabled = started e .tabled;
         ready = subst (λ (σ : Kept). Ready M B (σ .0) (σ .1 .0) (getD (σ .1 .1 .0) (hand σ - 1) zeroState) (σ .1 .1 .1)) (sym (begins e j))
             (ready-here e j (subst (λ (σ : Kept). 0 < hand σ) (begins e j) pos) .0);
       }

@@ -13,11 +13,13 @@ use Rattle.model.specs.Turn.{beginRun}
 use Rattle.model.specs.Ready.{Ready}
 use Rattle.lookup.specs.Clean.{Clean}
 use Rattle.book_tests.specs.Index.{indexAfter}
+use Rattle.tables.specs.Table.{Tabled}
 use Rattle.answering.specs.declared.Prepared.{Prepared}
 
 -- a turn can be taken
-pub record StepReady (case book index visits seats : List ℕ) (k : StudentState) (r : Run) (students workshops : ℕ) : Type 0 where
+pub record StepReady (case book index table visits seats : List ℕ) (k : StudentState) (r : Run) (students workshops : ℕ) : Type 0 where
   pub clean : Clean case book index students workshops
+  pub tabled : Tabled case table
   pub ready : Ready (marketIn case) (resultsIn book) visits seats k r
 
 -- a run with nobody in hand, and nothing done
@@ -32,17 +34,18 @@ pub record Halted (k i : ℕ) (p : Prepared) : Type 0 where
   pub counts : (p .students ≡ 0) × (p .workshops ≡ 0)
 
 -- the run can begin
-pub record Started (case book index : List ℕ) (p : Prepared) : Type 0 where
+pub record Started (case book index table : List ℕ) (p : Prepared) : Type 0 where
   pub cause : p .cause ≡ 0
   pub run : p .run ≡ beginRun (marketIn case) (resultsIn book)
   pub clean : Clean case book index (p .students) (p .workshops)
+  pub tabled : Tabled case table
 
-abbrev pub Found : List ℕ → List ℕ → List ℕ → Prepared → Option (ℕ × ℕ) → Type 0
-Found case book index p (some r) = Halted (r .0) (r .1) p
-Found case book index p none = Started case book index p
+abbrev pub Found : List ℕ → List ℕ → List ℕ → List ℕ → Prepared → Option (ℕ × ℕ) → Type 0
+Found case book index table p (some r) = Halted (r .0) (r .1) p
+Found case book index table p none = Started case book index table p
 
--- the input is tested, the seats are zero, and the index is that of the book's records, or zero on a refusal
-pub record Prepares (case book : List ℕ) (places visits states : ℕ) (seats index : List ℕ) (p : Prepared) (seats′ index′ : List ℕ) : Type 0 where
+-- the input is tested, the seats are zero, and the index is that of the book's records, or zero on a refusal; of the table nothing is said on a refusal
+pub record Prepares (case book : List ℕ) (places visits states : ℕ) (seats index : List ℕ) (p : Prepared) (seats′ index′ table′ : List ℕ) : Type 0 where
   pub cleared : seats′ ≡ replicate (length seats) 0
-  pub found : Found case book index′ p (refusal case book (roomOf places visits (length seats) (length index) states))
+  pub found : Found case book index′ table′ p (refusal case book (roomOf places visits (length seats) (length index) states))
   pub left : index′ ≡ indexAfter (refusal case book (roomOf places visits (length seats) (length index) states)) case book (length index)

@@ -7,6 +7,7 @@ ghost use Rattle.answering.specs.Finish.{toPlace, answerEnd};
 ghost use Rattle.answering.specs.Steps.{StepReady, Prepares, noRun};
 ghost use Rattle.api.specs.Answers.{reportOf};
 ghost use Rattle.model.specs.Turn.{turnOf};
+ghost use Rattle.tables.specs.Table.{Blank};
 use api::Answer;
 use api::Report;
 use api::StudentState;
@@ -57,6 +58,7 @@ fn no_run() -> Run
 }
 
 // Tests the input, cause by cause, and makes the scratch ready for the run: the seats are zero, and the index is that of the book's records, or zero on a refusal.
+// The table becomes that of the case, unless the input is refused.
 pub fn prepare(
     case: &[u8],
     book: &[u8],
@@ -65,8 +67,11 @@ pub fn prepare(
     seats: &mut [u16],
     index: &mut [u16],
     states: usize,
+    table: &mut [u64],
 ) -> Prepared
-    ensures { λ r. ⌜ Prepares (now (case .entry)) (now (book .entry)) places visits states (now (seats .entry)) (now (index .entry)) r (now (seats .exit)) (now (index .exit)) ⌝ }
+    requires { ⌜ Blank (now table) ⌝ }
+    ensures { λ r. ⌜ Prepares (now (case .entry)) (now (book .entry)) places visits states (now (seats .entry)) (now (index .entry)) r
+        (now (seats .exit)) (now (index .exit)) (now (table .exit)) ⌝ }
 {
     let room = Room {
         places,
@@ -92,6 +97,7 @@ pub fn prepare(
             workshops,
             pairs: _,
         } => {
+            tables::build(case, students, workshops, &mut *table);
             let run = turning::begin_run(case, students);
             Prepared {
                 run,
@@ -109,6 +115,7 @@ pub fn step(
     case: &[u8],
     book: &[u8],
     index: &mut [u16],
+    table: &[u64],
     visits: &mut [u16],
     seats: &mut [u16],
     state: StudentState,
@@ -116,7 +123,7 @@ pub fn step(
     students: usize,
     workshops: usize,
 ) -> Turned
-    requires { ⌜ StepReady (now case) (now book) (now index) (now visits) (now seats) state run students workshops ⌝ }
+    requires { ⌜ StepReady (now case) (now book) (now index) (now table) (now visits) (now seats) state run students workshops ⌝ }
     ensures { λ r. ⌜ (r ≡ turnOf (marketIn (now (case .entry))) (resultsIn (now (book .entry))) (now (visits .entry)) (now (seats .entry)) state run .turned)
         × ((now (visits .exit) ≡ turnOf (marketIn (now (case .entry))) (resultsIn (now (book .entry))) (now (visits .entry)) (now (seats .entry)) state run .visits)
         × ((now (seats .exit) ≡ turnOf (marketIn (now (case .entry))) (resultsIn (now (book .entry))) (now (visits .entry)) (now (seats .entry)) state run .seats)

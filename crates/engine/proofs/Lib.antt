@@ -2,3 +2,4 @@ mod States
 mod Zeros
 mod Runs
 mod Placing
+mod Blank

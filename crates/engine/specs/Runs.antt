@@ -30,14 +30,14 @@ abbrev pub wholeRun : List ℕ → List ℕ → List ℕ → List ℕ → List S
 wholeRun case book visits seats states start = runOf (marketIn case) (resultsIn book) (fuel (marketIn case) (resultsIn book)) visits seats states start
 
 -- a student is in hand, she has a state, and her turn finds what it needs
-pub record CanTurn (case book index visits seats : List ℕ) (states : List StudentState) (r : Run) (students workshops : ℕ) : Type 0 where
+pub record CanTurn (case book index table visits seats : List ℕ) (states : List StudentState) (r : Run) (students workshops : ℕ) : Type 0 where
   pub hand : 0 < r .hand
   pub within : r .hand ≤ length states
-  pub ready : StepReady case book index visits seats (getD states (r .hand - 1) zeroState) r students workshops
+  pub ready : StepReady case book index table visits seats (getD states (r .hand - 1) zeroState) r students workshops
 
 -- each turn finds what it needs, and the last leaves no student in hand
-pub record CanRun (case book index visits seats : List ℕ) (states : List StudentState) (start : Run) (students workshops : ℕ) : Type 0 where
+pub record CanRun (case book index table visits seats : List ℕ) (states : List StudentState) (start : Run) (students workshops : ℕ) : Type 0 where
   pub ready : (k : ℕ) → let σ = runOf (marketIn case) (resultsIn book) k visits seats states start in
-      0 < hand-of σ → StepReady case book index (σ .0) (σ .1 .0) (getD (σ .1 .1 .0) (hand-of σ - 1) zeroState) (σ .1 .1 .1) students workshops
+      0 < hand-of σ → StepReady case book index table (σ .0) (σ .1 .0) (getD (σ .1 .1 .0) (hand-of σ - 1) zeroState) (σ .1 .1 .1) students workshops
   pub within : (k : ℕ) → let σ = runOf (marketIn case) (resultsIn book) k visits seats states start in 0 < hand-of σ → hand-of σ ≤ length (σ .1 .1 .0)
   pub ends : hand-of (wholeRun case book visits seats states start) ≡ 0

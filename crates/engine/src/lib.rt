@@ -32,6 +32,7 @@ fn take_turn(
     case: &[u8],
     book: &[u8],
     index: &mut [u16],
+    table: &[u64],
     visits: &mut [u16],
     seats: &mut [u16],
     states: &mut [StudentState],
@@ -39,7 +40,7 @@ fn take_turn(
     students: usize,
     workshops: usize,
 ) -> Run
-    requires { ⌜ CanTurn (now case) (now book) (now index) (now visits) (now seats) (now states) run students workshops ⌝ }
+    requires { ⌜ CanTurn (now case) (now book) (now index) (now table) (now visits) (now seats) (now states) run students workshops ⌝ }
     ensures { λ r. ⌜ ((now (visits .exit), (now (seats .exit), (now (states .exit), r)))
         ≡ turnOn (marketIn (now (case .entry))) (resultsIn (now (book .entry))) (now (visits .entry), (now (seats .entry), (now (states .entry), run))))
         × (now (index .exit) ≡ now (index .entry)) ⌝ }
@@ -49,6 +50,7 @@ fn take_turn(
         case,
         book,
         &mut *index,
+        table,
         &mut *visits,
         &mut *seats,
         states[at],
@@ -65,6 +67,7 @@ fn run_all(
     case: &[u8],
     book: &[u8],
     index: &mut [u16],
+    table: &[u64],
     visits: &mut [u16],
     seats: &mut [u16],
     states: &mut [StudentState],
@@ -72,7 +75,7 @@ fn run_all(
     students: usize,
     workshops: usize,
 ) -> Run
-    requires { ⌜ CanRun (now case) (now book) (now index) (now visits) (now seats) (now states) start students workshops ⌝ }
+    requires { ⌜ CanRun (now case) (now book) (now index) (now table) (now visits) (now seats) (now states) start students workshops ⌝ }
     ensures { λ r. ⌜ ((now (visits .exit), (now (seats .exit), (now (states .exit), r)))
         ≡ wholeRun (now (case .entry)) (now (book .entry)) (now (visits .entry)) (now (seats .entry)) (now (states .entry)) start)
         × (now (index .exit) ≡ now (index .entry)) ⌝ }
@@ -83,6 +86,7 @@ fn run_all(
             case,
             book,
             &mut *index,
+            table,
             &mut *visits,
             &mut *seats,
             &mut *states,
@@ -124,6 +128,7 @@ pub fn place(
     let n_places = places.len();
     let n_visits = visits.len();
     let n_states = states.len();
+    let mut table = [0u64; 1088];
     let p = answering::prepare(
         case,
         book,
@@ -132,6 +137,7 @@ pub fn place(
         &mut *seats,
         &mut *index,
         n_states,
+        &mut table,
     );
     clear_states(&mut *states);
     let start = p.run;
@@ -141,6 +147,7 @@ pub fn place(
         case,
         book,
         &mut *index,
+        &table,
         &mut *visits,
         &mut *seats,
         &mut *states,

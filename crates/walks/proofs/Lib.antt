@@ -4,3 +4,4 @@ pub mod Calls
 pub mod Clauses
 pub mod Again
 pub mod Local
+pub mod Consts

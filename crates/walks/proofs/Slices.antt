@@ -33,7 +33,7 @@ pub record Loan : Type 0 where
 abbrev pub anew : {X : Type 0} → Spot → Loan → List X → RefT (List X)
 anew p a l = record { ptr = (p .b, p .o); name = a .δ; now = l }
 
--- the types of locals: a number, a `&mut [u16]` and a `&[u8]` at lifetime j, and the pointer of a `&mut [u16]` that is lent again
+-- the types of locals: a number, a `&mut [u16]`, a `&[u8]` and a `&[u64]` at lifetime j, and the pointer of a `&mut [u16]` that is lent again
 abbrev pub word : Ty
 word = tyInt w64
 
@@ -42,6 +42,9 @@ words-ty j = sliceTy (tyRef (named j) mut (tyInt w16))
 
 abbrev pub bytes-ty : ℕ → Ty
 bytes-ty j = sliceTy (tyRef (named j) imm (tyInt w8))
+
+abbrev pub longs-ty : ℕ → Ty
+longs-ty j = sliceTy (tyRef (named j) imm (tyInt w64))
 
 abbrev pub ptr-ty : Ty
 ptr-ty = tyRef erased mut (tyInt w16)

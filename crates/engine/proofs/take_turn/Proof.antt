@@ -1,6 +1,6 @@
 -- `engine::take_turn` meets its contract: a walk of its MIR, by hand. The borrow of the states is opened, the state of the student in hand is copied
 -- out of the row, `step` is called with it, the state that it gives is stored in its place, and the borrow is closed. The index, the visits and the
--- seats are lent again for the call, and come back at the list that `step` says; of the case and the book, which are `&`, a copy is passed.
+-- seats are lent again for the call, and come back at the list that `step` says; of the case, the book and the table, which are `&`, a copy is passed.
 -- All that the proof knows of `step` is that it meets its contract.
 -- Assumes nothing.
 use mathlib.Core.Path.{_≡_, refl, sym}
@@ -30,7 +30,7 @@ use denote.RattleType.{owns}
 use denote.Laws.{Is}
 use denote.Memory.{pointee}
 use denote.Plain.{uint-vals, uint-tells, uint-makes}
-use denote.Builtin.{u8, u16, usize}
+use denote.Builtin.{u8, u16, u64, usize}
 use denote.Exit.{yes}
 use denote.Ref.{RefT}
 use denote.Slice.{sliceTy, MutSlice, ShrSlice, Room, slice-vals, mut-slice-tells, shr-slice-tells, shr-slice-copy}
@@ -81,12 +81,15 @@ stayed = (
     (
       stay-slice (2 ∷ []) tt (plain (λ _. u16)),
       (
-        stay-slice (3 ∷ []) tt (plain (λ _. u16)),
+        stay-none-slice (3 ∷ []) tt (plain (λ _. u64)) yes,
         (
           stay-slice (4 ∷ []) tt (plain (λ _. u16)),
           (
-            stay-slice (5 ∷ []) tt (plain (λ _. T.the-row)),
-            (stay-none (λ _. S.the-row) yes, (stay-none (λ _. usize) yes, (stay-none (λ _. usize) yes, tt))),
+            stay-slice (5 ∷ []) tt (plain (λ _. u16)),
+            (
+              stay-slice (6 ∷ []) tt (plain (λ _. T.the-row)),
+              (stay-none (λ _. S.the-row) yes, (stay-none (λ _. usize) yes, (stay-none (λ _. usize) yes, tt))),
+            ),
           ),
         ),
       ),
@@ -106,26 +109,27 @@ abbrev StepOf : {M : Type 1} (𝓤 : URA M) (H : Heap 𝓤) (A : Atoms 𝓤) (me
 StepOf 𝓤 H A mem run = tripleOf 𝓤 H A step.signature (step.spec 𝓤 H A mem run)
 
 abbrev states-ty : Ty
-states-ty = sliceTy (tyRef (named 5) mut (pointee (T.the-row .written)))
+states-ty = sliceTy (tyRef (named 6) mut (pointee (T.the-row .written)))
 
-module _ {M : Type 1} (𝓤 : URA M) (H : Heap 𝓤) (A : Atoms 𝓤) (W : Given 𝓤 H A) (mem : Memory → SProp 𝓤) (run : Routine → Fun 𝓤) (κ₀ κ₁ κ₂ κ₃ κ₄ κ₅ : Lft)
-    (q₀ q₁ q₂ q₃ q₄ q₅ : Share) (p₀ p₁ p₂ p₃ p₄ p₅ : Spot)
-    (case book index visits seats : List ℕ) (ys : List StudentState) (start : Run) (students workshops : ℕ)
+module _ {M : Type 1} (𝓤 : URA M) (H : Heap 𝓤) (A : Atoms 𝓤) (W : Given 𝓤 H A) (mem : Memory → SProp 𝓤) (run : Routine → Fun 𝓤) (κ₀ κ₁ κ₂ κ₃ κ₄ κ₅ κ₆ : Lft)
+    (q₀ q₁ q₂ q₃ q₄ q₅ q₆ : Share) (p₀ p₁ p₂ p₃ p₄ p₅ p₆ : Spot)
+    (case book index table visits seats : List ℕ) (ys : List StudentState) (start : Run) (students workshops : ℕ)
     (start-is : Is S.the-row start (S′.lowered start ∷ [])) (students-fit : students < 2 ^ 64) (workshops-fit : workshops < 2 ^ 64)
-    (room₀ : Room u8 (length case)) (room₁ : Room u8 (length book)) (room₂ : Room u16 (length index)) (room₃ : Room u16 (length visits))
-    (room₄ : Room u16 (length seats)) (room₅ : Room T.the-row (length ys))
-    (can : CanTurn case book index visits seats ys start students workshops) where
-  abbrev κs : (Lft × (Lft × (Lft × (Lft × (Lft × (Lft × Unit {0}))))))
-  κs = (κ₀, (κ₁, (κ₂, (κ₃, (κ₄, (κ₅, tt))))))
+    (room₀ : Room u8 (length case)) (room₁ : Room u8 (length book)) (room₂ : Room u16 (length index)) (room₃ : Room u64 (length table))
+    (room₄ : Room u16 (length visits)) (room₅ : Room u16 (length seats)) (room₆ : Room T.the-row (length ys))
+    (can : CanTurn case book index table visits seats ys start students workshops) where
+  abbrev κs : (Lft × (Lft × (Lft × (Lft × (Lft × (Lft × (Lft × Unit {0})))))))
+  κs = (κ₀, (κ₁, (κ₂, (κ₃, (κ₄, (κ₅, (κ₆, tt)))))))
 
-  abbrev qs : (Share × (Share × (Share × (Share × (Share × (Share × Unit {0}))))))
-  qs = (q₀, (q₁, (q₂, (q₃, (q₄, (q₅, tt))))))
+  abbrev qs : (Share × (Share × (Share × (Share × (Share × (Share × (Share × Unit {0})))))))
+  qs = (q₀, (q₁, (q₂, (q₃, (q₄, (q₅, (q₆, tt)))))))
 
   abbrev Arg : Type 0
-  Arg = RefT (List ℕ) × (RefT (List ℕ) × (RefT (List ℕ) × (RefT (List ℕ) × (RefT (List ℕ) × (RefT (List StudentState) × (Run × (ℕ × (ℕ × Unit {0}))))))))
+  Arg = RefT (List ℕ) × (RefT (List ℕ) × (RefT (List ℕ) × (RefT (List ℕ) × (RefT (List ℕ) × (RefT (List ℕ)
+      × (RefT (List StudentState) × (Run × (ℕ × (ℕ × Unit {0})))))))))
 
   abbrev x : Arg
-  x = (ref p₀ case, (ref p₁ book, (ref p₂ index, (ref p₃ visits, (ref p₄ seats, (ref p₅ ys, (start, (students, (workshops, tt)))))))))
+  x = (ref p₀ case, (ref p₁ book, (ref p₂ index, (ref p₃ table, (ref p₄ visits, (ref p₅ seats, (ref p₆ ys, (start, (students, (workshops, tt))))))))))
 
   -- the machine values, which stay
   abbrev at : Vals take-turn.signature κs
@@ -136,10 +140,13 @@ module _ {M : Type 1} (𝓤 : URA M) (H : Heap 𝓤) (A : Atoms 𝓤) (W : Given
       (
         sv p₂ index ∷ [],
         (
-          sv p₃ visits ∷ [],
+          sv p₃ table ∷ [],
           (
-            sv p₄ seats ∷ [],
-            (sv p₅ ys ∷ [], (S′.lowered start ∷ [], (vint w64 students ∷ [], (vint w64 workshops ∷ [], tt)))),
+            sv p₄ visits ∷ [],
+            (
+              sv p₅ seats ∷ [],
+              (sv p₆ ys ∷ [], (S′.lowered start ∷ [], (vint w64 students ∷ [], (vint w64 workshops ∷ [], tt)))),
+            ),
           ),
         ),
       ),
@@ -172,32 +179,37 @@ module _ {M : Type 1} (𝓤 : URA M) (H : Heap 𝓤) (A : Atoms 𝓤) (W : Given
   abbrev Index : List ℕ → Item 𝓤
   Index l = ‵ (MutSlice (named 2) κ₂ u16 .own (ref p₂ l) (sv p₂ index ∷ []))
 
+  abbrev Table : Item 𝓤
+  Table = ‵ (ShrSlice (named 3) κ₃ u64 .own (ref p₃ table) (sv p₃ table ∷ []))
+
   abbrev Visits : List ℕ → Item 𝓤
-  Visits l = ‵ (MutSlice (named 3) κ₃ u16 .own (ref p₃ l) (sv p₃ visits ∷ []))
+  Visits l = ‵ (MutSlice (named 4) κ₄ u16 .own (ref p₄ l) (sv p₄ visits ∷ []))
 
   abbrev Seats : List ℕ → Item 𝓤
-  Seats l = ‵ (MutSlice (named 4) κ₄ u16 .own (ref p₄ l) (sv p₄ seats ∷ []))
+  Seats l = ‵ (MutSlice (named 5) κ₅ u16 .own (ref p₅ l) (sv p₅ seats ∷ []))
 
   abbrev States : List StudentState → Item 𝓤
-  States l = ‵ (MutSlice (named 5) κ₅ T.the-row .own (ref p₅ l) (sv p₅ ys ∷ []))
+  States l = ‵ (MutSlice (named 6) κ₆ T.the-row .own (ref p₆ l) (sv p₆ ys ∷ []))
 
   -- ---- the call of `step`, with the index, the visits and the seats lent again
   abbrev Args : Type 0
-  Args = RefT (List ℕ) × (RefT (List ℕ) × (RefT (List ℕ) × (RefT (List ℕ) × (RefT (List ℕ) × (StudentState × (Run × (ℕ × (ℕ × Unit {0}))))))))
+  Args = RefT (List ℕ) × (RefT (List ℕ) × (RefT (List ℕ) × (RefT (List ℕ) × (RefT (List ℕ) × (RefT (List ℕ)
+      × (StudentState × (Run × (ℕ × (ℕ × Unit {0})))))))))
 
   abbrev passed : Loan → Loan → Loan → Args
-  passed a₂ a₃ a₄ = (ref p₀ case, (ref p₁ book, (anew p₂ a₂ index, (anew p₃ a₃ visits, (anew p₄ a₄ seats, (state, (start, (students, (workshops, tt)))))))))
+  passed a₂ a₄ a₅ =
+      (ref p₀ case, (ref p₁ book, (anew p₂ a₂ index, (ref p₃ table, (anew p₄ a₄ visits, (anew p₅ a₅ seats, (state, (start, (students, (workshops, tt))))))))))
 
-  abbrev lives : Loan → Loan → Loan → (Lft × (Lft × (Lft × (Lft × (Lft × Unit {0})))))
-  lives a₂ a₃ a₄ = (κ₀, (κ₁, (a₂ .ν ∷ [], (a₃ .ν ∷ [], (a₄ .ν ∷ [], tt)))))
+  abbrev lives : Loan → Loan → Loan → (Lft × (Lft × (Lft × (Lft × (Lft × (Lft × Unit {0}))))))
+  lives a₂ a₄ a₅ = (κ₀, (κ₁, (a₂ .ν ∷ [], (κ₃, (a₄ .ν ∷ [], (a₅ .ν ∷ [], tt))))))
 
   abbrev to-step : Loan → Loan → Loan → StepOf 𝓤 H A mem run .Ghost
-  to-step a₂ a₃ a₄ = (
+  to-step a₂ a₄ a₅ = (
     (
-      lives a₂ a₃ a₄,
-      (q₀, (q₁, (fullShare, (fullShare, (fullShare, tt))))),
+      lives a₂ a₄ a₅,
+      (q₀, (q₁, (fullShare, (q₃, (fullShare, (fullShare, tt)))))),
       tt,
-      passed a₂ a₃ a₄,
+      passed a₂ a₄ a₅,
       (
         sv p₀ case ∷ [],
         (
@@ -205,10 +217,13 @@ module _ {M : Type 1} (𝓤 : URA M) (H : Heap 𝓤) (A : Atoms 𝓤) (W : Given
           (
             sv p₂ index ∷ [],
             (
-              sv p₃ visits ∷ [],
+              sv p₃ table ∷ [],
               (
-                sv p₄ seats ∷ [],
-                (T′.lowered state ∷ [], (S′.lowered start ∷ [], (vint w64 students ∷ [], (vint w64 workshops ∷ [], tt)))),
+                sv p₄ visits ∷ [],
+                (
+                  sv p₅ seats ∷ [],
+                  (T′.lowered state ∷ [], (S′.lowered start ∷ [], (vint w64 students ∷ [], (vint w64 workshops ∷ [], tt)))),
+                ),
               ),
             ),
           ),
@@ -222,29 +237,31 @@ module _ {M : Type 1} (𝓤 : URA M) (H : Heap 𝓤) (A : Atoms 𝓤) (W : Given
   LentIndex a = ‵ (MutSlice (named 2) (a .ν ∷ []) u16 .own (anew p₂ a index) (sv p₂ index ∷ []))
 
   abbrev LentVisits : Loan → Item 𝓤
-  LentVisits a = ‵ (MutSlice (named 3) (a .ν ∷ []) u16 .own (anew p₃ a visits) (sv p₃ visits ∷ []))
+  LentVisits a = ‵ (MutSlice (named 4) (a .ν ∷ []) u16 .own (anew p₄ a visits) (sv p₄ visits ∷ []))
 
   abbrev LentSeats : Loan → Item 𝓤
-  LentSeats a = ‵ (MutSlice (named 4) (a .ν ∷ []) u16 .own (anew p₄ a seats) (sv p₄ seats ∷ []))
+  LentSeats a = ‵ (MutSlice (named 5) (a .ν ∷ []) u16 .own (anew p₅ a seats) (sv p₅ seats ∷ []))
 
   abbrev Asked : Loan → Loan → Loan → List (Item 𝓤)
-  Asked a₂ a₃ a₄ = Case ∷ ‵ (flft κ₀ q₀) ∷ Book ∷ ‵ (flft κ₁ q₁) ∷ LentIndex a₂ ∷ ‵ (flft (a₂ .ν ∷ []) fullShare) ∷ LentVisits a₃
-      ∷ ‵ (flft (a₃ .ν ∷ []) fullShare) ∷ LentSeats a₄ ∷ ‵ (flft (a₄ .ν ∷ []) fullShare) ∷ []
+  Asked a₂ a₄ a₅ = Case ∷ ‵ (flft κ₀ q₀) ∷ Book ∷ ‵ (flft κ₁ q₁) ∷ LentIndex a₂ ∷ ‵ (flft (a₂ .ν ∷ []) fullShare) ∷ Table ∷ ‵ (flft κ₃ q₃) ∷ LentVisits a₄
+      ∷ ‵ (flft (a₄ .ν ∷ []) fullShare) ∷ LentSeats a₅ ∷ ‵ (flft (a₅ .ν ∷ []) fullShare) ∷ []
 
-  goes : (a₂ a₃ a₄ : Loan) → Is T.the-row state (T′.lowered state ∷ [])
-      → ent 𝓤 (⋆ 𝓤 H A (Asked a₂ a₃ a₄)) (StepOf 𝓤 H A mem run .pre (to-step a₂ a₃ a₄))
-  goes a₂ a₃ a₄ is-c =
-      qed W (Asked a₂ a₃ a₄) ∵ says ! (can .ready) $
-      nothing ! $ move ! (10 ∷ 0 ∷ []) $ join ! $ move ! (8 ∷ 0 ∷ []) $ join ! $ move ! (6 ∷ 0 ∷ []) $ join ! $ move ! (4 ∷ 0 ∷ []) $ join ! $ move !
+  goes : (a₂ a₄ a₅ : Loan) → Is T.the-row state (T′.lowered state ∷ [])
+      → ent 𝓤 (⋆ 𝓤 H A (Asked a₂ a₄ a₅)) (StepOf 𝓤 H A mem run .pre (to-step a₂ a₄ a₅))
+  goes a₂ a₄ a₅ is-c =
+      qed W (Asked a₂ a₄ a₅) ∵ says ! (can .ready) $
+      nothing ! $ move ! (12 ∷ 0 ∷ []) $ join ! $ move ! (10 ∷ 0 ∷ []) $ join ! $ move ! (8 ∷ 0 ∷ []) $ join ! $ move ! (6 ∷ 0 ∷ []) $ join ! $
+      move ! (4 ∷ 0 ∷ []) $ join ! $ move !
       (2 ∷ 0 ∷ []) $
       join ! $ frame ! $
-      -- [case; book; the index; the visits; the seats]
+      -- [case; book; the index; the table; the visits; the seats]
       nothing ! $ owned ! usize (Is usize) (uint-makes 𝓤 H A W w64) workshops _ (refl, workshops-fit) $ fjoin ! $
       owned ! usize (Is usize) (uint-makes 𝓤 H A W w64) students _ (refl, students-fit) $ fjoin ! $
       owned ! S.the-row (Is S.the-row) (LL.makes S.the-type S′.the-plain 𝓤 H A) start _ start-is $ fjoin ! $ owned ! T.the-row (Is T.the-row)
       (kind .makes 𝓤 H A) state _ is-c $
       fjoin ! $
-      move ! (5 ∷ 0 ∷ []) $ fjoin ! $ move ! (4 ∷ 0 ∷ []) $ fjoin ! $ move ! (3 ∷ 0 ∷ []) $ fjoin ! $ move ! (2 ∷ 0 ∷ []) $ fjoin ! $ move !
+      move ! (6 ∷ 0 ∷ []) $ fjoin ! $ move ! (5 ∷ 0 ∷ []) $ fjoin ! $ move ! (4 ∷ 0 ∷ []) $ fjoin ! $ move ! (3 ∷ 0 ∷ []) $ fjoin ! $ move ! (2 ∷ 0 ∷ []) $
+      fjoin ! $ move !
       (1 ∷ 0 ∷ []) $ fjoin ! $
       done !
 
@@ -256,153 +273,158 @@ module _ {M : Type 1} (𝓤 : URA M) (H : Heap 𝓤) (A : Atoms 𝓤) (W : Given
   Says r index′ visits′ seats′ = (r ≡ turned .turned) × ((visits′ ≡ turned .visits) × ((seats′ ≡ turned .seats) × (index′ ≡ index)))
 
   abbrev Fin : Loan → Loan → Loan → Turned → Item 𝓤
-  Fin a₂ a₃ a₄ r = some (λ (ws : Lasts step.ended (lives a₂ a₃ a₄) (passed a₂ a₃ a₄)).
-      ‵ (lasts step.ended (lives a₂ a₃ a₄) (passed a₂ a₃ a₄) ws) ⊛ raw (fact 𝓤 (Says r (ws .1 .1 .0) (ws .1 .1 .1 .0) (ws .1 .1 .1 .1 .0))))
+  Fin a₂ a₄ a₅ r = some (λ (ws : Lasts step.ended (lives a₂ a₄ a₅) (passed a₂ a₄ a₅)).
+      ‵ (lasts step.ended (lives a₂ a₄ a₅) (passed a₂ a₄ a₅) ws) ⊛ raw (fact 𝓤 (Says r (ws .1 .1 .0) (ws .1 .1 .1 .1 .0) (ws .1 .1 .1 .1 .1 .0))))
 
   -- ---- what is left when the turn is over
   abbrev stored : Turned → List StudentState
   stored r = set ys place (r .state)
 
   exits : (index′ vs us : List ℕ) (r : Turned) → length vs ≡ length visits → length us ≡ length seats → Says r index′ vs us → Is U.the-row r (U′.lowered r ∷ [])
-      → ent 𝓤 (⋆ 𝓤 H A (States (stored r) ∷ ‵ (flft κ₅ q₅) ∷ Seats us ∷ ‵ (flft κ₄ q₄) ∷ Visits vs ∷ ‵ (flft κ₃ q₃) ∷ Index index ∷ ‵
+      → ent 𝓤 (⋆ 𝓤 H A (States (stored r) ∷ ‵ (flft κ₆ q₆) ∷ Seats us ∷ ‵ (flft κ₅ q₅) ∷ Visits vs ∷ ‵ (flft κ₄ q₄) ∷ Index index ∷ ‵
       (flft κ₂ q₂) ∷ Case ∷ ‵ (flft κ₀ q₀)
-      ∷ Book ∷ ‵ (flft κ₁ q₁) ∷ [])) (Post (S′.lowered (r .run)))
-  exits index′ vs us r len₃ len₄ e is =
-      qed W (States (stored r) ∷ ‵ (flft κ₅ q₅) ∷ Seats us ∷ ‵ (flft κ₄ q₄) ∷ Visits vs ∷ ‵ (flft κ₃ q₃) ∷ Index index ∷ ‵ (flft κ₂ q₂) ∷ Case ∷ ‵
+      ∷ Book ∷ ‵ (flft κ₁ q₁) ∷ Table ∷ ‵ (flft κ₃ q₃) ∷ [])) (Post (S′.lowered (r .run)))
+  exits index′ vs us r len₄ len₅ e is =
+      qed W (States (stored r) ∷ ‵ (flft κ₆ q₆) ∷ Seats us ∷ ‵ (flft κ₅ q₅) ∷ Visits vs ∷ ‵ (flft κ₄ q₄) ∷ Index index ∷ ‵ (flft κ₂ q₂) ∷ Case ∷ ‵
       (flft κ₀ q₀) ∷ Book
-      ∷ ‵ (flft κ₁ q₁) ∷ []) ∵
+      ∷ ‵ (flft κ₁ q₁) ∷ Table ∷ ‵ (flft κ₃ q₃) ∷ []) ∵
       suffices ! _ (ends-at 𝓤 H A take-turn.ended stayed (take-turn.clauses 𝓤 H A mem run) W ((κs, qs, tt, x, at), tt)
-      (S′.lowered (r .run)) (r .run) (tt, (tt, (index, (vs, (us, (stored r, (tt, (tt, (tt, tt)))))))))
-      (tt, (tt, (refl, (len₃, (len₄, (length-set ys place (r .state), (tt, (tt, (tt, tt)))))))))) $
+      (S′.lowered (r .run)) (r .run) (tt, (tt, (index, (tt, (vs, (us, (stored r, (tt, (tt, (tt, tt))))))))))
+      (tt, (tt, (refl, (tt, (len₄, (len₅, (length-set ys place (r .state), (tt, (tt, (tt, tt))))))))))) $
       says ! ((λ i. (e .1 .0 i, (e .1 .1 .0 i, (stored (e .0 i), e .0 i .run)))), refl) $
       -- the tokens
-      nothing ! $ move ! (2 ∷ 0 ∷ []) $ join ! $ move ! (3 ∷ 0 ∷ []) $ join ! $ move ! (4 ∷ 0 ∷ []) $ join ! $ move ! (5 ∷ 0 ∷ []) $ join ! $ move !
+      nothing ! $ move ! (2 ∷ 0 ∷ []) $ join ! $ move ! (3 ∷ 0 ∷ []) $ join ! $ move ! (4 ∷ 0 ∷ []) $ join ! $ move ! (11 ∷ 0 ∷ []) $ join ! $
+      move ! (5 ∷ 0 ∷ []) $ join ! $ move !
       (8 ∷ 0 ∷ []) $
       join ! $ move ! (6 ∷ 0 ∷ []) $ join ! $ frame ! $
-      -- [states; seats; visits; index; case; book]: what is had of the parameters, and the result
+      -- [states; seats; visits; index; case; book; table]: what is had of the parameters, and the result
       nothing ! $ owned ! usize (Is usize) (uint-makes 𝓤 H A W w64) workshops _ (refl, workshops-fit) $ fjoin ! $
       owned ! usize (Is usize) (uint-makes 𝓤 H A W w64) students _ (refl, students-fit) $ fjoin ! $
       owned ! S.the-row (Is S.the-row) (LL.makes S.the-type S′.the-plain 𝓤 H A) start _ start-is $ fjoin ! $ move ! (1 ∷ 0 ∷ []) $ fjoin ! $ move !
       (1 ∷ 0 ∷ []) $
-      fjoin ! $ move ! (1 ∷ 0 ∷ []) $ fjoin ! $ move ! (1 ∷ 0 ∷ []) $ fjoin ! $ move ! (2 ∷ 0 ∷ []) $ fjoin ! $ move ! (1 ∷ 0 ∷ []) $ fjoin ! $
+      fjoin ! $ move ! (1 ∷ 0 ∷ []) $ fjoin ! $ move ! (4 ∷ 0 ∷ []) $ fjoin ! $ move ! (1 ∷ 0 ∷ []) $ fjoin ! $ move ! (2 ∷ 0 ∷ []) $ fjoin ! $
+      move ! (1 ∷ 0 ∷ []) $ fjoin ! $
       owned ! S.the-row (Is S.the-row) (LL.makes S.the-type S′.the-plain 𝓤 H A) (r .run) _ (is-run r is) $ move ! (1 ∷ 0 ∷ []) $ done !
 
   -- the MIR
   walk : (𝓣 : Tables 𝓤 H) → Triple 𝓤 (𝓣 .C #answering·step) (StepOf 𝓤 H A mem run)
       → ent 𝓤 (onEntry 𝓤 H A take-turn.signature κs qs x at)
-      (WpFn 𝓤 H (𝓣 .C) (𝓣 .Λ) code.function (sv p₀ case ∷ sv p₁ book ∷ sv p₂ index ∷ sv p₃ visits ∷ sv p₄ seats
-      ∷ sv p₅ ys ∷ S′.lowered start ∷ vint w64 students ∷ vint w64 workshops ∷ []) Post)
+      (WpFn 𝓤 H (𝓣 .C) (𝓣 .Λ) code.function (sv p₀ case ∷ sv p₁ book ∷ sv p₂ index ∷ sv p₃ table ∷ sv p₄ visits ∷ sv p₅ seats
+      ∷ sv p₆ ys ∷ S′.lowered start ∷ vint w64 students ∷ vint w64 workshops ∷ []) Post)
   walk 𝓣 known =
-      qed W ((‵ (flft κ₀ q₀) ⊛ ‵ (flft κ₁ q₁) ⊛ ‵ (flft κ₂ q₂) ⊛ ‵ (flft κ₃ q₃) ⊛ ‵ (flft κ₄ q₄) ⊛ ‵ (flft κ₅ q₅) ⊛ ‵ ftrue)
-      ∷ ‵ (owns (ShrSlice (named 0) κ₀ u8 ∷ ShrSlice (named 1) κ₁ u8 ∷ MutSlice (named 2) κ₂ u16 ∷ MutSlice (named 3) κ₃ u16 ∷ MutSlice (named 4) κ₄ u16
-      ∷ MutSlice (named 5) κ₅ T.the-row ∷ S.the-row ∷ usize ∷ usize ∷ []) x at) ∷ []) ∵
-      enter ! (𝓣 .C) (𝓣 .Λ) code.function (sv p₀ case ∷ sv p₁ book ∷ sv p₂ index ∷ sv p₃ visits ∷ sv p₄ seats ∷ sv p₅ ys ∷ S′.lowered start ∷ vint w64 students
+      qed W ((‵ (flft κ₀ q₀) ⊛ ‵ (flft κ₁ q₁) ⊛ ‵ (flft κ₂ q₂) ⊛ ‵ (flft κ₃ q₃) ⊛ ‵ (flft κ₄ q₄) ⊛ ‵ (flft κ₅ q₅) ⊛ ‵ (flft κ₆ q₆) ⊛ ‵ ftrue)
+      ∷ ‵ (owns (ShrSlice (named 0) κ₀ u8 ∷ ShrSlice (named 1) κ₁ u8 ∷ MutSlice (named 2) κ₂ u16 ∷ ShrSlice (named 3) κ₃ u64
+      ∷ MutSlice (named 4) κ₄ u16 ∷ MutSlice (named 5) κ₅ u16
+      ∷ MutSlice (named 6) κ₆ T.the-row ∷ S.the-row ∷ usize ∷ usize ∷ []) x at) ∷ []) ∵
+      enter ! (𝓣 .C) (𝓣 .Λ) code.function
+      (sv p₀ case ∷ sv p₁ book ∷ sv p₂ index ∷ sv p₃ table ∷ sv p₄ visits ∷ sv p₅ seats ∷ sv p₆ ys ∷ S′.lowered start ∷ vint w64 students
       ∷ vint w64 workshops ∷ []) _ $
-      alloc1 ! (λ l₀. alloc1 ! (λ l₁. alloc1 ! (λ l₂. alloc1 ! (λ l₃. alloc1 ! (λ l₄. alloc1 ! (λ l₅. alloc1 ! (λ l₆. alloc1 ! (λ l₇. alloc1 ! (λ l₈.
-      alloc1 ! (λ l₉. alloc1 ! (λ l₁₀. alloc1 ! (λ l₁₁. alloc1 ! (λ l₁₂. alloc1 ! (λ l₁₃. alloc1 ! (λ l₁₄. alloc1 ! (λ l₁₅. alloc1 ! (λ l₁₆. alloc1 ! (λ l₁₇.
-      alloc1 ! (λ l₁₈. alloc1 ! (λ l₁₉. alloc1 ! (λ l₂₀. alloc1 ! (λ l₂₁. alloc0 ! $ params1 ! $
-      pass1 ! (init ! 40 refl (tt, (tt, (record { fits = room₀ .0 }, tt)))) $ pass1 ! (init ! 38 refl (tt, (tt, (record { fits = room₁ .0 }, tt)))) $
-      pass1 ! (init ! 36 refl (tt, (tt, (record { fits = room₂ .0 }, tt)))) $ pass1 ! (init ! 34 refl (tt, (tt, (record { fits = room₃ .0 }, tt)))) $
-      pass1 ! (init ! 32 refl (tt, (tt, (record { fits = room₄ .0 }, tt)))) $ pass1 ! (init ! 30 refl (tt, (tt, (record { fits = room₅ .0 }, tt)))) $
+      alloc1 ! (λ l₀. alloc1 ! (λ l₁. alloc1 ! (λ l₂. alloc1 ! (λ l₃. alloc1 ! (λ l₄. alloc1 ! (λ l₅. alloc1 ! (λ l₆. alloc1 ! (λ l₇. alloc1 !
+      (λ l₈. alloc1 ! (λ l₉.
+      alloc1 ! (λ l₁₀. alloc1 ! (λ l₁₁. alloc1 ! (λ l₁₂. alloc1 ! (λ l₁₃. alloc1 ! (λ l₁₄. alloc1 ! (λ l₁₅. alloc1 ! (λ l₁₆. alloc1 ! (λ l₁₇. alloc1 ! (λ l₁₈.
+      alloc1 ! (λ l₁₉. alloc1 ! (λ l₂₀. alloc1 ! (λ l₂₁. alloc1 ! (λ l₂₂. alloc0 ! $ params1 ! $
+      pass1 ! (init ! 42 refl (tt, (tt, (record { fits = room₀ .0 }, tt)))) $ pass1 ! (init ! 40 refl (tt, (tt, (record { fits = room₁ .0 }, tt)))) $
+      pass1 ! (init ! 38 refl (tt, (tt, (record { fits = room₂ .0 }, tt)))) $ pass1 ! (init ! 36 refl (tt, (tt, (record { fits = room₃ .0 }, tt)))) $
+      pass1 ! (init ! 34 refl (tt, (tt, (record { fits = room₄ .0 }, tt)))) $ pass1 ! (init ! 32 refl (tt, (tt, (record { fits = room₅ .0 }, tt)))) $
+      pass1 ! (init ! 30 refl (tt, (tt, (record { fits = room₆ .0 }, tt)))) $
       pass1 ! (init ! 28 refl (LL.lawful S.the-type S′.the-laws 𝓤 H A W .typed start _ start-is .0)) $ pass1 !
       (init ! 26 refl (tt, record { fits = students-fit })) $
       pass1 ! (init ! 24 refl (tt, record { fits = workshops-fit })) $ pass0 ! $
       -- what the parameters own, and the tokens, one by one
-      move ! (45 ∷ []) $ fsplit ! $ move ! (1 ∷ []) $ fsplit ! $ move ! (1 ∷ []) $ fsplit ! $ move ! (1 ∷ []) $ fsplit ! $ move ! (1 ∷ []) $ fsplit ! $
-      move ! (1 ∷ []) $ fsplit ! $ move ! (1 ∷ []) $ drop ! $
-      -- [states; seats; visits; index; book; case; locals; tokens]
-      move ! (50 ∷ []) $ split ! $ move ! (1 ∷ []) $ split ! $ move ! (1 ∷ []) $ split ! $ move ! (1 ∷ []) $ split ! $ move !
-      (1 ∷ []) $ split ! $ move ! (1 ∷ []) $
-      split ! $ move ! (1 ∷ []) $ drop ! $
-      -- [κ₅; κ₄; κ₃; κ₂; κ₁; κ₀; states; seats; visits; index; book; case; locals]
-      move ! (6 ∷ 0 ∷ 7 ∷ 1 ∷ 8 ∷ 2 ∷ 9 ∷ 3 ∷ 11 ∷ 5 ∷ 10 ∷ 4 ∷ []) $ opens-row ! tt T.the-row (named 5) κ₅ q₅ (p₅ .γ) (p₅ .b) (p₅ .o) ys $
-      assigns ! (bin ! (load ! (from ! (fld ! refl (stop !))) (look-in ! 40 (sub ! 0 refl (whole !)))) (lit ! tt) some-hand) (from ! (stop !))
-      (init ! 34 refl (tt, record { fits = place-fits })) $
-      assigns ! (addr ! (from ! (fld ! refl (hop ! (look-in ! 48 (sub ! 0 refl (whole !))) (stop !))))) (from ! (stop !)) (init ! 30 refl (tt, tt)) $
-      assigns ! (agg ! (and-then ! (load ! (from ! (stop !)) (look ! 30 refl)) (and-then ! (load ! (from ! (fld ! refl (stop !)))
-      (look-in ! 48 (sub ! 1 refl (whole !)))) (no-more !)))) (from ! (stop !)) (init ! 28 refl (tt, (tt, (record { fits = room₂ .0 }, tt)))) $
-      assigns ! (addr ! (from ! (fld ! refl (hop ! (look-in ! 46 (sub ! 0 refl (whole !))) (stop !))))) (from ! (stop !)) (init ! 26 refl (tt, tt)) $
-      assigns ! (agg ! (and-then ! (load ! (from ! (stop !)) (look ! 26 refl)) (and-then ! (load ! (from ! (fld ! refl (stop !)))
-      (look-in ! 46 (sub ! 1 refl (whole !)))) (no-more !)))) (from ! (stop !)) (init ! 24 refl (tt, (tt, (record { fits = room₃ .0 }, tt)))) $
-      assigns ! (addr ! (from ! (fld ! refl (hop ! (look-in ! 44 (sub ! 0 refl (whole !))) (stop !))))) (from ! (stop !)) (init ! 22 refl (tt, tt)) $
-      assigns ! (agg ! (and-then ! (load ! (from ! (stop !)) (look ! 22 refl)) (and-then ! (load ! (from ! (fld ! refl (stop !)))
-      (look-in ! 44 (sub ! 1 refl (whole !)))) (no-more !)))) (from ! (stop !)) (init ! 20 refl (tt, (tt, (record { fits = room₄ .0 }, tt)))) $
-      assigns ! (bin ! (load ! (from ! (stop !)) (look ! 34 refl)) (lit ! tt) (record { fits = spot })) (from ! (stop !))
-      (init ! 18 refl (tt, record { fits = spot })) $
-      assigns ! (bin ! (load ! (from ! (fld ! refl (stop !))) (look-in ! 42 (sub ! 0 refl (whole !)))) (load ! (from ! (stop !)) (look ! 18 refl)) tt)
-      (from ! (stop !)) (init ! 16 refl (tt, tt)) $
-      rewrite ! 16 (λ (p : ℕ). ‵ (fat fullShare tyPtr l₁₉ 0 (vptr (p₅ .b) p))) (sym (place-is 16 (p₅ .o) place)) refl $
-      takes-elem ! T.the-row kind fullShare ys place zeroState (p₅ .b) (p₅ .o) in-states (λ is-c.
-      -- [states[i]; the others; what is left of the states' reference; the seats; their token; the visits; the index; the case; the book; _21; …]
-      assigns ! (of-opd ! (load ! (from ! (hop ! (look ! 17 refl) (stop !))) (look-raw ! 0 refl))) (from ! (stop !))
-      (init ! 15 refl (LL.lawful T.the-type T′.the-laws 𝓤 H A W .typed state _ is-c .0)) $
+      move ! (47 ∷ []) $ fsplit ! $ move ! (1 ∷ []) $ fsplit ! $ move ! (1 ∷ []) $ fsplit ! $ move ! (1 ∷ []) $ fsplit ! $ move ! (1 ∷ []) $ fsplit ! $
+      move ! (1 ∷ []) $ fsplit ! $ move ! (1 ∷ []) $ fsplit ! $ move ! (1 ∷ []) $ drop ! $
+      -- [states; seats; visits; table; index; book; case; locals; tokens]
+      move ! (53 ∷ []) $ split ! $ move ! (1 ∷ []) $ split ! $ move ! (1 ∷ []) $ split ! $ move ! (1 ∷ []) $ split ! $ move ! (1 ∷ []) $ split ! $
+      move ! (1 ∷ []) $ split ! $ move ! (1 ∷ []) $ split ! $ move ! (1 ∷ []) $ drop ! $
+      -- [κ₆; κ₅; κ₄; κ₃; κ₂; κ₁; κ₀; states; seats; visits; table; index; book; case; locals]
+      move ! (7 ∷ 0 ∷ 8 ∷ 1 ∷ 9 ∷ 2 ∷ 11 ∷ 4 ∷ 13 ∷ 6 ∷ 12 ∷ 5 ∷ 10 ∷ 3 ∷ []) $ opens-row ! tt T.the-row (named 6) κ₆ q₆ (p₆ .γ) (p₆ .b) (p₆ .o) ys $
+      assigns ! (bin ! (load ! (from ! (fld ! refl (stop !))) (look-in ! 42 (sub ! 0 refl (whole !)))) (lit ! tt) some-hand) (from ! (stop !))
+      (init ! 36 refl (tt, record { fits = place-fits })) $
+      assigns ! (addr ! (from ! (fld ! refl (hop ! (look-in ! 52 (sub ! 0 refl (whole !))) (stop !))))) (from ! (stop !)) (init ! 32 refl (tt, tt)) $
+      assigns ! (agg ! (and-then ! (load ! (from ! (stop !)) (look ! 32 refl)) (and-then ! (load ! (from ! (fld ! refl (stop !)))
+      (look-in ! 52 (sub ! 1 refl (whole !)))) (no-more !)))) (from ! (stop !)) (init ! 30 refl (tt, (tt, (record { fits = room₂ .0 }, tt)))) $
+      assigns ! (addr ! (from ! (fld ! refl (hop ! (look-in ! 48 (sub ! 0 refl (whole !))) (stop !))))) (from ! (stop !)) (init ! 28 refl (tt, tt)) $
+      assigns ! (agg ! (and-then ! (load ! (from ! (stop !)) (look ! 28 refl)) (and-then ! (load ! (from ! (fld ! refl (stop !)))
+      (look-in ! 48 (sub ! 1 refl (whole !)))) (no-more !)))) (from ! (stop !)) (init ! 26 refl (tt, (tt, (record { fits = room₄ .0 }, tt)))) $
+      assigns ! (addr ! (from ! (fld ! refl (hop ! (look-in ! 46 (sub ! 0 refl (whole !))) (stop !))))) (from ! (stop !)) (init ! 24 refl (tt, tt)) $
+      assigns ! (agg ! (and-then ! (load ! (from ! (stop !)) (look ! 24 refl)) (and-then ! (load ! (from ! (fld ! refl (stop !)))
+      (look-in ! 46 (sub ! 1 refl (whole !)))) (no-more !)))) (from ! (stop !)) (init ! 22 refl (tt, (tt, (record { fits = room₅ .0 }, tt)))) $
+      assigns ! (bin ! (load ! (from ! (stop !)) (look ! 36 refl)) (lit ! tt) (record { fits = spot })) (from ! (stop !))
+      (init ! 20 refl (tt, record { fits = spot })) $
+      assigns ! (bin ! (load ! (from ! (fld ! refl (stop !))) (look-in ! 44 (sub ! 0 refl (whole !)))) (load ! (from ! (stop !)) (look ! 20 refl)) tt)
+      (from ! (stop !)) (init ! 18 refl (tt, tt)) $
+      rewrite ! 18 (λ (p : ℕ). ‵ (fat fullShare tyPtr l₂₀ 0 (vptr (p₆ .b) p))) (sym (place-is 16 (p₆ .o) place)) refl $
+      takes-elem ! T.the-row kind fullShare ys place zeroState (p₆ .b) (p₆ .o) in-states (λ is-c.
+      -- [states[i]; the others; what is left of the states' reference; the seats; their token; the visits; the index; the case; the book; the table; _22; …]
+      assigns ! (of-opd ! (load ! (from ! (hop ! (look ! 19 refl) (stop !))) (look-raw ! 0 refl))) (from ! (stop !))
+      (init ! 17 refl (LL.lawful T.the-type T′.the-laws 𝓤 H A W .typed state _ is-c .0)) $
       -- the seats, the visits and the index are lent again, and the case and the book are copied
-      move ! (3 ∷ 4 ∷ []) $ lends-on ! tt u16 (named 4) (named 4) κ₄ q₄ (p₄ .γ) (p₄ .b) (p₄ .o) (length seats) seats refl (λ ν₄ δ₄.
-      move ! (6 ∷ 7 ∷ []) $ lends-on ! tt u16 (named 3) (named 3) κ₃ q₃ (p₃ .γ) (p₃ .b) (p₃ .o) (length visits) visits refl (λ ν₃ δ₃.
+      move ! (3 ∷ 4 ∷ []) $ lends-on ! tt u16 (named 5) (named 5) κ₅ q₅ (p₅ .γ) (p₅ .b) (p₅ .o) (length seats) seats refl (λ ν₅ δ₅.
+      move ! (6 ∷ 7 ∷ []) $ lends-on ! tt u16 (named 4) (named 4) κ₄ q₄ (p₄ .γ) (p₄ .b) (p₄ .o) (length visits) visits refl (λ ν₄ δ₄.
       move ! (9 ∷ 10 ∷ []) $ lends-on ! tt u16 (named 2) (named 2) κ₂ q₂ (p₂ .γ) (p₂ .b) (p₂ .o) (length index) index refl (λ ν₂ δ₂.
       move ! (12 ∷ []) $ use1 W (Case ⊛ Case) (shr-slice-copy 𝓤 H A W (named 0) κ₀ u8 .twice (ref p₀ case) (sv p₀ case ∷ [])) $ split ! $
       move ! (15 ∷ []) $ use1 W (Book ⊛ Book) (shr-slice-copy 𝓤 H A W (named 1) κ₁ u8 .twice (ref p₁ book) (sv p₁ book ∷ [])) $ split ! $
-      -- [the book; the book; the case; the case; for index, visits and seats: the slice lent, its token, what is kept; states[i]; the others;
-      -- the states' reference; κ₀'s token; κ₁'s token; _21; …]
-      move ! (2 ∷ 16 ∷ 0 ∷ 17 ∷ 4 ∷ 5 ∷ 7 ∷ 8 ∷ 10 ∷ 11 ∷ []) $ group ! 10 $
-      use1 W (raw (StepOf 𝓤 H A mem run .pre (to-step (record { ν = ν₂; δ = δ₂ }) (record { ν = ν₃; δ = δ₃ }) (record { ν = ν₄; δ = δ₄ }))))
-      (goes (record { ν = ν₂; δ = δ₂ }) (record { ν = ν₃; δ = δ₃ }) (record { ν = ν₄; δ = δ₄ }) is-c) $
-      -- [what `step` asks; the book; the case; what is kept of the index, of the visits, of the seats; states[i]; the others; the states' reference; _21; …]
-      calls-out ! fm step.signature (step.spec 𝓤 H A mem run) known (to-step (record { ν = ν₂; δ = δ₂ }) (record { ν = ν₃; δ = δ₃ })
-      (record { ν = ν₄; δ = δ₄ })) (Fin (record { ν = ν₂; δ = δ₂ }) (record { ν = ν₃; δ = δ₃ }) (record { ν = ν₄; δ = δ₄ })) (λ r. id⊢ 𝓤 _) U′.lowered
+      move ! (18 ∷ []) $ use1 W (Table ⊛ Table) (shr-slice-copy 𝓤 H A W (named 3) κ₃ u64 .twice (ref p₃ table) (sv p₃ table ∷ [])) $ split ! $
+      -- [the table, the book, the case, each twice; for index, visits and seats: the slice lent, its token, what is kept; states[i]; the others;
+      -- the states' reference; κ₀'s token; κ₁'s; κ₃'s; _22; …]
+      move ! (4 ∷ 18 ∷ 2 ∷ 19 ∷ 6 ∷ 7 ∷ 0 ∷ 20 ∷ 9 ∷ 10 ∷ 12 ∷ 13 ∷ []) $ group ! 12 $
+      use1 W (raw (StepOf 𝓤 H A mem run .pre (to-step (record { ν = ν₂; δ = δ₂ }) (record { ν = ν₄; δ = δ₄ }) (record { ν = ν₅; δ = δ₅ }))))
+      (goes (record { ν = ν₂; δ = δ₂ }) (record { ν = ν₄; δ = δ₄ }) (record { ν = ν₅; δ = δ₅ }) is-c) $
+      -- [what `step` asks; the table; the book; the case; what is kept of the index, of the visits, of the seats; states[i]; the others; the states' reference; _22; …]
+      calls-out ! fm step.signature (step.spec 𝓤 H A mem run) known (to-step (record { ν = ν₂; δ = δ₂ }) (record { ν = ν₄; δ = δ₄ })
+      (record { ν = ν₅; δ = δ₅ })) (Fin (record { ν = ν₂; δ = δ₂ }) (record { ν = ν₄; δ = δ₄ }) (record { ν = ν₅; δ = δ₅ })) (λ r. id⊢ 𝓤 _) U′.lowered
       (U′.lowers .val-is)
-      (and-then ! (load ! (from ! (stop !)) (look ! 49 refl)) (and-then ! (load ! (from ! (stop !)) (look ! 47 refl))
-      (and-then ! (load ! (from ! (stop !)) (look ! 25 refl)) (and-then ! (load ! (from ! (stop !)) (look ! 21 refl))
-      (and-then ! (load ! (from ! (stop !)) (look ! 17 refl)) (and-then ! (load ! (from ! (stop !)) (look ! 11 refl))
-      (and-then ! (load ! (from ! (stop !)) (look ! 37 refl)) (and-then ! (load ! (from ! (stop !)) (look ! 35 refl))
-      (and-then ! (load ! (from ! (stop !)) (look ! 33 refl)) (no-more !)))))))))) (λ r made.
-      pick ! (λ ws. split ! $ move ! (1 ∷ []) $ heard ! (Says r (ws .1 .1 .0) (ws .1 .1 .1 .0) (ws .1 .1 .1 .1 .0)) (λ f.
+      (and-then ! (load ! (from ! (stop !)) (look ! 52 refl)) (and-then ! (load ! (from ! (stop !)) (look ! 50 refl)) (and-then ! (load ! (from ! (stop !))
+      (look ! 26 refl)) (and-then ! (load ! (from ! (stop !)) (look ! 46 refl)) (and-then ! (load ! (from ! (stop !)) (look ! 22 refl)) (and-then ! (load !
+      (from ! (stop !)) (look ! 18 refl)) (and-then ! (load ! (from ! (stop !)) (look ! 12 refl)) (and-then ! (load ! (from ! (stop !)) (look ! 38 refl))
+      (and-then ! (load ! (from ! (stop !)) (look ! 36 refl)) (and-then ! (load ! (from ! (stop !)) (look ! 34 refl)) (no-more !))))))))))) (λ r made.
+      pick ! (λ ws. split ! $ move ! (1 ∷ []) $ heard ! (Says r (ws .1 .1 .0) (ws .1 .1 .1 .1 .0) (ws .1 .1 .1 .1 .1 .0)) (λ f.
       -- the last lists are taken out of what is said of the parameters, and the tokens come back
-      fsplit ! $ drop ! $ fsplit ! $ drop ! $ fsplit ! $ fsplit ! $ move ! (1 ∷ []) $ feqL ! (λ e₂. move ! (1 ∷ []) $ fsplit ! $ fsplit ! $ move ! (1 ∷ []) $
-      feqL ! (λ e₃. move ! (1 ∷ []) $ fsplit ! $ move ! (1 ∷ []) $ drop ! $ fsplit ! $ move ! (1 ∷ []) $ feqL ! (λ e₄.
+      fsplit ! $ drop ! $ fsplit ! $ drop ! $ fsplit ! $ fsplit ! $ move ! (1 ∷ []) $ feqL ! (λ e₂. move ! (1 ∷ []) $ fsplit ! $ drop ! $ fsplit ! $
+      fsplit ! $ move ! (1 ∷ []) $
+      feqL ! (λ e₄. move ! (1 ∷ []) $ fsplit ! $ move ! (1 ∷ []) $ drop ! $ fsplit ! $ move ! (1 ∷ []) $ feqL ! (λ e₅.
       -- [the seats' last list; the visits'; the index's; the tokens; …]
-      move ! (3 ∷ []) $ use1 W (‵ (flft κ₀ q₀) ⊛ ‵ (flft κ₁ q₁) ⊛ ‵ (flft (ν₂ ∷ []) fullShare) ⊛ ‵ (flft (ν₃ ∷ []) fullShare) ⊛ ‵ (flft (ν₄
+      move ! (3 ∷ []) $ use1 W (‵ (flft κ₀ q₀) ⊛ ‵ (flft κ₁ q₁) ⊛ ‵ (flft (ν₂ ∷ []) fullShare) ⊛ ‵ (flft κ₃ q₃) ⊛ ‵ (flft (ν₄ ∷ []) fullShare) ⊛ ‵ (flft (ν₅
       ∷ []) fullShare) ⊛ ‵ ftrue) (id⊢ 𝓤 _) $
-      split ! $ move ! (1 ∷ []) $ split ! $ move ! (1 ∷ []) $ split ! $ move ! (1 ∷ []) $ split ! $ move ! (1 ∷ []) $ split ! $ move ! (1 ∷ []) $ drop ! $
-      -- [the tokens of ν₄, ν₃, ν₂, κ₁, κ₀; the seats' last list; the visits'; the index's; the book; the case; what is kept of the index, of
+      split ! $ move ! (1 ∷ []) $ split ! $ move ! (1 ∷ []) $ split ! $ move ! (1 ∷ []) $ split ! $ move ! (1 ∷ []) $ split ! $ move ! (1 ∷ []) $ split ! $
+      move ! (1 ∷ []) $ drop ! $
+      -- [the tokens of ν₅, ν₄, κ₃, ν₂, κ₁, κ₀; the seats' last list; the visits'; the index's; the table; the book; the case; what is kept of the index, of
       -- the visits, of the seats; states[i]; …]: the slices come back
-      move ! (0 ∷ 12 ∷ 5 ∷ []) $ back-on ! tt u16 (named 4) κ₄ q₄ (p₄ .γ) (p₄ .b) (p₄ .o) (length seats) ν₄ δ₄ seats (ws .1 .1 .1 .1 .0) room₄ refl
+      move ! (0 ∷ 14 ∷ 6 ∷ []) $ back-on ! tt u16 (named 5) κ₅ q₅ (p₅ .γ) (p₅ .b) (p₅ .o) (length seats) ν₅ δ₅ seats (ws .1 .1 .1 .1 .1 .0) room₅ refl
+      e₅ $
+      move ! (2 ∷ 13 ∷ 7 ∷ []) $ back-on ! tt u16 (named 4) κ₄ q₄ (p₄ .γ) (p₄ .b) (p₄ .o) (length visits) ν₄ δ₄ visits (ws .1 .1 .1 .1 .0) room₄ refl
       e₄ $
-      move ! (2 ∷ 11 ∷ 6 ∷ []) $ back-on ! tt u16 (named 3) κ₃ q₃ (p₃ .γ) (p₃ .b) (p₃ .o) (length visits) ν₃ δ₃ visits (ws .1 .1 .1 .0) room₃ refl
-      e₃ $
-      move ! (4 ∷ 10 ∷ 7 ∷ []) $ back-on ! tt u16 (named 2) κ₂ q₂ (p₂ .γ) (p₂ .b) (p₂ .o) (length index) ν₂ δ₂ index (ws .1 .1 .0) room₂ refl e₂ $
+      move ! (5 ∷ 12 ∷ 8 ∷ []) $ back-on ! tt u16 (named 2) κ₂ q₂ (p₂ .γ) (p₂ .b) (p₂ .o) (length index) ν₂ δ₂ index (ws .1 .1 .0) room₂ refl e₂ $
       rewrite ! 0 (λ (l : List ℕ). Index l) (f .1 .1 .1) refl $
-      -- [the index; its token; the visits; the seats; κ₁'s; κ₀'s; the book; the case; states[i]; the others; the states' reference; _21; …]
-      move ! (10 ∷ 11 ∷ 12 ∷ 4 ∷ 5 ∷ 2 ∷ 3 ∷ 0 ∷ 1 ∷ 9 ∷ 7 ∷ 8 ∷ 6 ∷ []) $
-      land ! (from ! (stop !)) (init ! 33 refl (LL.lawful U.the-type U′.the-laws 𝓤 H A W .typed r _ made .0)) $
+      -- [the index, the visits, the seats, each with its token; κ₃'s; κ₁'s; κ₀'s; the table; the book; the case; states[i]; the others; the states'
+      -- reference; _22; …]
+      move ! (12 ∷ 13 ∷ 14 ∷ 4 ∷ 5 ∷ 2 ∷ 3 ∷ 0 ∷ 1 ∷ 11 ∷ 8 ∷ 10 ∷ 7 ∷ 9 ∷ 6 ∷ []) $
+      land ! (from ! (stop !)) (init ! 35 refl (LL.lawful U.the-type U′.the-laws 𝓤 H A W .typed r _ made .0)) $
       -- the place is computed again, and the state is stored
-      assigns ! (bin ! (load ! (from ! (stop !)) (look ! 35 refl)) (lit ! tt) (record { fits = spot })) (from ! (stop !))
-      (store ! 19 refl (tt, record { fits = spot })) $
-      assigns ! (bin ! (load ! (from ! (fld ! refl (stop !))) (look-in ! 43 (sub ! 0 refl (whole !)))) (load ! (from ! (stop !)) (look ! 19 refl)) tt)
-      (from ! (stop !)) (init ! 13 refl (tt, tt)) $
-      rewrite ! 13 (λ (p : ℕ). ‵ (fat fullShare tyPtr l₂₁ 0 (vptr (p₅ .b) p))) (sym (place-is 16 (p₅ .o) place)) refl $
-      assigns ! (of-opd ! (load ! (from ! (fld ! refl (stop !))) (look-in ! 33 (sub ! 0 refl (whole !))))) (from ! (hop ! (look ! 13 refl) (stop !)))
+      assigns ! (bin ! (load ! (from ! (stop !)) (look ! 37 refl)) (lit ! tt) (record { fits = spot })) (from ! (stop !))
+      (store ! 21 refl (tt, record { fits = spot })) $
+      assigns ! (bin ! (load ! (from ! (fld ! refl (stop !))) (look-in ! 45 (sub ! 0 refl (whole !)))) (load ! (from ! (stop !)) (look ! 21 refl)) tt)
+      (from ! (stop !)) (init ! 15 refl (tt, tt)) $
+      rewrite ! 15 (λ (p : ℕ). ‵ (fat fullShare tyPtr l₂₂ 0 (vptr (p₆ .b) p))) (sym (place-is 16 (p₆ .o) place)) refl $
+      assigns ! (of-opd ! (load ! (from ! (fld ! refl (stop !))) (look-in ! 35 (sub ! 0 refl (whole !))))) (from ! (hop ! (look ! 15 refl) (stop !)))
       (store-raw ! 0 refl (LL.lawful T.the-type T′.the-laws 𝓤 H A W .typed (r .state) _ (is-state r made) .0)) $
-      puts-elem ! T.the-row kind ys place (r .state) (p₅ .b) (p₅ .o) in-states (is-state r made) $
-      closes-row ! tt T.the-row (named 5) κ₅ q₅ (p₅ .γ) (p₅ .b) (p₅ .o) ys (stored r) room₅ (length-set ys place (r .state)) $
-      -- [the states; their token; …; _21; …]: the run is returned
-      assigns ! (of-opd ! (load ! (from ! (fld ! refl (stop !))) (look-in ! 32 (sub ! 1 refl (whole !))))) (from ! (stop !))
-      (init ! 54 refl (LL.lawful S.the-type S′.the-laws 𝓤 H A W .typed (r .run) _ (is-run r made) .0)) $
-      returns ! (look ! 54 refl) $
-      forget ! 12 refl $ forget ! 14 refl $ forget ! 16 refl $ forget ! 18 refl $ forget ! 20 refl $ forget ! 22 refl $ forget ! 24 refl $ forget ! 26 refl $
-      forget ! 28 refl $ forget ! 30 refl $ forget ! 32 refl $ forget ! 34 refl $ forget ! 36 refl $ forget ! 38 refl $ forget ! 40 refl $ forget ! 42 refl $
-      forget ! 44 refl $ forget ! 46 refl $ forget ! 48 refl $ forget ! 50 refl $ forget ! 52 refl $ forget ! 54 refl $
-      move ! (54 ∷ 55 ∷ []) $ free1 ! $ move ! (52 ∷ 53 ∷ []) $ free1 ! $ move ! (50 ∷ 51 ∷ []) $ free1 ! $ move ! (48 ∷ 49 ∷ []) $ free1 ! $ move !
-      (46 ∷ 47 ∷ []) $ free1 ! $
-      move ! (44 ∷ 45 ∷ []) $ free1 ! $ move ! (42 ∷ 43 ∷ []) $ free1 ! $ move ! (40 ∷ 41 ∷ []) $ free1 ! $ move ! (38 ∷ 39 ∷ []) $ free1 ! $ move !
-      (36 ∷ 37 ∷ []) $ free1 ! $
-      move ! (34 ∷ 35 ∷ []) $ free1 ! $ move ! (32 ∷ 33 ∷ []) $ free1 ! $ move ! (30 ∷ 31 ∷ []) $ free1 ! $ move ! (28 ∷ 29 ∷ []) $ free1 ! $ move !
-      (26 ∷ 27 ∷ []) $ free1 ! $
-      move ! (24 ∷ 25 ∷ []) $ free1 ! $ move ! (22 ∷ 23 ∷ []) $ free1 ! $ move ! (20 ∷ 21 ∷ []) $ free1 ! $ move ! (18 ∷ 19 ∷ []) $ free1 ! $ move !
-      (16 ∷ 17 ∷ []) $ free1 ! $
-      move ! (14 ∷ 15 ∷ []) $ free1 ! $ move ! (12 ∷ 13 ∷ []) $ free1 ! $ free0 ! $
-      keep ! (0 ∷ 1 ∷ 2 ∷ 3 ∷ 4 ∷ 5 ∷ 6 ∷ 7 ∷ 8 ∷ 9 ∷ 10 ∷ 11 ∷ []) $
-      by ! (exits (ws .1 .1 .0) (ws .1 .1 .1 .0) (ws .1 .1 .1 .1 .0) r e₃ e₄ f made)))))))))))))))))))))))))))))))))
+      puts-elem ! T.the-row kind ys place (r .state) (p₆ .b) (p₆ .o) in-states (is-state r made) $
+      closes-row ! tt T.the-row (named 6) κ₆ q₆ (p₆ .γ) (p₆ .b) (p₆ .o) ys (stored r) room₆ (length-set ys place (r .state)) $
+      -- [the states; their token; …; _22; …]: the run is returned
+      assigns ! (of-opd ! (load ! (from ! (fld ! refl (stop !))) (look-in ! 34 (sub ! 1 refl (whole !))))) (from ! (stop !))
+      (init ! 58 refl (LL.lawful S.the-type S′.the-laws 𝓤 H A W .typed (r .run) _ (is-run r made) .0)) $
+      returns ! (look ! 58 refl) $
+      forget ! 14 refl $ forget ! 16 refl $ forget ! 18 refl $ forget ! 20 refl $ forget ! 22 refl $ forget ! 24 refl $ forget ! 26 refl $ forget ! 28 refl $
+      forget ! 30 refl $ forget ! 32 refl $ forget ! 34 refl $ forget ! 36 refl $ forget ! 38 refl $ forget ! 40 refl $ forget ! 42 refl $ forget ! 44 refl $
+      forget ! 46 refl $ forget ! 48 refl $ forget ! 50 refl $ forget ! 52 refl $ forget ! 54 refl $ forget ! 56 refl $ forget ! 58 refl $
+      move ! (58 ∷ 59 ∷ []) $ free1 ! $ move ! (56 ∷ 57 ∷ []) $ free1 ! $ move ! (54 ∷ 55 ∷ []) $ free1 ! $ move ! (52 ∷ 53 ∷ []) $ free1 ! $
+      move ! (50 ∷ 51 ∷ []) $ free1 ! $ move ! (48 ∷ 49 ∷ []) $ free1 ! $ move ! (46 ∷ 47 ∷ []) $ free1 ! $ move ! (44 ∷ 45 ∷ []) $ free1 ! $
+      move ! (42 ∷ 43 ∷ []) $ free1 ! $ move ! (40 ∷ 41 ∷ []) $ free1 ! $ move ! (38 ∷ 39 ∷ []) $ free1 ! $ move ! (36 ∷ 37 ∷ []) $ free1 ! $
+      move ! (34 ∷ 35 ∷ []) $ free1 ! $ move ! (32 ∷ 33 ∷ []) $ free1 ! $ move ! (30 ∷ 31 ∷ []) $ free1 ! $ move ! (28 ∷ 29 ∷ []) $ free1 ! $
+      move ! (26 ∷ 27 ∷ []) $ free1 ! $ move ! (24 ∷ 25 ∷ []) $ free1 ! $ move ! (22 ∷ 23 ∷ []) $ free1 ! $ move ! (20 ∷ 21 ∷ []) $ free1 ! $
+      move ! (18 ∷ 19 ∷ []) $ free1 ! $ move ! (16 ∷ 17 ∷ []) $ free1 ! $ move ! (14 ∷ 15 ∷ []) $ free1 ! $ free0 ! $
+      keep ! (0 ∷ 1 ∷ 2 ∷ 3 ∷ 4 ∷ 5 ∷ 6 ∷ 7 ∷ 8 ∷ 9 ∷ 10 ∷ 11 ∷ 12 ∷ 13 ∷ []) $
+      by ! (exits (ws .1 .1 .0) (ws .1 .1 .1 .1 .0) (ws .1 .1 .1 .1 .1 .0) r e₄ e₅ f made))))))))))))))))))))))))))))))))))
     where
       fm : FmC 𝓤 H (W .laws) (𝓣 .C)
       fm = fmOf 𝓤 H (W .laws) 𝓣
@@ -417,7 +439,7 @@ module _ {M : Type 1} (𝓤 : URA M) (H : Heap 𝓤) (A : Atoms 𝓤) (W : Given
       place-fits = omega (arith, LL.owed S.the-type S′.the-laws start _ start-is .0 .1)
 
       spot : place * 16 < 2 ^ 64
-      spot = spot-fits place (length ys) in-states (room₅ .1)
+      spot = spot-fits place (length ys) in-states (room₆ .1)
 
 module _ {M : Type 1} (𝓤 : URA M) (H : Heap 𝓤) (A : Atoms 𝓤) (W : Given 𝓤 H A) (mem : Memory → SProp 𝓤) (run : Routine → Fun 𝓤) where
   take-turn-walks : (𝓣 : Tables 𝓤 H) → Triple 𝓤 (𝓣 .C #answering·step) (StepOf 𝓤 H A mem run)
@@ -427,7 +449,25 @@ module _ {M : Type 1} (𝓤 : URA M) (H : Heap 𝓤) (A : Atoms 𝓤) (W : Given
         slice-vals,
         (
           slice-vals,
-          (slice-vals, (slice-vals, (slice-vals, (slice-vals, ((λ st. S′.lowered st ∷ []), (uint-vals w64, (uint-vals w64, tt))))))),
+          (
+            slice-vals,
+            (
+              slice-vals,
+              (
+                slice-vals,
+                (
+                  slice-vals,
+                  (
+                    slice-vals,
+                    (
+                      (λ st. S′.lowered st ∷ []),
+                      (uint-vals w64, (uint-vals w64, tt)),
+                    ),
+                  ),
+                ),
+              ),
+            ),
+          ),
         ),
       ))
       (λ κs. (
@@ -437,12 +477,15 @@ module _ {M : Type 1} (𝓤 : URA M) (H : Heap 𝓤) (A : Atoms 𝓤) (W : Given
           (
             mut-slice-tells (named 2) (κs .1 .1 .0) u16,
             (
-              mut-slice-tells (named 3) (κs .1 .1 .1 .0) u16,
+              shr-slice-tells (named 3) (κs .1 .1 .1 .0) u64,
               (
                 mut-slice-tells (named 4) (κs .1 .1 .1 .1 .0) u16,
                 (
-                  mut-slice-tells (named 5) (κs .1 .1 .1 .1 .1 .0) T.the-row,
-                  (S′.lowers .val-is, (uint-tells w64, (uint-tells w64, tt))),
+                  mut-slice-tells (named 5) (κs .1 .1 .1 .1 .1 .0) u16,
+                  (
+                    mut-slice-tells (named 6) (κs .1 .1 .1 .1 .1 .1 .0) T.the-row,
+                    (S′.lowers .val-is, (uint-tells w64, (uint-tells w64, tt))),
+                  ),
                 ),
               ),
             ),
@@ -451,36 +494,41 @@ module _ {M : Type 1} (𝓤 : URA M) (H : Heap 𝓤) (A : Atoms 𝓤) (W : Given
       ))
       (λ κs qs bounds a g are. needs 𝓤
       (CanTurn (a .0 .now) (a .1 .0 .now) (a .1 .1 .0 .now) (a .1 .1 .1 .0 .now) (a .1 .1 .1 .1 .0 .now) (a .1 .1 .1 .1 .1 .0 .now)
-      (a .1 .1 .1 .1 .1 .1 .0) (a .1 .1 .1 .1 .1 .1 .1 .0) (a .1 .1 .1 .1 .1 .1 .1 .1 .0)) _ (λ can.
-      walk 𝓤 H A W mem run (κs .0) (κs .1 .0) (κs .1 .1 .0) (κs .1 .1 .1 .0) (κs .1 .1 .1 .1 .0) (κs .1 .1 .1 .1 .1 .0) (qs .0) (qs .1 .0) (qs .1 .1 .0)
-      (qs .1 .1 .1 .0) (qs .1 .1 .1 .1 .0) (qs .1 .1 .1 .1 .1 .0)
+      (a .1 .1 .1 .1 .1 .1 .0 .now) (a .1 .1 .1 .1 .1 .1 .1 .0) (a .1 .1 .1 .1 .1 .1 .1 .1 .0) (a .1 .1 .1 .1 .1 .1 .1 .1 .1 .0)) _ (λ can.
+      walk 𝓤 H A W mem run (κs .0) (κs .1 .0) (κs .1 .1 .0) (κs .1 .1 .1 .0) (κs .1 .1 .1 .1 .0) (κs .1 .1 .1 .1 .1 .0) (κs .1 .1 .1 .1 .1 .1 .0) (qs .0)
+      (qs .1 .0) (qs .1 .1 .0) (qs .1 .1 .1 .0) (qs .1 .1 .1 .1 .0) (qs .1 .1 .1 .1 .1 .0) (qs .1 .1 .1 .1 .1 .1 .0)
       (spot-of (a .0)) (spot-of (a .1 .0)) (spot-of (a .1 .1 .0)) (spot-of (a .1 .1 .1 .0)) (spot-of (a .1 .1 .1 .1 .0)) (spot-of (a .1 .1 .1 .1 .1 .0))
-      (a .0 .now) (a .1 .0 .now) (a .1 .1 .0 .now) (a .1 .1 .1 .0 .now) (a .1 .1 .1 .1 .0 .now) (a .1 .1 .1 .1 .1 .0 .now) (a .1 .1 .1 .1 .1 .1 .0)
-      (a .1 .1 .1 .1 .1 .1 .1 .0) (a .1 .1 .1 .1 .1 .1 .1 .1 .0)
-      (are .1 .1 .1 .1 .1 .1 .0) (are .1 .1 .1 .1 .1 .1 .1 .0 .1) (are .1 .1 .1 .1 .1 .1 .1 .1 .0 .1)
-      (are .0 .0 .1) (are .1 .0 .0 .1) (are .1 .1 .0 .0 .1) (are .1 .1 .1 .0 .0 .1) (are .1 .1 .1 .1 .0 .0 .1) (are .1 .1 .1 .1 .1 .0 .0 .1) can 𝓣 known))
+      (spot-of (a .1 .1 .1 .1 .1 .1 .0))
+      (a .0 .now) (a .1 .0 .now) (a .1 .1 .0 .now) (a .1 .1 .1 .0 .now) (a .1 .1 .1 .1 .0 .now) (a .1 .1 .1 .1 .1 .0 .now) (a .1 .1 .1 .1 .1 .1 .0 .now)
+      (a .1 .1 .1 .1 .1 .1 .1 .0) (a .1 .1 .1 .1 .1 .1 .1 .1 .0) (a .1 .1 .1 .1 .1 .1 .1 .1 .1 .0)
+      (are .1 .1 .1 .1 .1 .1 .1 .0) (are .1 .1 .1 .1 .1 .1 .1 .1 .0 .1) (are .1 .1 .1 .1 .1 .1 .1 .1 .1 .0 .1)
+      (are .0 .0 .1) (are .1 .0 .0 .1) (are .1 .1 .0 .0 .1) (are .1 .1 .1 .0 .0 .1) (are .1 .1 .1 .1 .0 .0 .1) (are .1 .1 .1 .1 .1 .0 .0 .1)
+      (are .1 .1 .1 .1 .1 .1 .0 .0 .1) can 𝓣 known))
 
 take-turn-meets : {M : Type 1} (𝓤 : URA M) (H : Heap 𝓤) (A : Atoms 𝓤) → Given 𝓤 H A → (mem : Memory → SProp 𝓤) (run : Routine → Fun 𝓤) (𝓣 : Tables 𝓤 H)
     → Triple 𝓤 (𝓣 .C #answering·step) (StepOf 𝓤 H A mem run)
     → Meets 𝓤 H A take-turn.signature (WpFn 𝓤 H (𝓣 .C) (𝓣 .Λ) code.function) (take-turn.spec 𝓤 H A mem run)
 take-turn-meets 𝓤 H A W mem run 𝓣 known =
     walk-meets 𝓤 H A take-turn.ended stayed W (
-      goes-none-slice 𝓤 H A W 6 (0 ∷ []) tt (plain (λ _. u8)) yes,
+      goes-none-slice 𝓤 H A W 7 (0 ∷ []) tt (plain (λ _. u8)) yes,
       (
-        goes-none-slice 𝓤 H A W 6 (1 ∷ []) tt (plain (λ _. u8)) yes,
+        goes-none-slice 𝓤 H A W 7 (1 ∷ []) tt (plain (λ _. u8)) yes,
         (
-          goes-slice 𝓤 H A W 6 2 tt (plain (λ _. u16)),
+          goes-slice 𝓤 H A W 7 2 tt (plain (λ _. u16)),
           (
-            goes-slice 𝓤 H A W 6 3 tt (plain (λ _. u16)),
+            goes-none-slice 𝓤 H A W 7 (3 ∷ []) tt (plain (λ _. u64)) yes,
             (
-              goes-slice 𝓤 H A W 6 4 tt (plain (λ _. u16)),
+              goes-slice 𝓤 H A W 7 4 tt (plain (λ _. u16)),
               (
-                goes-slice 𝓤 H A W 6 5 tt (plain (λ _. T.the-row)),
+                goes-slice 𝓤 H A W 7 5 tt (plain (λ _. u16)),
                 (
-                  goes-none 𝓤 H A W 6 (λ _. S.the-row) yes (λ κs x f. refl),
+                  goes-slice 𝓤 H A W 7 6 tt (plain (λ _. T.the-row)),
                   (
-                    goes-none 𝓤 H A W 6 (λ _. usize) yes (λ κs x f. refl),
-                    (goes-none 𝓤 H A W 6 (λ _. usize) yes (λ κs x f. refl), tt),
+                    goes-none 𝓤 H A W 7 (λ _. S.the-row) yes (λ κs x f. refl),
+                    (
+                      goes-none 𝓤 H A W 7 (λ _. usize) yes (λ κs x f. refl),
+                      (goes-none 𝓤 H A W 7 (λ _. usize) yes (λ κs x f. refl), tt),
+                    ),
                   ),
                 ),
               ),
