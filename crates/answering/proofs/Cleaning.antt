@@ -31,7 +31,7 @@ use Rattle.case_tests.specs.Checked.{CleanCase, pairCount}
 use Rattle.case_tests.proofs.Cases.{clean, pairs-found}
 use Rattle.book_tests.specs.Index.{fromOne, lentIndex}
 use Rattle.book_tests.proofs.Indexing.{Placed, placed-by, index-at, lent-length, any-number}
-use Rattle.tables.specs.Table.{Standing}
+use Rattle.tables.specs.Table.{Tabled, Standing}
 use Rattle.tables.proofs.Standing.{standing}
 
 module _ (case book : List ℕ) (c : CleanCase case (marketIn case .students) (marketIn case .workshops)) (passed : Passed case book)
@@ -124,12 +124,14 @@ module _ (case book : List ℕ) (c : CleanCase case (marketIn case .students) (m
           entry-pair s w i (first-below (λ k. isInterview s w (entryAt book k)) (entryCount book) i e)
           (first-passes (λ k. isInterview s w (entryAt book k)) (entryCount book) i e)
 
-  pub all-clean : Clean case book index n m
-  all-clean =
+  pub all-clean : (table : List ℕ) → Tabled case table → Clean case book index table n m
+  all-clean table tabled =
       record {
         students = refl;
         workshops = refl;
-        found = pairs-found case n m c bytes;
+        manyStudents = pairs-found case n m c bytes .manyStudents;
+        manyWorkshops = pairs-found case n m c bytes .manyWorkshops;
+        tabled = tabled;
         student = λ s a b. record {
           from = a;
           to = omega (arith, places case (clean case n m c) .whole);
@@ -187,8 +189,8 @@ clean-case case book room valid =
       workshops = refl;
     }
 
-pub valid-clean : (case book : List ℕ) (room : Room) → Valid case book room → ((k : ℕ) → getD case k 0 < 256)
-    → Clean case book (lentIndex case book (entryCount book) (room .index)) (marketIn case .students) (marketIn case .workshops)
+pub valid-clean : (case book : List ℕ) (room : Room) → Valid case book room → ((k : ℕ) → getD case k 0 < 256) → (table : List ℕ) → Tabled case table
+    → Clean case book (lentIndex case book (entryCount book) (room .index)) table (marketIn case .students) (marketIn case .workshops)
 valid-clean case book room valid bytes =
     all-clean case book (clean-case case book room valid) (passed case book room valid) bytes (room .index) (enough case book room valid .index)
 

@@ -122,7 +122,7 @@ module _ (case book places visits seats index : List ℕ) (states : List Student
     long = enough case book room valid
 
     few : M .workshops ≤ 64
-    few = omega (arith, started .clean .found .manyWorkshops, started .clean .workshops)
+    few = omega (arith, started .clean .manyWorkshops, started .clean .workshops)
 
     fits : 2 * pairsIn M (M .paired) ≤ length visits
     unfolding marketOf
@@ -156,7 +156,6 @@ module _ (case book places visits seats index : List ℕ) (states : List Student
       by-refusal (some (k, i)) e pos = absurd (omega (arith, ap hand (idle k i e j), ap (λ r. r .hand) (halted k i e .run)))
       by-refusal none e pos = record {
         clean = started e .clean;
-        tabled = started e .tabled;
         ready = subst (λ (σ : Kept). Ready M B (σ .0) (σ .1 .0) (getD (σ .1 .1 .0) (hand σ - 1) zeroState) (σ .1 .1 .1)) (sym (begins e j))
             (ready-here e j (subst (λ (σ : Kept). 0 < hand σ) (begins e j) pos) .0);
       }

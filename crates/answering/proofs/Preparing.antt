@@ -38,10 +38,10 @@ module _ (case book index : List ℕ) (room : Room) (checked : Checked) (says : 
     free : (refusal case book room ≡ none) × (n ≡ marketIn case .students) × (m ≡ marketIn case .workshops) × (k ≡ pairCount case)
     free = as-clean case (refusal case book room) n m k (sym e ∙ says .answer)
 
-    pub clean : Clean case book index n m
-    clean =
+    pub clean : (table : List ℕ) → Tabled case table → Clean case book index table n m
+    clean table t =
         rw (says .left, free .0, free .1, free .2)
-        (valid-clean case book room (refusal-none case book room (free .0)) bytes)
+        (valid-clean case book room (refusal-none case book room (free .0)) bytes table t)
 
     -- the records stand where the maker of the table needs them
     pub stands : Standing case n m
@@ -54,4 +54,4 @@ module _ (case book index : List ℕ) (room : Room) (checked : Checked) (says : 
         → Found case book index table p (refusal case book room)
     found-started table t p r c s w =
         subst (λ (o : Option (ℕ × ℕ)). Found case book index table p o) (sym (free .0))
-        (record { cause = c; run = r; clean = rw (s, w) clean; tabled = t })
+        (record { cause = c; run = r; clean = rw (s, w) (clean table t) })

@@ -13,13 +13,11 @@ use Rattle.model.specs.Turn.{beginRun}
 use Rattle.model.specs.Ready.{Ready}
 use Rattle.lookup.specs.Clean.{Clean}
 use Rattle.book_tests.specs.Index.{indexAfter}
-use Rattle.tables.specs.Table.{Tabled}
 use Rattle.answering.specs.declared.Prepared.{Prepared}
 
 -- a turn can be taken
 pub record StepReady (case book index table visits seats : List ℕ) (k : StudentState) (r : Run) (students workshops : ℕ) : Type 0 where
-  pub clean : Clean case book index students workshops
-  pub tabled : Tabled case table
+  pub clean : Clean case book index table students workshops
   pub ready : Ready (marketIn case) (resultsIn book) visits seats k r
 
 -- a run with nobody in hand, and nothing done
@@ -37,8 +35,7 @@ pub record Halted (k i : ℕ) (p : Prepared) : Type 0 where
 pub record Started (case book index table : List ℕ) (p : Prepared) : Type 0 where
   pub cause : p .cause ≡ 0
   pub run : p .run ≡ beginRun (marketIn case) (resultsIn book)
-  pub clean : Clean case book index (p .students) (p .workshops)
-  pub tabled : Tabled case table
+  pub clean : Clean case book index table (p .students) (p .workshops)
 
 abbrev pub Found : List ℕ → List ℕ → List ℕ → List ℕ → Prepared → Option (ℕ × ℕ) → Type 0
 Found case book index table p (some r) = Halted (r .0) (r .1) p

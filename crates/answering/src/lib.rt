@@ -133,6 +133,7 @@ pub fn step(
         case,
         book,
         &index[..],
+        table,
         &mut *visits,
         &mut *seats,
         state,

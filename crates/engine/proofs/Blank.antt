@@ -1,4 +1,4 @@
--- The table before it is made: 1088 zeros. Nothing here computes the list.
+-- The table before it is made: 1089 zeros. Nothing here computes the list.
 --     zero-long, blank     how long it is, and that it is blank
 --     table-room           a slice of so many u64 fits in memory
 use Prim.Native.Nat.{ℕ, zero, suc}
@@ -12,7 +12,7 @@ use Rattle.tables.specs.Table.{Blank}
 
 -- how many entries it has
 abbrev pub entries : ℕ
-entries = 1088
+entries = 1089
 
 abbrev pub zero-table : List ℕ
 zero-table = replicate entries 0

@@ -128,7 +128,7 @@ pub fn place(
     let n_places = places.len();
     let n_visits = visits.len();
     let n_states = states.len();
-    let mut table = [0u64; 1088];
+    let mut table = [0u64; 1089];
     let p = answering::prepare(
         case,
         book,

@@ -54,8 +54,8 @@ begin-run-requires c κs =
     let byte = known .shared-slice-known .given in
     let k = clean (start .args .case .now) (start .args .book .now) (tested .last .1 .1 .1 .0) room (tested .result) (tested .ensures)
     (v .0 .0) (v .0 .1 .0) (v .0 .1 .1 .0) (v .1)
-    (λ j. omega (arith, byte j)) in
-    ((sym (k .students), k .found .manyStudents), k .student)
+    (λ j. omega (arith, byte j)) _ (c .before .before .build .ensures) in
+    ((sym (k .students), k .manyStudents), k .student)
 
 same-length : tie.Need-same-length
 same-length c = search needs
