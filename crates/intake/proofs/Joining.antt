@@ -71,9 +71,14 @@ module _ (case book : List ℕ) (room : Room) where
         found = rw b
 
   -- a refusal, and the index zero with it
-  pub refused-tested : {k i : ℕ} {r : Checked} {index : List ℕ} → refusal case book room ≡ some (k, i) → r ≡ Refused k i → index ≡ replicate (room .index) 0
-      → Tested case book room r index
-  refused-tested {k} {i} e a b = record { answer = a ∙ sym (refused-as case (refusal case book room) k i e); left = rw e b }
+  pub refused-tested : {k i : ℕ} {r : Checked} {index table : List ℕ} → refusal case book room ≡ some (k, i) → r ≡ Refused k i → index ≡ replicate (room .index) 0
+      → Tested case book room r index table
+  refused-tested {k} {i} e a b =
+      record {
+        answer = a ∙ sym (refused-as case (refusal case book room) k i e);
+        left = rw e b;
+        tabled = λ n. none-some (k, i) (sym n ∙ e);
+      }
 
 -- the lengths that the case needs
 pub room-is : (case : List ℕ) (r : Room) (n p q : ℕ) → n ≡ marketIn case .students → p ≡ pairCount case → q ≡ allSeats (marketIn case)
