@@ -12,7 +12,8 @@ use Rattle.format.specs.Layout.{Row, Entry, rowAt, rows, entryAt, entries, entr
 use Rattle.format.specs.Causes.{firstCause}
 use Rattle.format.specs.Refusals.{badPair, badScores, badRepeat, bookCauses}
 use Rattle.format.specs.Engine.{marketIn}
-use Rattle.case_tests.specs.Checked.{pairCount}
+use Rattle.tables.specs.Table.{Tabled}
+use Rattle.case_tests.specs.Checked.{CleanCase, pairCount}
 
 -- causes 8 to 10: a book record without its pair, with a bad score, or of a pair that is in the book already
 unfoldable pub badAny : List Row → List Entry → ℕ → Bool
@@ -34,6 +35,12 @@ numberIn book n r = fromOne (firstBad (λ i. isInterview (r .first) (r .second) 
 -- the first pair record
 abbrev pub pairsFrom : List ℕ → ℕ
 pairsFrom case = marketIn case .students + marketIn case .workshops
+
+-- the case is clean, the table is its table, and its pair records begin at `first`
+pub record Prepared (case table : List ℕ) (first : ℕ) : Type 0 where
+  pub clean : CleanCase case (marketIn case .students) (marketIn case .workshops)
+  pub tabled : Tabled case table
+  pub from : first ≡ pairsFrom case
 
 -- the index of the book's first n records
 unfoldable pub indexTo : List ℕ → List ℕ → ℕ → List ℕ

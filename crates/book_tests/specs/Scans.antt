@@ -12,9 +12,9 @@ use Rattle.format.specs.Layout.{rows, entries, entryAt, entryCount}
 use Rattle.format.specs.Refusals.{badPair, badScores}
 use Rattle.records.specs.declared.Entry.{Entry}
 use Rattle.records.specs.Records.{entryOf}
-use Rattle.case_tests.specs.Checked.{CleanCase, pairCount}
+use Rattle.case_tests.specs.Checked.{pairCount}
 use Rattle.book_tests.specs.declared.Scan.{Scan}
-use Rattle.book_tests.specs.Index.{badAny, Filled}
+use Rattle.book_tests.specs.Index.{Prepared, badAny, Filled}
 
 -- what the cause tests of book record i: 8 its pair, 9 its scores, and else both, and that its pair is not in the book already
 unfoldable pub badBy : ℕ → List ℕ → List ℕ → ℕ → Bool
@@ -49,15 +49,15 @@ pub record Scanned (cause : ℕ) (case book : List ℕ) (lent : ℕ) (s : Scan) 
   pub long : length index ≡ lent
   pub filled : Fills cause → Filled case book lent (s .next) index
 
--- a scan can begin, of a clean case with n students and m workshops
-pub record ScanReady (cause : ℕ) (case book : List ℕ) (n m : ℕ) (s : Scan) (index : List ℕ) : Type 0 where
-  pub clean : CleanCase case n m
+-- a scan can begin
+pub record ScanReady (cause : ℕ) (case book table : List ℕ) (first : ℕ) (s : Scan) (index : List ℕ) : Type 0 where
+  pub prepared : Prepared case table first
   pub room : pairCount case ≤ length index
   pub scanned : Scanned cause case book (length index) s index
 
 -- e is the record that comes next, of a book that has been scanned so far
-pub record RecordReady (cause : ℕ) (case : List ℕ) (n m : ℕ) (e : Entry) (s : Scan) (index : List ℕ) : Type 0 where
-  pub clean : CleanCase case n m
+pub record RecordReady (cause : ℕ) (case table : List ℕ) (first : ℕ) (e : Entry) (s : Scan) (index : List ℕ) : Type 0 where
+  pub prepared : Prepared case table first
   pub room : pairCount case ≤ length index
   pub more : 0 < s .left
   pub fits : s .next + s .left < 2 ^ 64

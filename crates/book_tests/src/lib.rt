@@ -13,25 +13,20 @@ ghost use Rattle.base.specs.Words.{biased};
 ghost use Rattle.base.specs.Search.{firstBad, orEnd};
 ghost use Rattle.format.specs.Layout.{rows, entries, entryAt, entryCount};
 ghost use Rattle.format.specs.Refusals.{badScore};
-ghost use Rattle.records.specs.Records.{entryOf, pairPlace, PairsFound};
-ghost use Rattle.case_tests.specs.Checked.{checkedOf, CleanCase, pairCount};
-ghost use Rattle.book_tests.specs.Index.{badAny, bookRefusal, indexAfter, lentIndex};
+ghost use Rattle.records.specs.Records.{entryOf, pairPlace};
+ghost use Rattle.tables.specs.Table.{Tabled};
+ghost use Rattle.case_tests.specs.Checked.{checkedOf, pairCount};
+ghost use Rattle.book_tests.specs.Index.{Prepared, badAny, bookRefusal, indexAfter, lentIndex};
 ghost use Rattle.book_tests.specs.Scans.{badBy, failsBy, Fills, Scanned, ScanReady, RecordReady, Advanced, stoppedAt, movedOn};
 
 // ---- one record
 
-// The place of the record's pair, or how many records the case has.
-fn place_of(case: &[u8], students: usize, workshops: usize, e: Entry) -> usize
-    requires { ⌜ PairsFound (now case) students workshops ⌝ }
+// The place of the record's pair, or how many records the case has, by the table.
+fn place_of(case: &[u8], table: &[u64], e: Entry) -> usize
+    requires { ⌜ Tabled (now case) (now table) ⌝ }
     ensures { λ r. ⌜ r ≡ pairPlace (now (case .entry)) (e .student) (e .workshop) ⌝ }
 {
-    records::pair_of(
-        case,
-        students,
-        workshops,
-        e.student as usize,
-        e.workshop as usize,
-    )
+    tables::pair_of(case, table, e.student as usize, e.workshop as usize)
 }
 
 // A score of the record is 0 or out of range.
@@ -91,18 +86,18 @@ fn moved(s: Scan) -> Scan
 fn step(
     cause: u16,
     case: &[u8],
-    students: usize,
-    workshops: usize,
+    table: &[u64],
+    from: usize,
     e: Entry,
     s: Scan,
     index: &mut [u16],
 ) -> Scan
-    requires { ⌜ RecordReady cause (now case) students workshops e s (now index) ⌝ }
+    requires { ⌜ RecordReady cause (now case) (now table) from e s (now index) ⌝ }
     ensures { λ r. ⌜ Advanced s r
         × ((book : List ℕ) → Scanned cause (now (case .entry)) book (length (now (index .entry))) s (now (index .entry)) → entryOf e ≡ entryAt book (s .next)
         → Scanned cause (now (case .entry)) book (length (now (index .entry))) r (now (index .exit))) ⌝ }
 {
-    let p = place_of(case, students, workshops, e);
+    let p = place_of(case, table, e);
     let unpaired = records::row_count(case.len()) <= p;
     if fails(cause, unpaired, is_unscored(e)) {
         return stopped(s);
@@ -110,7 +105,7 @@ fn step(
     if (cause == 8) | (cause == 9) {
         return moved(s);
     }
-    let k = p - (students + workshops);
+    let k = p - from;
     if index[k] != 0 {
         return stopped(s);
     }
@@ -123,12 +118,12 @@ fn scan_on(
     cause: u16,
     case: &[u8],
     book: &[u8],
-    students: usize,
-    workshops: usize,
+    table: &[u64],
+    from: usize,
     index: &mut [u16],
     start: Scan,
 ) -> Scan
-    requires { ⌜ ScanReady cause (now case) (now book) students workshops start (now index) ⌝ }
+    requires { ⌜ ScanReady cause (now case) (now book) (now table) from start (now index) ⌝ }
     ensures { λ r. ⌜ (Scanned cause (now (case .entry)) (now (book .entry)) (length (now (index .entry))) r (now (index .exit))) × (r .left ≡ 0) ⌝ }
 {
     let mut reader = BookReader {
@@ -138,7 +133,7 @@ fn scan_on(
     let mut s = start;
     while s.left > 0 {
         let e = reader::take(&mut reader);
-        let after = step(cause, case, students, workshops, e, s, &mut *index);
+        let after = step(cause, case, table, from, e, s, &mut *index);
         s = after;
     }
     s
@@ -149,11 +144,11 @@ fn scan_for(
     cause: u16,
     case: &[u8],
     book: &[u8],
-    students: usize,
-    workshops: usize,
+    table: &[u64],
+    from: usize,
     index: &mut [u16],
 ) -> usize
-    requires { ⌜ CleanCase (now case) students workshops ⌝ }
+    requires { ⌜ Prepared (now case) (now table) from ⌝ }
     requires { ⌜ pairCount (now case) ≤ length (now index) ⌝ }
     requires { ⌜ (Fills cause → now index ≡ replicate (length (now index)) 0) ⌝ }
     ensures { λ r. ⌜ r ≡ orEnd (entryCount (now (book .entry))) (firstBad (badBy cause (now (case .entry)) (now (book .entry))) (entryCount (now (book .entry)))) ⌝ }
@@ -163,40 +158,40 @@ fn scan_for(
         next: 0,
         left: records::entry_count(book.len()),
     };
-    let end = scan_on(cause, case, book, students, workshops, &mut *index, start);
+    let end = scan_on(cause, case, book, table, from, &mut *index, start);
     end.next
 }
 
 // ---- causes 8 to 10
 
 // Each book record leaves its number at its pair's place. The first record that has no pair or a bad score, or whose pair has a number already, or how many there are.
-pub fn fill(case: &[u8], book: &[u8], students: usize, workshops: usize, index: &mut [u16]) -> usize
-    requires { ⌜ CleanCase (now case) students workshops ⌝ }
+pub fn fill(case: &[u8], book: &[u8], table: &[u64], from: usize, index: &mut [u16]) -> usize
+    requires { ⌜ Prepared (now case) (now table) from ⌝ }
     requires { ⌜ (pairCount (now case) ≤ length (now index)) × (now index ≡ replicate (length (now index)) 0) ⌝ }
     ensures { λ r. ⌜ (r ≡ orEnd (entryCount (now (book .entry))) (firstBad (badAny (rows (now (case .entry))) (entries (now (book .entry)))) (entryCount (now (book .entry)))))
         × (now (index .exit) ≡ lentIndex (now (case .entry)) (now (book .entry)) r (length (now (index .entry)))) ⌝ }
 {
-    scan_for(10, case, book, students, workshops, index)
+    scan_for(10, case, book, table, from, index)
 }
 
 // The cause of 8 to 10 that comes first in the table, of a book whose first record with any of them is the one at this place. The index is zero again.
 pub fn book_fault(
     case: &[u8],
     book: &[u8],
-    students: usize,
-    workshops: usize,
+    table: &[u64],
+    from: usize,
     at: usize,
     index: &mut [u16],
 ) -> Checked
-    requires { ⌜ CleanCase (now case) students workshops ⌝ }
+    requires { ⌜ Prepared (now case) (now table) from ⌝ }
     requires { ⌜ (length (now book) % 8 ≡ 0) × (pairCount (now case) ≤ length (now index)) ⌝ }
     requires { ⌜ firstBad (badAny (rows (now case)) (entries (now book))) (entryCount (now book)) ≡ some at ⌝ }
     ensures { λ r. ⌜ r ≡ checkedOf (bookRefusal (now (case .entry)) (now (book .entry))) (now (case .entry)) ⌝ }
     ensures { λ _. ⌜ now (index .exit) ≡ indexAfter (bookRefusal (now (case .entry)) (now (book .entry))) (now (case .entry)) (now (book .entry)) (length (now (index .entry))) ⌝ }
 {
     let n = records::entry_count(book.len());
-    let pair = scan_for(8, case, book, students, workshops, &mut *index);
-    let score = scan_for(9, case, book, students, workshops, &mut *index);
+    let pair = scan_for(8, case, book, table, from, &mut *index);
+    let score = scan_for(9, case, book, table, from, &mut *index);
     records::clear(&mut *index);
     if pair < n {
         return refused(8, pair);

@@ -15,10 +15,12 @@ use Rattle.format.specs.Layout.{rows, ofKind, marketOf}
 use Rattle.format.specs.Causes.{Cause, finds, firstCause}
 use Rattle.format.specs.Refusals.{Room, needed, badRoom, caseCauses, roomCauses, bookCauses, causes, refusal}
 use Rattle.format.specs.Engine.{marketIn}
+use Rattle.tables.specs.Table.{Standing}
+use Rattle.tables.proofs.Standing.{standing}
 use Rattle.case_tests.specs.declared.Checked.{Checked}
 use Rattle.case_tests.specs.declared.Checked.the-variants.{Refused}
-use Rattle.case_tests.specs.Checked.{checkedOf, pairCount, caseRefusal}
-use Rattle.case_tests.proofs.Cases.{refused-as}
+use Rattle.case_tests.specs.Checked.{CleanCase, checkedOf, pairCount, caseRefusal}
+use Rattle.case_tests.proofs.Cases.{refused-as, clean, few}
 use Rattle.book_tests.specs.Index.{bookRefusal}
 use Rattle.intake.specs.Tested.{Tested}
 
@@ -71,9 +73,14 @@ module _ (case book : List ℕ) (room : Room) where
         found = rw b
 
   -- a refusal, and the index zero with it
-  pub refused-tested : {k i : ℕ} {r : Checked} {index : List ℕ} → refusal case book room ≡ some (k, i) → r ≡ Refused k i → index ≡ replicate (room .index) 0
-      → Tested case book room r index
-  refused-tested {k} {i} e a b = record { answer = a ∙ sym (refused-as case (refusal case book room) k i e); left = rw e b }
+  pub refused-tested : {k i : ℕ} {r : Checked} {index table : List ℕ} → refusal case book room ≡ some (k, i) → r ≡ Refused k i → index ≡ replicate (room .index) 0
+      → Tested case book room r index table
+  refused-tested {k} {i} e a b =
+      record {
+        answer = a ∙ sym (refused-as case (refusal case book room) k i e);
+        left = rw e b;
+        tabled = λ n. none-some (k, i) (sym n ∙ e);
+      }
 
 -- the lengths that the case needs
 pub room-is : (case : List ℕ) (r : Room) (n p q : ℕ) → n ≡ marketIn case .students → p ≡ pairCount case → q ≡ allSeats (marketIn case)
@@ -89,3 +96,9 @@ room-index case r e =
     let b = or-false (ltb (r .visits) _) _ a .1 in
     let d = or-false (ltb (r .seats) _) _ b .1 in
     ltb-false _ _ (or-false (ltb (r .index) (pairCount case)) _ d .0)
+
+-- a clean case has its records where the table's maker needs them
+pub clean-stands : (case : List ℕ) (n m : ℕ) → CleanCase case n m → Standing case n m
+clean-stands case n m c =
+    let f = few case n m c in
+    rw (c .students, c .workshops) (standing case (clean case n m c) (omega (arith, c .students, f .0 .1)) (omega (arith, c .workshops, f .1 .1)))

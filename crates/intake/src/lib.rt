@@ -1,9 +1,10 @@
-// Tests a case, the lent room and a book for the eleven refusals, of which the first in the table's order is told, and builds the index of the pairs.
+// Tests a case, the lent room and a book for the eleven refusals, of which the first in their table's order is told, and builds the table and the index of the pairs.
 use case_tests::Checked;
 use case_tests::refused;
 ghost use mathlib.Core.Path.{_≡_};
 ghost use Prim.Native.Nat.{_≤_};
 ghost use lib.ListN.{length, replicate};
+ghost use Rattle.tables.specs.Table.{Blank, Tabled};
 ghost use Rattle.case_tests.specs.Checked.{pairCount, checkedOf, CleanCase};
 ghost use Rattle.book_tests.specs.Index.{bookRefusal, indexAfter};
 ghost use Rattle.intake.specs.Tested.{lengthsOf, Tested};
@@ -22,12 +23,14 @@ pub struct Room {
 fn check_book(
     case: &[u8],
     book: &[u8],
+    table: &[u64],
     students: usize,
     workshops: usize,
     pairs: usize,
     index: &mut [u16],
 ) -> Checked
     requires { ⌜ CleanCase (now case) students workshops ⌝ }
+    requires { ⌜ Tabled (now case) (now table) ⌝ }
     requires { ⌜ (pairs ≡ pairCount (now case)) × (pairs ≤ length (now index)) × (now index ≡ replicate (length (now index)) 0) ⌝ }
     ensures { λ r. ⌜ r ≡ checkedOf (bookRefusal (now (case .entry)) (now (book .entry))) (now (case .entry)) ⌝ }
     ensures { λ _. ⌜ now (index .exit) ≡ indexAfter (bookRefusal (now (case .entry)) (now (book .entry))) (now (case .entry)) (now (book .entry)) (length (now (index .entry))) ⌝ }
@@ -36,11 +39,12 @@ fn check_book(
     if book.len() % 8 != 0 {
         return refused(7, 0);
     }
-    let stopped = book_tests::fill(case, book, students, workshops, &mut *index);
+    let from = students + workshops;
+    let stopped = book_tests::fill(case, book, table, from, &mut *index);
     if stopped < n {
-        return book_tests::book_fault(case, book, students, workshops, stopped, &mut *index);
+        return book_tests::book_fault(case, book, table, from, stopped, &mut *index);
     }
-    let tie = ties::first_tie(case, book, &index[..], students, workshops);
+    let tie = ties::first_tie(case, book, &index[..], table, students, workshops);
     if tie < n {
         records::clear(&mut *index);
         return refused(11, tie);
@@ -52,10 +56,11 @@ fn check_book(
     }
 }
 
-// The first refusal of the table, and then the index is zero; or the counts of the case, and then the index has, for each pair record, the number of its book
-// record from 1.
-pub fn check(case: &[u8], book: &[u8], room: Room, index: &mut [u16]) -> Checked
-    ensures { λ r. ⌜ Tested (now (case .entry)) (now (book .entry)) (lengthsOf room (length (now (index .entry)))) r (now (index .exit)) ⌝ }
+// The first refusal of the causes' table, and then the index is zero; or the counts of the case, and then the index has, for each pair record, the number of its
+// book record from 1, and `table` is the table of the case.
+pub fn check(case: &[u8], book: &[u8], room: Room, index: &mut [u16], table: &mut [u64]) -> Checked
+    requires { ⌜ Blank (now table) ⌝ }
+    ensures { λ r. ⌜ Tested (now (case .entry)) (now (book .entry)) (lengthsOf room (length (now (index .entry)))) r (now (index .exit)) (now (table .exit)) ⌝ }
 {
     records::clear(&mut *index);
     match case_tests::check_case(case) {
@@ -69,7 +74,16 @@ pub fn check(case: &[u8], book: &[u8], room: Room, index: &mut [u16]) -> Checked
             if lengths::lacks(room, index.len(), students, pairs, seats) {
                 return refused(6, 0);
             }
-            check_book(case, book, students, workshops, pairs, &mut *index)
+            tables::build(case, students, workshops, &mut *table);
+            check_book(
+                case,
+                book,
+                &table[..],
+                students,
+                workshops,
+                pairs,
+                &mut *index,
+            )
         }
     }
 }

@@ -1,5 +1,7 @@
 pub mod Lowering
 pub mod Interviews
-pub mod Standing
 pub mod Sides
 pub mod Seeing
+pub mod Sharing
+pub mod Cursors
+pub mod Standing

@@ -1,7 +1,7 @@
 -- Slots: one more is met, and a key whose slot was not met is new.
 use Prim.Native.Nat.{ℕ, suc, _+_, _-_, _*_, _/_, _%_, _^_, _≤_, _<_}
 use mathlib.Core.Path.{_≡_, refl, sym, ap, _∙_}
-use mathlib.Core.Logic.{inl, ⊎-elim}
+use mathlib.Core.Logic.{⊎-elim}
 use mathlib.Core.Bool.{Bool, true, false, _||_}
 use mathlib.Core.List.{List}
 use native.Mathlib.Omega.{arith}
@@ -13,7 +13,6 @@ use borrow.Author.Tests.{eq-eqb}
 use Rattle.base.specs.Bits.{member}
 use Rattle.base.proofs.Tests.{less?, eq?, never, or-right}
 use Rattle.base.proofs.Digits.{has-law, with-law}
-use Rattle.ties.specs.Ties.{Differ, Lowered}
 use Rattle.ties.specs.Seen.{metIn, Met, slotOf}
 
 -- a digit added to the number that has the slot
@@ -68,20 +67,3 @@ module _ (key : ℕ → ℕ) (seen after : List ℕ) (i : ℕ) (h : Marked key s
 
   pub unmet-new : Met seen after (slotOf (key i)) false → (j : ℕ) → j < i → key j ≡ key i → ⊥
   unmet-new m j l e = never (ap (λ x. metIn seen (slotOf x)) (sym e) ∙ h .marked j l) (sym (m .was))
-
--- ---- keys that all differ
-pub differ-none : (key : ℕ → ℕ) → Differ key 0
-differ-none key = record { apart = λ i j l m e. omega arith }
-
-pub differ-on : (key : ℕ → ℕ) (i : ℕ) → Differ key i → ((j : ℕ) → j < i → key j ≡ key i → ⊥) → Differ key (i + 1)
-differ-on key i d new = record { apart = go }
-  where
-    go : (k j : ℕ) → k < i + 1 → j < k → key j ≡ key k → ⊥
-    go k j l m e =
-        ⊎-elim (λ (q : k < i). d .apart k j q m e)
-        (λ (q : i ≤ k). let s : k ≡ i = omega arith in new j (omega arith) (e ∙ ap key s))
-        (less? k i)
-
--- then no two interviews tie
-pub differ-low : (key number : ℕ → ℕ) (count low : ℕ) → Differ key count → Lowered key number count low low
-differ-low key number count low d = record { least = omega arith; below = λ i j l m e. absurd (d .apart i j l m e); reached = inl refl }

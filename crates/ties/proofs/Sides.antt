@@ -20,7 +20,7 @@ use Rattle.format.specs.Engine.{marketIn}
 use Rattle.format.proofs.Positions.{row-at, within, pair-says, pair-names}
 use Rattle.records.specs.Records.{pairPlace}
 use Rattle.book_tests.specs.Index.{fromOne}
-use Rattle.ties.specs.Ties.{Indexed, personsOf, who, whom, tierOf, scoreOf, sideTies, numberOf, keyOf, Lowered, LoweredOn}
+use Rattle.ties.specs.Ties.{Indexed, personsOf, who, whom, tierOf, scoreOf, sideTies, numberOf, keyOf, Apart, Lowered, LoweredOn}
 use Rattle.book_tests.proofs.Laws.{entry-is}
 use Rattle.case_tests.proofs.Cases.{clean, few}
 use Rattle.book_tests.proofs.Indexing.{Placed, number-none, repeat-is}
@@ -134,11 +134,16 @@ module _ (case book index : List ℕ) (first : ℕ) (I : Indexed case book index
         interview-of b x y (entryAt book (numberOf b book x y - 1))
         (first-passes q (entryCount book) (numberOf b book x y - 1) (number-some q (entryCount book) l))
 
-    there : pairPlace case (cond b x y) (cond b y x) < rowCount case
+    pub there : pairPlace case (cond b x y) (cond b y x) < rowCount case
     there =
         ⊎-elim (λ (q : pairPlace case (cond b x y) (cond b y x) < rowCount case). q)
         (λ (q : rowCount case ≤ pairPlace case (cond b x y) (cond b y x)). absurd (omega (arith, no-record case book index first I b x y q)))
         (less? (pairPlace case (cond b x y) (cond b y x)) (rowCount case))
+
+    -- both are named
+    pub named : ((1 ≤ x) × (x ≤ personsOf b case)) × ((1 ≤ y) × (y ≤ personsOf (not b) case))
+    named =
+        rw (record-of .0, record-of .1) at (persons-in b (numberOf b book x y - 1) (number-inside case book index first I b x y l))
 
   tiers : (p : ℕ) → p < rowCount case → rowAt case p .kind ≡ 3 → (1 ≤ rowAt case p .third) × (1 ≤ rowAt case p .fourth)
   unfolding badRange badTiers
@@ -188,6 +193,16 @@ module _ (case book index : List ℕ) (first : ℕ) (I : Indexed case book index
           tier = rw (p .0, p .1, q .1) (omega (arith, k, s, t));
           score = omega (arith, k, s, t);
         }
+
+  -- where no two interviews of a person have one key nothing is lowered
+  pub apart-low : (b : Bool) (x others low : ℕ) → others ≤ 512 → Apart b case book x
+      → Lowered (λ k. keyOf b case book x (suc k)) (λ k. numberOf b book x (suc k)) others low low
+  apart-low b x others low few h = record { least = omega arith; below = λ i j l m e. absurd (none i j l m e); reached = inl refl }
+    where
+      none : (i j : ℕ) → i < others → j < i → keyOf b case book x (suc j) ≡ keyOf b case book x (suc i) → ⊥
+      none i j l m e =
+          h .apart (suc j) (suc i) (λ q. omega arith) (both b x (suc j) (suc i) (omega arith) (omega arith) (λ q. omega arith) e)
+          (both b x (suc i) (suc j) (omega arith) (omega arith) (λ q. omega arith) (sym e)) e
 
   -- ---- one person more
   module _ (b : Bool) (x others low mid after : ℕ) (size : others ≡ personsOf (not b) case) (few : others ≤ 512) (h : LoweredOn b case book x low mid)

@@ -2,7 +2,7 @@
 use Prim.Native.Nat.{ℕ, suc, _+_, _-_, _*_, _≤_, _<_, max}
 use mathlib.Core.Path.{_≡_}
 use mathlib.Core.Logic.{_⊎_}
-use mathlib.Core.Bool.{Bool, true, cond}
+use mathlib.Core.Bool.{Bool, true, false, cond}
 use mathlib.Core.List.{List}
 use mathlib.Core.Option.{none}
 use lib.ListN.{length}
@@ -15,6 +15,7 @@ use Rattle.format.specs.Engine.{marketIn}
 use Rattle.records.specs.Records.{pairPlace}
 use Rattle.case_tests.specs.Checked.{CleanCase, pairCount}
 use Rattle.book_tests.specs.Index.{fromOne, pairsFrom, lentIndex}
+use Rattle.ties.specs.Seen.{Met, slotOf}
 
 -- the cases and books that are left after cause 10, with their index; the pair records begin at `first`
 pub record Indexed (case book index : List ℕ) (first : ℕ) : Type 0 where
@@ -63,13 +64,14 @@ pub record StandsAt (b : Bool) (case : List ℕ) (x y p : ℕ) : Type 0 where
   pub place : p ≡ pairPlace case (cond b x y) (cond b y x)
   pub inside : p < rowCount case
 
--- the pairs of x with 1 to `count` stand `step` records apart, from record `start` on
-abbrev pub StandFrom : Bool → List ℕ → ℕ → ℕ → ℕ → ℕ → Type 0
-StandFrom b case x count start step = (k : ℕ) → k < count → StandsAt b case x (suc k) (start + k * step)
+-- the slot of the interview of x and y is tried: it is met from now on, and was before where r is true; without an interview nothing is done
+pub record Tried (b : Bool) (case book : List ℕ) (x y : ℕ) (before after : List ℕ) (r : Bool) : Type 0 where
+  pub none : numberOf b book x y ≡ 0 → (r ≡ false) × (after ≡ before)
+  pub some : 0 < numberOf b book x y → Met before after (slotOf (keyOf b case book x y)) r
 
--- no two of the interviews below `count` have one key
-pub record Differ (key : ℕ → ℕ) (count : ℕ) : Type 0 where
-  pub apart : (i j : ℕ) → i < count → j < i → key j ≡ key i → ⊥
+-- no two of the interviews of x have one key
+pub record Apart (b : Bool) (case book : List ℕ) (x : ℕ) : Type 0 where
+  pub apart : (y z : ℕ) → (y ≡ z → ⊥) → 0 < numberOf b book x y → 0 < numberOf b book x z → keyOf b case book x y ≡ keyOf b case book x z → ⊥
 
 -- ---- the lowest record, from 1, that ties with an earlier one: `low` made `after`
 

@@ -1,15 +1,17 @@
 // Cause 11: one person gave an equal score earlier in the same tier. Person by person, the interviews are compared by keys; of all records that
-// tie with an earlier one the lowest is kept, counted from 1.
+// tie with an earlier one the lowest is kept, counted from 1. Each key has a slot: a person whose interviews have slots of their own has no tie.
 ghost use mathlib.Core.Path.{_≡_};
-ghost use mathlib.Core.Bool.{true, not, cond};
-ghost use Prim.Native.Nat.{ℕ, suc, _+_, _*_, _≤_, _<_, max, min};
+ghost use mathlib.Core.Bool.{true, false, cond};
+ghost use Prim.Native.Nat.{ℕ, suc, _+_, _-_, _*_, _≤_, _<_, max, min};
 ghost use lib.ListN.{length, getD};
 ghost use Rattle.base.specs.Search.{firstBad, orEnd};
-ghost use Rattle.format.specs.Layout.{rows, entries, entryCount};
+ghost use Rattle.format.specs.Layout.{rows, rowAt, rowCount, entries, entryAt, entryCount};
 ghost use Rattle.format.specs.Refusals.{badTie};
 ghost use Rattle.format.specs.Engine.{marketIn};
-ghost use Rattle.ties.specs.Ties.{Indexed, personsOf, numberOf, keyOf, StandsAt, StandFrom, Differ, Lowered, LoweredBy, LoweredOn};
+ghost use Rattle.tables.specs.Table.{Tabled};
+ghost use Rattle.ties.specs.Ties.{Indexed, scoreOf, numberOf, keyOf, StandsAt, Tried, Apart, Lowered, LoweredBy, LoweredOn};
 ghost use Rattle.ties.specs.Seen.{Met, slotOf};
+ghost use Rattle.ties.specs.Cursors.{Cursors};
 
 // ---- one person's interviews, by their keys and the numbers of their records
 
@@ -99,7 +101,7 @@ struct Interview {
 }
 
 fn pick(first: bool, x: u16, y: u16) -> usize
-    ensures { λ r. ⌜ (r ≡ cond first x y) × (r < 65536) ⌝ }
+    ensures { λ r. ⌜ r ≡ cond first x y ⌝ }
 {
     if first { x as usize } else { y as usize }
 }
@@ -119,6 +121,17 @@ fn joined(tier: u16, score: u16) -> u32
     tier as u32 * 65536 + score as u32
 }
 
+// The key of the interview of pair record p, whose book record has this number.
+fn key_at(case: &[u8], book: &[u8], student: bool, p: usize, number: u16) -> u32
+    requires { ⌜ (p < rowCount (now case)) × (1 ≤ number) × (number - 1 < entryCount (now book)) ⌝ }
+    ensures { λ r. ⌜ r ≡ cond student (rowAt (now (case .entry)) p .third) (rowAt (now (case .entry)) p .fourth) * 65536
+        + scoreOf student (entryAt (now (book .entry)) (number - 1)) ⌝ }
+{
+    let tier = records::tier_at(case, p, student);
+    let score = records::biased_at(book, number as usize - 1, student);
+    joined(tier, score)
+}
+
 // The interview with y of the person of the side who has pair record p with y.
 fn interview_at(
     case: &[u8],
@@ -131,18 +144,16 @@ fn interview_at(
 ) -> Interview
     requires { ⌜ Indexed (now case) (now book) (now index) from ⌝ }
     requires { ⌜ ((x : ℕ) × StandsAt student (now case) x y p) ⌝ }
-    ensures { λ r. ⌜ ((x : ℕ) → StandsAt student (now (case .entry)) x y p → (r .number ≡ numberOf student (now (book .entry)) x y) × (r .key ≡ keyOf student (now (case .entry))
-        (now (book .entry)) x y)) ⌝ }
+    ensures { λ r. ⌜ ((x : ℕ) → StandsAt student (now (case .entry)) x y p → (r .number ≡ numberOf student (now (book .entry)) x y)
+        × (r .key ≡ keyOf student (now (case .entry)) (now (book .entry)) x y)) ⌝ }
 {
     let number = index[p - from];
     if number < 1 {
         return no_interview(y);
     }
-    let tier = records::tier_at(case, p, student);
-    let score = records::biased_at(book, number as usize - 1, student);
     Interview {
         number,
-        key: joined(tier, score),
+        key: key_at(case, book, student, p, number),
     }
 }
 
@@ -151,95 +162,24 @@ fn interview_of(
     case: &[u8],
     book: &[u8],
     index: &[u16],
+    table: &[u64],
     from: usize,
-    workshops: usize,
     student: bool,
     x: u16,
     y: u16,
 ) -> Interview
     requires { ⌜ Indexed (now case) (now book) (now index) from ⌝ }
-    requires { ⌜ workshops ≡ marketIn (now case) .workshops ⌝ }
+    requires { ⌜ Tabled (now case) (now table) ⌝ }
     ensures { λ r. ⌜ (r .number ≡ numberOf student (now (book .entry)) x y) × (r .key ≡ keyOf student (now (case .entry)) (now (book .entry)) x y) ⌝ }
 {
     let n = records::row_count(case.len());
     let s = pick(student, x, y);
     let w = pick(student, y, x);
-    let p = records::pair_of(case, from - workshops, workshops, s, w);
+    let p = tables::pair_of(case, table, s, w);
     if n <= p {
         return no_interview(y);
     }
     interview_at(case, book, index, from, student, p, y)
-}
-
-// ---- a person whose interviews all have slots of their own
-
-// The slots of the interviews with 1 to `others` are met one after the other, none of them twice. The pairs stand `step` records apart, from record `start` on.
-fn all_new(
-    case: &[u8],
-    book: &[u8],
-    index: &[u16],
-    from: usize,
-    student: bool,
-    start: usize,
-    step: usize,
-    others: usize,
-    seen: &mut [u64],
-) -> bool
-    requires { ⌜ Indexed (now case) (now book) (now index) from ⌝ }
-    requires { ⌜ (others ≤ 512) × (step ≤ 64) × (start < 65536) × (length (now seen) ≡ 256) ⌝ }
-    requires { ⌜ ((x : ℕ) × StandFrom student (now case) x others start step) ⌝ }
-    ensures { λ r. ⌜ (r ≡ true → (x : ℕ) → StandFrom student (now (case .entry)) x others start step
-        → Differ (λ k. keyOf student (now (case .entry)) (now (book .entry)) x (suc k)) others) ⌝ }
-{
-    let mut p = start;
-    let mut k = 0;
-    while k < others {
-        let v = interview_at(case, book, index, from, student, p, (k + 1) as u16);
-        if met(seen, slot_of(v.key)) {
-            return false;
-        }
-        p += step;
-        k += 1;
-    }
-    true
-}
-
-// Where all pairs have a record: no two interviews of person x of the side share a slot, so none tie.
-fn is_clear(
-    case: &[u8],
-    book: &[u8],
-    index: &[u16],
-    from: usize,
-    workshops: usize,
-    student: bool,
-    x: usize,
-    others: usize,
-) -> bool
-    requires { ⌜ Indexed (now case) (now book) (now index) from ⌝ }
-    requires { ⌜ (1 ≤ x) × (x ≤ personsOf student (now case)) × (others ≡ personsOf (not student) (now case)) × (workshops ≡ marketIn (now case) .workshops) ⌝ }
-    ensures { λ r. ⌜ (r ≡ true → Differ (λ k. keyOf student (now (case .entry)) (now (book .entry)) x (suc k)) others) ⌝ }
-{
-    let rows = records::row_count(case.len());
-    if rows != from + (from - workshops) * workshops {
-        return false;
-    }
-    let mut seen = [0u64; 256];
-    if student {
-        let start = from + (x - 1) * workshops;
-        return all_new(case, book, index, from, true, start, 1, others, &mut seen);
-    }
-    let start = from + x - 1;
-    all_new(
-        case,
-        book,
-        index,
-        from,
-        false,
-        start,
-        workshops,
-        others,
-        &mut seen,
-    )
 }
 
 // Lowers `low` by the interviews of person x of the side with the others.
@@ -247,31 +187,24 @@ fn tie_of(
     case: &[u8],
     book: &[u8],
     index: &[u16],
+    table: &[u64],
     from: usize,
-    workshops: usize,
     student: bool,
     x: u16,
     others: usize,
     low: usize,
 ) -> usize
     requires { ⌜ Indexed (now case) (now book) (now index) from ⌝ }
-    requires { ⌜ (others ≤ 512) × (workshops ≡ marketIn (now case) .workshops) ⌝ }
-    ensures { λ r. ⌜ Lowered (λ k. keyOf student (now (case .entry)) (now (book .entry)) x (suc k)) (λ k. numberOf student (now (book .entry)) x (suc k)) others low r ⌝ }
+    requires { ⌜ Tabled (now case) (now table) ⌝ }
+    requires { ⌜ others ≤ 512 ⌝ }
+    ensures { λ r. ⌜ Lowered (λ k. keyOf student (now (case .entry)) (now (book .entry)) x (suc k)) (λ k. numberOf student (now (book .entry)) x (suc k))
+        others low r ⌝ }
 {
     let mut keys = [0u32; 512];
     let mut numbers = [0u16; 512];
     let mut k = 0;
     while k < others {
-        let v = interview_of(
-            case,
-            book,
-            index,
-            from,
-            workshops,
-            student,
-            x,
-            (k + 1) as u16,
-        );
+        let v = interview_of(case, book, index, table, from, student, x, (k + 1) as u16);
         keys[k] = v.key;
         numbers[k] = v.number;
         k += 1;
@@ -279,40 +212,164 @@ fn tie_of(
     lowest(&keys[..others], &numbers[..others], low)
 }
 
-// The same for all persons of the side.
-fn ties_on(
+// ---- persons whose interviews all have slots of their own
+
+// Whether the slot of the interview of pair record p was met before. It is from now on. Without an interview there is no slot.
+fn met_again(
     case: &[u8],
     book: &[u8],
     index: &[u16],
     from: usize,
-    workshops: usize,
     student: bool,
-    persons: usize,
-    others: usize,
+    p: usize,
+    seen: &mut [u64],
+) -> bool
+    requires { ⌜ Indexed (now case) (now book) (now index) from ⌝ }
+    requires { ⌜ ((x : ℕ) × (y : ℕ) × StandsAt student (now case) x y p) ⌝ }
+    requires { ⌜ length (now seen) ≡ 256 ⌝ }
+    ensures { λ r. ⌜ ((x y : ℕ) → StandsAt student (now (case .entry)) x y p
+        → Tried student (now (case .entry)) (now (book .entry)) x y (now (seen .entry)) (now (seen .exit)) r) ⌝ }
+{
+    let number = index[p - from];
+    if number < 1 {
+        return false;
+    }
+    met(seen, slot_of(key_at(case, book, student, p, number)))
+}
+
+// Two interviews of student s share a slot, so they may tie. Her pairs' records stand together.
+fn student_shares(
+    case: &[u8],
+    book: &[u8],
+    index: &[u16],
+    table: &[u64],
+    from: usize,
+    s: usize,
+) -> bool
+    requires { ⌜ Indexed (now case) (now book) (now index) from ⌝ }
+    requires { ⌜ Tabled (now case) (now table) ⌝ }
+    requires { ⌜ (1 ≤ s) × (s ≤ 512) ⌝ }
+    ensures { λ r. ⌜ (r ≡ false → Apart true (now (case .entry)) (now (book .entry)) s) ⌝ }
+{
+    let own = tables::pairs_of(case, table, s);
+    let mut seen = [0u64; 256];
+    let end = own.first + own.many;
+    let mut p = own.first;
+    while p < end {
+        if met_again(case, book, index, from, true, p, &mut seen) {
+            return true;
+        }
+        p += 1;
+    }
+    false
+}
+
+// For each student the first of her pair records.
+fn first_cursors(table: &[u64], students: usize, next: &mut [u16])
+    requires { ⌜ (length (now table) ≡ 1088) × (students ≤ 512) × (length (now next) ≡ 512) ⌝ }
+    ensures { λ _. ⌜ Cursors (now (table .entry)) (now (next .exit)) students 0 1 ⌝ }
+{
+    let mut k = 0;
+    while k < students {
+        next[k] = (table[512 + k] % 65536) as u16;
+        k += 1;
+    }
+}
+
+// Two interviews of workshop w share a slot, so they may tie. The cursors of the students who have a pair with it are moved on.
+fn workshop_shares(
+    case: &[u8],
+    book: &[u8],
+    index: &[u16],
+    table: &[u64],
+    from: usize,
+    w: usize,
+    students: usize,
+    next: &mut [u16],
+) -> bool
+    requires { ⌜ Indexed (now case) (now book) (now index) from ⌝ }
+    requires { ⌜ Tabled (now case) (now table) ⌝ }
+    requires { ⌜ (1 ≤ w) × (students ≡ marketIn (now case) .students) ⌝ }
+    requires { ⌜ Cursors (now table) (now next) students 0 w ⌝ }
+    ensures { λ _. ⌜ Cursors (now (table .entry)) (now (next .exit)) students 0 (w + 1) ⌝ }
+    ensures { λ r. ⌜ (r ≡ false → Apart false (now (case .entry)) (now (book .entry)) w) ⌝ }
+{
+    let mut seen = [0u64; 256];
+    let mut shares = false;
+    let mut k = 0;
+    while k < students {
+        if tables::is_paired(case, table, k + 1, w) {
+            let p = next[k];
+            next[k] = p + 1;
+            let again = met_again(case, book, index, from, false, p as usize, &mut seen);
+            shares = shares | again;
+            k += 1;
+        } else {
+            k += 1;
+        }
+    }
+    shares
+}
+
+// ---- all persons
+
+// Lowers `low` by the interviews of all students.
+fn student_ties(
+    case: &[u8],
+    book: &[u8],
+    index: &[u16],
+    table: &[u64],
+    from: usize,
+    students: usize,
+    workshops: usize,
     low: usize,
 ) -> usize
     requires { ⌜ Indexed (now case) (now book) (now index) from ⌝ }
-    requires { ⌜ (persons ≡ personsOf student (now case)) × (others ≡ personsOf (not student) (now case)) × (workshops ≡ marketIn (now case) .workshops) ⌝ }
-    ensures { λ r. ⌜ LoweredOn student (now (case .entry)) (now (book .entry)) persons low r ⌝ }
+    requires { ⌜ Tabled (now case) (now table) ⌝ }
+    requires { ⌜ (students ≡ marketIn (now case) .students) × (workshops ≡ marketIn (now case) .workshops) ⌝ }
+    ensures { λ r. ⌜ LoweredOn true (now (case .entry)) (now (book .entry)) students low r ⌝ }
 {
     let mut after = low;
-    let mut x = 0;
-    while x < persons {
-        if is_clear(case, book, index, from, workshops, student, x + 1, others) {
-            x += 1;
+    let mut s = 0;
+    while s < students {
+        if student_shares(case, book, index, table, from, s + 1) {
+            let x = (s + 1) as u16;
+            after = tie_of(case, book, index, table, from, true, x, workshops, after);
+            s += 1;
         } else {
-            after = tie_of(
-                case,
-                book,
-                index,
-                from,
-                workshops,
-                student,
-                (x + 1) as u16,
-                others,
-                after,
-            );
-            x += 1;
+            s += 1;
+        }
+    }
+    after
+}
+
+// The same for all workshops.
+fn workshop_ties(
+    case: &[u8],
+    book: &[u8],
+    index: &[u16],
+    table: &[u64],
+    from: usize,
+    students: usize,
+    workshops: usize,
+    low: usize,
+) -> usize
+    requires { ⌜ Indexed (now case) (now book) (now index) from ⌝ }
+    requires { ⌜ Tabled (now case) (now table) ⌝ }
+    requires { ⌜ (students ≡ marketIn (now case) .students) × (workshops ≡ marketIn (now case) .workshops) ⌝ }
+    ensures { λ r. ⌜ LoweredOn false (now (case .entry)) (now (book .entry)) workshops low r ⌝ }
+{
+    let mut next = [0u16; 512];
+    first_cursors(table, students, &mut next);
+    let mut after = low;
+    let mut w = 0;
+    while w < workshops {
+        if workshop_shares(case, book, index, table, from, w + 1, students, &mut next) {
+            let x = (w + 1) as u16;
+            after = tie_of(case, book, index, table, from, false, x, students, after);
+            w += 1;
+        } else {
+            w += 1;
         }
     }
     after
@@ -323,37 +380,18 @@ pub fn first_tie(
     case: &[u8],
     book: &[u8],
     index: &[u16],
+    table: &[u64],
     students: usize,
     workshops: usize,
 ) -> usize
     requires { ⌜ Indexed (now case) (now book) (now index) (students + workshops) ⌝ }
+    requires { ⌜ Tabled (now case) (now table) ⌝ }
     requires { ⌜ (students ≡ marketIn (now case) .students) × (workshops ≡ marketIn (now case) .workshops) ⌝ }
     ensures { λ r. ⌜ r ≡ orEnd (entryCount (now (book .entry)))
         (firstBad (badTie (rows (now (case .entry))) (entries (now (book .entry)))) (entryCount (now (book .entry)))) ⌝ }
 {
     let n = records::entry_count(book.len());
     let from = students + workshops;
-    let low = ties_on(
-        case,
-        book,
-        index,
-        from,
-        workshops,
-        true,
-        students,
-        workshops,
-        n + 1,
-    );
-    ties_on(
-        case,
-        book,
-        index,
-        from,
-        workshops,
-        false,
-        workshops,
-        students,
-        low,
-    )
-        - 1
+    let low = student_ties(case, book, index, table, from, students, workshops, n + 1);
+    workshop_ties(case, book, index, table, from, students, workshops, low) - 1
 }

@@ -10,7 +10,7 @@ use Rattle.book_tests.proofs.book_fault.Statement.{statement}
 use Rattle.book_tests.proofs.book_fault.Tie as tie
 
 abbrev entry : tie.After-clear → tie.Start
-entry d = d .before .before .before .before .before .before .before .before .before .before .before .before .before .before
+entry d = d .before .before .before .before .before .before .before .before .before .before .before .before .before .before .before
 
 -- the index is zero
 cleared : (d : tie.After-clear) → d .clear .last .0 ≡ replicate (length (entry d .args .index .now)) 0
@@ -23,10 +23,10 @@ entry-count-requires : tie.Need-entry-count-requires
 entry-count-requires c κs = search needs
 
 scan-for-requires : tie.Need-scan-for-requires
-scan-for-requires c κs = let start = c .before .before .before .before .before in (start .pre .0, (start .pre .1 .0 .1, λ e. never refl e))
+scan-for-requires c κs = let start = c .before .before .before .before .before .before in (start .pre .0, (start .pre .1 .0 .1, λ e. never refl e))
 
 scan-for-requires-2 : tie.Need-scan-for-requires-2
-scan-for-requires-2 c κs = let start = c .before .before .before .before .before .before .before .before .before in
+scan-for-requires-2 c κs = let start = c .before .before .before .before .before .before .before .before .before .before in
     (start .pre .0, (omega (arith, start .pre .1 .0 .1, c .before .before .before .scan-for .kept .1 .1 .1 .1 .1 .0), λ e. never refl e))
 
 clear-requires : tie.Need-clear-requires

@@ -10,11 +10,11 @@ entry-count-requires c κs = search needs
 
 scan-on-requires : tie.Need-scan-on-requires
 scan-on-requires c κs =
-    let start = c .before .before .before .before .before in
+    let start = c .before .before .before .before .before .before in
     record {
-      clean = start .pre .0;
+      prepared = start .pre .0;
       room = start .pre .1 .0;
-      scanned = scan-start (start .pre .0) (start .pre .1 .0) refl (start .pre .1 .1) _ refl
+      scanned = scan-start (start .pre .0 .clean) (start .pre .1 .0) refl (start .pre .1 .1) _ refl
           (c .before .entry-count .ensures);
     }
 

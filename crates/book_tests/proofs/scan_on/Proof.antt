@@ -45,7 +45,7 @@ use denote.Laws.{Is, shows}
 use denote.Lend.{lends-ref, ref-back}
 use denote.Memory.{mem, cellAt, partOf, pointee}
 use denote.Plain.{uint-vals, uint-tells, uint-makes}
-use denote.Builtin.{u8, u16, usize}
+use denote.Builtin.{u8, u16, u64, usize}
 use denote.Exit.{yes}
 use denote.Ref.{RefT, NamedLft, MutRef}
 use denote.Slice.{sliceTy, sliceVal, MutSlice, ShrSlice, Room, slice-vals, mut-slice-tells, shr-slice-tells, shr-slice-copy}
@@ -98,8 +98,8 @@ stayed = (
     (
       stay-none-slice (1 ∷ []) tt (plain (λ _. u8)) yes,
       (
-        stay-none (λ _. usize) yes,
-        (stay-none (λ _. usize) yes, (stay-slice (2 ∷ []) tt (plain (λ _. u16)), (stay-none (λ _. S.the-row) yes, tt))),
+        stay-none-slice (2 ∷ []) tt (plain (λ _. u64)) yes,
+        (stay-none (λ _. usize) yes, (stay-slice (3 ∷ []) tt (plain (λ _. u16)), (stay-none (λ _. S.the-row) yes, tt))),
       ),
     ),
   ),
@@ -114,10 +114,13 @@ StepOf 𝓤 H A at-mem run = tripleOf 𝓤 H A step.signature (step.spec 𝓤 H 
 
 -- the locals' types
 abbrev index-ty : Ty
-index-ty = sliceTy (tyRef (named 2) mut (tyInt w16))
+index-ty = sliceTy (tyRef (named 3) mut (tyInt w16))
 
 abbrev bytes-ty : ℕ → Ty
 bytes-ty j = sliceTy (tyRef (named j) imm (tyInt w8))
+
+abbrev table-ty : Ty
+table-ty = sliceTy (tyRef (named 2) imm (tyInt w64))
 
 abbrev lent-ty : Ty
 lent-ty = tyRef erased mut (pointee (T.the-row (record { mir = erased; lft = [] }) .written))
@@ -137,24 +140,24 @@ ref p l = record { ptr = (p .b, p .o); name = p .γ; now = l }
 abbrev sv : {X : Type 0} → Spot → List X → Val
 sv p l = sliceVal (p .b, p .o) (length l)
 
-module _ {M : Type 1} (𝓤 : URA M) (H : Heap 𝓤) (A : Atoms 𝓤) (W : Given 𝓤 H A) (at-mem : Memory → SProp 𝓤) (run : Routine → Fun 𝓤) (κ₀ κ₁ κ₂ : Lft)
-    (q₀ q₁ q₂ : Share) (p₀ p₁ p₂ : Spot)
-    (cause : ℕ) (case book : List ℕ) (students workshops : ℕ) (index : List ℕ) (start : Scan)
-    (cause-fits : cause < 2 ^ 16) (students-fits : students < 2 ^ 64) (workshops-fits : workshops < 2 ^ 64)
+module _ {M : Type 1} (𝓤 : URA M) (H : Heap 𝓤) (A : Atoms 𝓤) (W : Given 𝓤 H A) (at-mem : Memory → SProp 𝓤) (run : Routine → Fun 𝓤) (κ₀ κ₁ κ₂ κ₃ : Lft)
+    (q₀ q₁ q₂ q₃ : Share) (p₀ p₁ p₂ p₃ : Spot)
+    (cause : ℕ) (case book table : List ℕ) (first-pair : ℕ) (index : List ℕ) (start : Scan)
+    (cause-fits : cause < 2 ^ 16) (first-fits : first-pair < 2 ^ 64)
     (start-is : Is S.the-row start (S′.lowered start ∷ []))
-    (room₀ : Room u8 (length case)) (room₁ : Room u8 (length book)) (room₂ : Room u16 (length index))
-    (ok : ScanReady cause case book students workshops start index) where
-  abbrev κs : (Lft × (Lft × (Lft × Unit {0})))
-  κs = (κ₀, (κ₁, (κ₂, tt)))
+    (room₀ : Room u8 (length case)) (room₁ : Room u8 (length book)) (room₂ : Room u64 (length table)) (room₃ : Room u16 (length index))
+    (ok : ScanReady cause case book table first-pair start index) where
+  abbrev κs : (Lft × (Lft × (Lft × (Lft × Unit {0}))))
+  κs = (κ₀, (κ₁, (κ₂, (κ₃, tt))))
 
-  abbrev qs : (Share × (Share × (Share × Unit {0})))
-  qs = (q₀, (q₁, (q₂, tt)))
+  abbrev qs : (Share × (Share × (Share × (Share × Unit {0}))))
+  qs = (q₀, (q₁, (q₂, (q₃, tt))))
 
   abbrev Arg : Type 0
-  Arg = ℕ × (RefT (List ℕ) × (RefT (List ℕ) × (ℕ × (ℕ × (RefT (List ℕ) × (Scan × Unit {0}))))))
+  Arg = ℕ × (RefT (List ℕ) × (RefT (List ℕ) × (RefT (List ℕ) × (ℕ × (RefT (List ℕ) × (Scan × Unit {0}))))))
 
   abbrev x : Arg
-  x = (cause, (ref p₀ case, (ref p₁ book, (students, (workshops, (ref p₂ index, (start, tt)))))))
+  x = (cause, (ref p₀ case, (ref p₁ book, (ref p₂ table, (first-pair, (ref p₃ index, (start, tt)))))))
 
   -- the machine values, which stay
   abbrev at : Vals scan-on.signature κs
@@ -162,7 +165,7 @@ module _ {M : Type 1} (𝓤 : URA M) (H : Heap 𝓤) (A : Atoms 𝓤) (W : Given
     vint w16 cause ∷ [],
     (
       sv p₀ case ∷ [],
-      (sv p₁ book ∷ [], (vint w64 students ∷ [], (vint w64 workshops ∷ [], (sv p₂ index ∷ [], (S′.lowered start ∷ [], tt))))),
+      (sv p₁ book ∷ [], (sv p₂ table ∷ [], (vint w64 first-pair ∷ [], (sv p₃ index ∷ [], (S′.lowered start ∷ [], tt))))),
     ),
   )
 
@@ -176,16 +179,19 @@ module _ {M : Type 1} (𝓤 : URA M) (H : Heap 𝓤) (A : Atoms 𝓤) (W : Given
   abbrev Book : Item 𝓤
   Book = ‵ (ShrSlice (named 1) κ₁ u8 .own (ref p₁ book) (sv p₁ book ∷ []))
 
+  abbrev Table : Item 𝓤
+  Table = ‵ (ShrSlice (named 2) κ₂ u64 .own (ref p₂ table) (sv p₂ table ∷ []))
+
   abbrev Index : List ℕ → Item 𝓤
-  Index l = ‵ (MutSlice (named 2) κ₂ u16 .own (ref p₂ l) (sv p₂ index ∷ []))
+  Index l = ‵ (MutSlice (named 3) κ₃ u16 .own (ref p₃ l) (sv p₃ index ∷ []))
 
   abbrev Known : Scan → List ℕ → Type 0
   Known s us = Scanned cause case book (length index) s us
 
   exits : (us : List ℕ) (r : Scan) → length us ≡ length index → Known r us × (r .left ≡ 0) → Is S.the-row r (S′.lowered r ∷ [])
-      → ent 𝓤 (⋆ 𝓤 H A (Index us ∷ ‵ (flft κ₂ q₂) ∷ Case ∷ ‵ (flft κ₀ q₀) ∷ Book ∷ ‵ (flft κ₁ q₁) ∷ [])) (Post (S′.lowered r))
+      → ent 𝓤 (⋆ 𝓤 H A (Index us ∷ ‵ (flft κ₃ q₃) ∷ Case ∷ ‵ (flft κ₀ q₀) ∷ Book ∷ ‵ (flft κ₁ q₁) ∷ Table ∷ ‵ (flft κ₂ q₂) ∷ [])) (Post (S′.lowered r))
   exits us r len e is =
-      qed W (Index us ∷ ‵ (flft κ₂ q₂) ∷ Case ∷ ‵ (flft κ₀ q₀) ∷ Book ∷ ‵ (flft κ₁ q₁) ∷ []) ∵
+      qed W (Index us ∷ ‵ (flft κ₃ q₃) ∷ Case ∷ ‵ (flft κ₀ q₀) ∷ Book ∷ ‵ (flft κ₁ q₁) ∷ Table ∷ ‵ (flft κ₂ q₂) ∷ []) ∵
       suffices ! _ (ends-at 𝓤 H A scan-on.ended stayed (scan-on.clauses 𝓤 H A at-mem run) W ((κs, qs, tt, x, at), tt) (S′.lowered r) r (
         tt,
         (
@@ -206,12 +212,11 @@ module _ {M : Type 1} (𝓤 : URA M) (H : Heap 𝓤) (A : Atoms 𝓤) (W : Given
         ),
       ) (tt, (tt, (tt, (tt, (tt, (len, (tt, tt)))))))) $ says ! e $
       -- the tokens
-      nothing ! $ move ! (2 ∷ 0 ∷ []) $ join ! $ move ! (5 ∷ 0 ∷ []) $ join ! $ move ! (3 ∷ 0 ∷ []) $ join ! $ frame ! $
-      -- [index; case; book]: what is had of the parameters, and the result
+      nothing ! $ move ! (2 ∷ 0 ∷ []) $ join ! $ move ! (7 ∷ 0 ∷ []) $ join ! $ move ! (5 ∷ 0 ∷ []) $ join ! $ move ! (3 ∷ 0 ∷ []) $ join ! $ frame ! $
+      -- [index; case; book; table]: what is had of the parameters, and the result
       nothing ! $ owned ! S.the-row (Is S.the-row) (LL.makes S.the-type S′.the-plain 𝓤 H A) start _ start-is $ fjoin ! $ move ! (1 ∷ 0 ∷ []) $ fjoin ! $
-      owned ! usize (Is usize) (uint-makes 𝓤 H A W w64) workshops _ (refl, workshops-fits) $ fjoin ! $
-      owned ! usize (Is usize) (uint-makes 𝓤 H A W w64) students _ (refl, students-fits) $ fjoin ! $
-      move ! (2 ∷ 0 ∷ []) $ fjoin ! $ move ! (1 ∷ 0 ∷ []) $ fjoin ! $ owned ! u16 (Is u16) (uint-makes 𝓤 H A W w16) cause _ (refl, cause-fits) $ fjoin ! $
+      owned ! usize (Is usize) (uint-makes 𝓤 H A W w64) first-pair _ (refl, first-fits) $ fjoin ! $
+      move ! (3 ∷ 0 ∷ []) $ fjoin ! $ move ! (2 ∷ 0 ∷ []) $ fjoin ! $ move ! (1 ∷ 0 ∷ []) $ fjoin ! $ owned ! u16 (Is u16) (uint-makes 𝓤 H A W w16) cause _ (refl, cause-fits) $ fjoin ! $
       owned ! S.the-row (Is S.the-row) (LL.makes S.the-type S′.the-plain 𝓤 H A) r _ is $ move ! (1 ∷ 0 ∷ []) $ done !
 
   -- ---- the reader: its type, as `take`'s signature has it at the lifetime of the book, and the reader before record k
@@ -281,16 +286,16 @@ module _ {M : Type 1} (𝓤 : URA M) (H : Heap 𝓤) (A : Atoms 𝓤) (W : Given
 
   -- ---- the call of `step`, with the index lent again for the lifetime ν, under the name δ
   abbrev Args : Type 0
-  Args = ℕ × (RefT (List ℕ) × (ℕ × (ℕ × (Entry × (Scan × (RefT (List ℕ) × Unit {0}))))))
+  Args = ℕ × (RefT (List ℕ) × (RefT (List ℕ) × (ℕ × (Entry × (Scan × (RefT (List ℕ) × Unit {0}))))))
 
   abbrev passed : GName → List ℕ → Entry → Scan → Args
-  passed δ us e st = (cause, (ref p₀ case, (students, (workshops, (e, (st, (record { ptr = (p₂ .b, p₂ .o); name = δ; now = us }, tt)))))))
+  passed δ us e st = (cause, (ref p₀ case, (ref p₂ table, (first-pair, (e, (st, (record { ptr = (p₃ .b, p₃ .o); name = δ; now = us }, tt)))))))
 
   abbrev to-step : ℕ → GName → List ℕ → Entry → Scan → StepOf 𝓤 H A at-mem run .Ghost
   to-step ν δ us e st = (
     (
-      (κ₀, (ν ∷ [], tt)),
-      (q₀, (fullShare, tt)),
+      (κ₀, (κ₂, (ν ∷ [], tt))),
+      (q₀, (q₂, (fullShare, tt))),
       tt,
       passed δ us e st,
       (
@@ -298,11 +303,10 @@ module _ {M : Type 1} (𝓤 : URA M) (H : Heap 𝓤) (A : Atoms 𝓤) (W : Given
         (
           sv p₀ case ∷ [],
           (
-            vint w64 students ∷ [],
+            sv p₂ table ∷ [],
             (
-              vint w64 workshops
-                  ∷ [],
-              (E′.lowered e ∷ [], (S′.lowered st ∷ [], (sv p₂ index ∷ [], tt))),
+              vint w64 first-pair ∷ [],
+              (E′.lowered e ∷ [], (S′.lowered st ∷ [], (sv p₃ index ∷ [], tt))),
             ),
           ),
         ),
@@ -312,23 +316,22 @@ module _ {M : Type 1} (𝓤 : URA M) (H : Heap 𝓤) (A : Atoms 𝓤) (W : Given
   )
 
   abbrev Lent : ℕ → GName → List ℕ → Item 𝓤
-  Lent ν δ us = ‵ (MutSlice (named 1) (ν ∷ []) u16 .own (record { ptr = (p₂ .b, p₂ .o); name = δ; now = us }) (sv p₂ index ∷ []))
+  Lent ν δ us = ‵ (MutSlice (named 2) (ν ∷ []) u16 .own (record { ptr = (p₃ .b, p₃ .o); name = δ; now = us }) (sv p₃ index ∷ []))
 
   -- what it asks
   abbrev Asks : List ℕ → Entry → Scan → Type 0
-  Asks us e st = RecordReady cause case students workshops e st us
+  Asks us e st = RecordReady cause case table first-pair e st us
 
   step-goes : (ν : ℕ) (δ : GName) (us : List ℕ) (e : Entry) (st : Scan) → Is E.the-row e (E′.lowered e ∷ []) → Is S.the-row st (S′.lowered st ∷ [])
       → Asks us e st
-      → ent 𝓤 (⋆ 𝓤 H A (Case ∷ ‵ (flft κ₀ q₀) ∷ Lent ν δ us ∷ ‵ (flft (ν ∷ []) fullShare) ∷ [])) (StepOf 𝓤 H A at-mem run .pre (to-step ν δ us e st))
+      → ent 𝓤 (⋆ 𝓤 H A (Case ∷ ‵ (flft κ₀ q₀) ∷ Table ∷ ‵ (flft κ₂ q₂) ∷ Lent ν δ us ∷ ‵ (flft (ν ∷ []) fullShare) ∷ [])) (StepOf 𝓤 H A at-mem run .pre (to-step ν δ us e st))
   step-goes ν δ us e st is-e is-st asks =
-      qed W (Case ∷ ‵ (flft κ₀ q₀) ∷ Lent ν δ us ∷ ‵ (flft (ν ∷ []) fullShare) ∷ []) ∵ says ! asks $
-      nothing ! $ move ! (4 ∷ 0 ∷ []) $ join ! $ move ! (2 ∷ 0 ∷ []) $ join ! $ frame ! $
-      -- [case; the index]
-      nothing ! $ move ! (2 ∷ 0 ∷ []) $ fjoin ! $ owned ! S.the-row (Is S.the-row) (LL.makes S.the-type S′.the-plain 𝓤 H A) st _ is-st $ fjoin ! $
+      qed W (Case ∷ ‵ (flft κ₀ q₀) ∷ Table ∷ ‵ (flft κ₂ q₂) ∷ Lent ν δ us ∷ ‵ (flft (ν ∷ []) fullShare) ∷ []) ∵ says ! asks $
+      nothing ! $ move ! (6 ∷ 0 ∷ []) $ join ! $ move ! (4 ∷ 0 ∷ []) $ join ! $ move ! (2 ∷ 0 ∷ []) $ join ! $ frame ! $
+      -- [case; table; the index]
+      nothing ! $ move ! (3 ∷ 0 ∷ []) $ fjoin ! $ owned ! S.the-row (Is S.the-row) (LL.makes S.the-type S′.the-plain 𝓤 H A) st _ is-st $ fjoin ! $
       owned ! E.the-row (Is E.the-row) (LL.makes E.the-type E′.the-plain 𝓤 H A) e _ is-e $ fjoin ! $
-      owned ! usize (Is usize) (uint-makes 𝓤 H A W w64) workshops _ (refl, workshops-fits) $ fjoin ! $
-      owned ! usize (Is usize) (uint-makes 𝓤 H A W w64) students _ (refl, students-fits) $ fjoin ! $
+      owned ! usize (Is usize) (uint-makes 𝓤 H A W w64) first-pair _ (refl, first-fits) $ fjoin ! $ move ! (2 ∷ 0 ∷ []) $ fjoin ! $
       move ! (1 ∷ 0 ∷ []) $ fjoin ! $ owned ! u16 (Is u16) (uint-makes 𝓤 H A W w16) cause _ (refl, cause-fits) $ fjoin ! $ done !
 
   -- what is had once it has returned r
@@ -337,8 +340,8 @@ module _ {M : Type 1} (𝓤 : URA M) (H : Heap 𝓤) (A : Atoms 𝓤) (W : Given
       ((b : List ℕ) → Scanned cause case b (length us) st us → entryOf e ≡ entryAt b (st .next) → Scanned cause case b (length us) r us′)
 
   abbrev StepFin : ℕ → GName → List ℕ → Entry → Scan → Scan → Item 𝓤
-  StepFin ν δ us e st r = some (λ (ws : Lasts step.ended (κ₀, (ν ∷ [], tt)) (passed δ us e st)). ‵
-      (lasts step.ended (κ₀, (ν ∷ [], tt)) (passed δ us e st) ws) ⊛ raw (fact 𝓤
+  StepFin ν δ us e st r = some (λ (ws : Lasts step.ended (κ₀, (κ₂, (ν ∷ [], tt))) (passed δ us e st)). ‵
+      (lasts step.ended (κ₀, (κ₂, (ν ∷ [], tt))) (passed δ us e st) ws) ⊛ raw (fact 𝓤
       (Says us e st r (ws .1 .1 .1 .1 .1 .1 .0))))
 
   -- ---- the loop
@@ -384,7 +387,7 @@ module _ {M : Type 1} (𝓤 : URA M) (H : Heap 𝓤) (A : Atoms 𝓤) (W : Given
   asks : (t : Here) → 0 < t .st .left → (e : Entry) → entryOf e ≡ entryAt book (t .n) → Asks (t .us) e (t .st)
   asks t l e q =
       record {
-        clean = ok .clean;
+        prepared = ok .prepared;
         room = subst (λ k. pairCount case ≤ k) (sym (t .len)) (ok .room);
         more = l;
         fits = omega (arith, to-read (t .known) l, room₁ .0);
@@ -403,21 +406,22 @@ module _ {M : Type 1} (𝓤 : URA M) (H : Heap 𝓤) (A : Atoms 𝓤) (W : Given
     Λ = 𝓣 .Λ
 
     abbrev En : Env 𝓤 H
-    En = (S′.mir, l₀) ∷ (tyInt w16, l₁) ∷ (bytes-ty 0, l₂) ∷ (bytes-ty 1, l₃) ∷ (tyInt w64, l₄) ∷ (tyInt w64, l₅) ∷ (index-ty, l₆) ∷ (S′.mir, l₇) ∷
+    En = (S′.mir, l₀) ∷ (tyInt w16, l₁) ∷ (bytes-ty 0, l₂) ∷ (bytes-ty 1, l₃) ∷ (table-ty, l₄) ∷ (tyInt w64, l₅) ∷ (index-ty, l₆) ∷ (S′.mir, l₇) ∷
         (T′.mir erased, l₈)
         ∷ (S′.mir, l₉) ∷ (E′.mir, l₁₀) ∷ (S′.mir, l₁₁) ∷ (tyBool, l₁₂) ∷ (lent-ty, l₁₃) ∷ (entry-ty, l₁₄) ∷ (sliceTy entry-ty, l₁₅) ∷ []
 
-    -- [the index; its token; the case; its token; the book; its token; the reader in _8; _15; …; _9; …; that _8 dies; _7; …; room for _0; …]
+    -- [the index; its token; the case; its token; the book; its token; the table; its token; the reader in _8; _15; …; _9; …; that _8 dies; _7; …; room for _0; …]
     abbrev At : Here → List (Item 𝓤)
-    At t = Index (t .us) ∷ ‵ (flft κ₂ q₂) ∷ Case ∷ ‵ (flft κ₀ q₀) ∷ Book ∷ ‵ (flft κ₁ q₁) ∷ ‵ (fat fullShare (T′.mir erased) l₈ 0 (cell-of (reader-at (t .n))))
+    At t = Index (t .us) ∷ ‵ (flft κ₃ q₃) ∷ Case ∷ ‵ (flft κ₀ q₀) ∷ Book ∷ ‵ (flft κ₁ q₁) ∷ Table ∷ ‵ (flft κ₂ q₂)
+        ∷ ‵ (fat fullShare (T′.mir erased) l₈ 0 (cell-of (reader-at (t .n))))
         ∷ ‵ (froom (sliceTy entry-ty) l₁₅ 0) ∷ ‵ (fdies (sliceTy entry-ty) l₁₅) ∷ ‵ (froom entry-ty l₁₄ 0) ∷ ‵ (fdies entry-ty l₁₄) ∷ ‵
         (froom lent-ty l₁₃ 0) ∷ ‵ (fdies lent-ty l₁₃)
         ∷ ‵ (froom tyBool l₁₂ 0) ∷ ‵ (fdies tyBool l₁₂) ∷ ‵ (froom S′.mir l₁₁ 0) ∷ ‵ (fdies S′.mir l₁₁) ∷ ‵ (froom E′.mir l₁₀ 0) ∷ ‵ (fdies E′.mir l₁₀)
         ∷ ‵ (fat fullShare S′.mir l₉ 0 (S′.lowered (t .st))) ∷ ‵ (fdies S′.mir l₉) ∷ ‵ (fdies (T′.mir erased) l₈) ∷ ‵
         (fat fullShare S′.mir l₇ 0 (S′.lowered start)) ∷ ‵ (fdies S′.mir l₇)
-        ∷ ‵ (fat fullShare index-ty l₆ 0 (sv p₂ index)) ∷ ‵ (fdies index-ty l₆) ∷ ‵ (fat fullShare (tyInt w64) l₅ 0 (vint w64 workshops)) ∷ ‵
+        ∷ ‵ (fat fullShare index-ty l₆ 0 (sv p₃ index)) ∷ ‵ (fdies index-ty l₆) ∷ ‵ (fat fullShare (tyInt w64) l₅ 0 (vint w64 first-pair)) ∷ ‵
         (fdies (tyInt w64) l₅) ∷ ‵
-        (fat fullShare (tyInt w64) l₄ 0 (vint w64 students)) ∷ ‵ (fdies (tyInt w64) l₄)
+        (fat fullShare table-ty l₄ 0 (sv p₂ table)) ∷ ‵ (fdies table-ty l₄)
         ∷ ‵ (fat fullShare (bytes-ty 1) l₃ 0 (sv p₁ book)) ∷ ‵ (fdies (bytes-ty 1) l₃) ∷ ‵ (fat fullShare (bytes-ty 0) l₂ 0 (sv p₀ case)) ∷ ‵
         (fdies (bytes-ty 0) l₂) ∷ ‵
         (fat fullShare (tyInt w16) l₁ 0 (vint w16 cause)) ∷ ‵ (fdies (tyInt w16) l₁)
@@ -435,18 +439,18 @@ module _ {M : Type 1} (𝓤 : URA M) (H : Heap 𝓤) (A : Atoms 𝓤) (W : Given
     more : (t : Here) → ltb 0 (t .st .left) ≡ true → Sq W (At t) (runs C Λ En code-mir.turn-1 (anyQ (Turned t)))
     unfolding afterTurn
     more t e =
-        assigns ! (bin ! (lit ! tt) (load ! (from ! (fld ! refl (stop !))) (look-in ! 19 (sub ! 1 refl (whole !)))) tt) (from ! (stop !))
-        (init ! 13 refl (tt, tt)) $
-        rewrite ! 13 (λ (y : Bool). ‵ (fat fullShare tyBool l₁₂ 0 (vbool y))) e refl $ stays ! (load ! (from ! (stop !)) (look ! 13 refl)) $
-        assigns ! (addr ! (from ! (stop !))) (from ! (stop !)) (init ! 11 refl (tt, tt)) $
+        assigns ! (bin ! (lit ! tt) (load ! (from ! (fld ! refl (stop !))) (look-in ! 21 (sub ! 1 refl (whole !)))) tt) (from ! (stop !))
+        (init ! 15 refl (tt, tt)) $
+        rewrite ! 15 (λ (y : Bool). ‵ (fat fullShare tyBool l₁₂ 0 (vbool y))) e refl $ stays ! (load ! (from ! (stop !)) (look ! 15 refl)) $
+        assigns ! (addr ! (from ! (stop !))) (from ! (stop !)) (init ! 13 refl (tt, tt)) $
         -- a copy of what the book owns goes into the reader
         move ! (4 ∷ []) $ use1 W (Book ⊛ Book) (shr-slice-copy 𝓤 H A W (named 1) κ₁ u8 .twice (ref p₁ book) (sv p₁ book ∷ [])) $ split ! $
         nothing ! $ owned ! usize (Is usize) (uint-makes 𝓤 H A W w64) (t .n) _ (refl, t .fits) $ fjoin ! $ move ! (1 ∷ 0 ∷ []) $ fjoin ! $
         use1 W (‵ (R .own (reader-at (t .n)) (T′.lowered (reader-at (t .n)) ∷ [])))
         (own-shut 𝓤 H A W (T.the-type α) (T′.the-laws α) (ref p₁ book, (t .n, tt))) $
-        -- [what the reader owns; the book; the index; its token; the case; its token; the book's token; the reader's cell; _15; …]
-        move ! (7 ∷ 0 ∷ []) $ use2 W (‵ (mem R .lies (reader-at (t .n)) l₈ 0)) (lies-in (t .n) l₈) $
-        -- [the reader in memory; the book; the index; its token; the case; its token; the book's token; _15; …]: the token is halved, and the reader is lent
+        -- [what the reader owns; the book; the index; its token; the case; its token; the book's token; the table; its token; the reader's cell; _15; …]
+        move ! (9 ∷ 0 ∷ []) $ use2 W (‵ (mem R .lies (reader-at (t .n)) l₈ 0)) (lies-in (t .n) l₈) $
+        -- [the reader in memory; the book; the index; its token; the case; its token; the book's token; the table; its token; _15; …]: the token is halved, and the reader is lent
         move ! (6 ∷ []) $ use1 W (‵ (flft κ₁ (PosShare·left q₁)) ⊛ ‵ (flft κ₁ (PosShare·right q₁))) (W .lfts .lft-split κ₁ q₁) $ split ! $
         lft-new ! tt (λ a. move ! (0 ∷ 2 ∷ []) $ use2 W (‵ (flft (a ∷ κ₁) (PosShare·right q₁)) ⊛ raw (Rest 𝓤 H A W a (PosShare·right q₁)))
         (within-token 𝓤 H A W a κ₁
@@ -454,10 +458,10 @@ module _ {M : Type 1} (𝓤 : URA M) (H : Heap 𝓤) (A : Atoms 𝓤) (W : Given
         move ! (3 ∷ []) $ use1 W (later (some (λ (δ : GName). ‵ (MutRef (named 0) (a ∷ κ₁) R .own (lent (t .n) l₈ δ) (vptr l₈ 0 ∷ [])) ⊛ ‵ (flent (a ∷ κ₁) (Body
         (mem R) l₈ 0 δ))))) (lends-ref 𝓤 H A W R (named 0) (a ∷ κ₁) (reader-at (t .n)) l₈ 0) $ await ! tt $ pick ! (λ δ. split ! $
         move ! (0 ∷ 2 ∷ 4 ∷ []) $ use3 W (raw (Take 𝓤 H A at-mem run .pre (to-take (t .n) a l₈ δ))) (take-goes (t .n) a l₈ δ (in-book t some-left)) $
-        -- [what `take` asks; the lender's part; what is left of a's token; the book; the index; its token; the case; its token; _15; …]
+        -- [what `take` asks; the lender's part; what is left of a's token; the book; the index; its token; the case; its token; the table; its token; _15; …]
         calls-out ! fm take.signature (take.spec 𝓤 H A at-mem run) known-take (to-take (t .n) a l₈ δ) (TakeFin (t .n) a l₈ δ)
         (λ r. id⊢ 𝓤 _) E′.lowered (E′.lowers .val-is)
-        (and-then ! (load ! (from ! (stop !)) (look ! 12 refl)) (no-more !)) (λ r made.
+        (and-then ! (load ! (from ! (stop !)) (look ! 14 refl)) (no-more !)) (λ r made.
         pick ! (λ ws. split ! $ move ! (1 ∷ []) $ heard ! (Took (t .n) r (ws .0)) (λ took. fsplit ! $ move ! (1 ∷ []) $ drop ! $
         move ! (1 ∷ []) $ use1 W (‵ (flft (a ∷ κ₁) (PosShare·right q₁)) ⊛ ‵ (flft κ₁ (PosShare·left q₁)) ⊛ ‵ ftrue) (id⊢ 𝓤 _) $ split ! $ move !
         (1 ∷ []) $ split ! $
@@ -468,41 +472,43 @@ module _ {M : Type 1} (𝓤 : URA M) (H : Heap 𝓤) (A : Atoms 𝓤) (W : Given
         move ! (1 ∷ 3 ∷ 2 ∷ []) $ use3 W (later (‵ (mem R .lies (ws .0) l₈ 0))) (ref-back 𝓤 H A W R (a ∷ κ₁) δ (ws .0) l₈ 0) $ await ! tt $
         use1 W (‵ (fat fullShare (T′.mir erased) l₈ 0 (cell-of (ws .0)))) (lies-out l₈ (ws .0)) $
         rewrite ! 0 (λ (d : BookReader). ‵ (fat fullShare (T′.mir erased) l₈ 0 (cell-of d))) (moved-on (t .n) r (ws .0) took) refl $
-        -- [the reader's cell; the book's token; the book; the index; its token; the case; its token; _15; …]
-        land ! (from ! (stop !)) (init ! 17 refl (LL.lawful E.the-type E′.the-laws 𝓤 H A W .typed r _ made .0)) $
-        move ! (3 ∷ 4 ∷ 5 ∷ 6 ∷ 2 ∷ 1 ∷ []) $
+        -- [the reader's cell; the book's token; the book; the index; its token; the case; its token; the table; its token; _15; …]
+        land ! (from ! (stop !)) (init ! 19 refl (LL.lawful E.the-type E′.the-laws 𝓤 H A W .typed r _ made .0)) $
+        move ! (3 ∷ 4 ∷ 5 ∷ 6 ∷ 2 ∷ 1 ∷ 7 ∷ 8 ∷ []) $
         -- as in `At`: the index is lent again, and the case is copied
-        assigns ! (addr ! (from ! (fld ! refl (hop ! (look-in ! 24 (sub ! 0 refl (whole !))) (stop !))))) (from ! (stop !)) (init ! 9 refl (tt, tt)) $
-        assigns ! (agg ! (and-then ! (load ! (from ! (stop !)) (look ! 9 refl))
-        (and-then ! (load ! (from ! (fld ! refl (stop !))) (look-in ! 24 (sub ! 1 refl (whole !))))
-        (no-more !)))) (from ! (stop !)) (init ! 7 refl (tt, (tt, (record { fits = room₂ .0 }, tt)))) $
-        lends-on ! tt u16 (named 2) (named 1) κ₂ q₂ (p₂ .γ) (p₂ .b) (p₂ .o) (length index) (t .us) (t .len) (λ ν η.
+        assigns ! (addr ! (from ! (fld ! refl (hop ! (look-in ! 26 (sub ! 0 refl (whole !))) (stop !))))) (from ! (stop !)) (init ! 11 refl (tt, tt)) $
+        assigns ! (agg ! (and-then ! (load ! (from ! (stop !)) (look ! 11 refl))
+        (and-then ! (load ! (from ! (fld ! refl (stop !))) (look-in ! 26 (sub ! 1 refl (whole !))))
+        (no-more !)))) (from ! (stop !)) (init ! 9 refl (tt, (tt, (record { fits = room₃ .0 }, tt)))) $
+        lends-on ! tt u16 (named 3) (named 2) κ₃ q₃ (p₃ .γ) (p₃ .b) (p₃ .o) (length index) (t .us) (t .len) (λ ν η.
         move ! (3 ∷ []) $ use1 W (Case ⊛ Case) (shr-slice-copy 𝓤 H A W (named 0) κ₀ u8 .twice (ref p₀ case) (sv p₀ case ∷ [])) $ split ! $
-        -- [the case; the case; the index lent; ν's token; what is kept of the index; κ₀'s token; the book; κ₁'s token; the reader's cell; _15; …]
-        move ! (0 ∷ 5 ∷ 2 ∷ 3 ∷ []) $ group ! 4 $ use1 W (raw (StepOf 𝓤 H A at-mem run .pre (to-step ν η (t .us) r (t .st))))
+        -- [the case; the case; the index lent; ν's token; what is kept of the index; κ₀'s token; the book; κ₁'s token; the table; κ₂'s token; the reader; _15; …]
+        move ! (8 ∷ []) $ use1 W (Table ⊛ Table) (shr-slice-copy 𝓤 H A W (named 2) κ₂ u64 .twice (ref p₂ table) (sv p₂ table ∷ [])) $ split ! $
+        move ! (2 ∷ 7 ∷ 0 ∷ 10 ∷ 4 ∷ 5 ∷ []) $ group ! 6 $ use1 W (raw (StepOf 𝓤 H A at-mem run .pre (to-step ν η (t .us) r (t .st))))
         (step-goes ν η (t .us) r (t .st) made (t .is)
         (asks t some-left r (took .0))) $
-        -- [what `step` asks; the case; what is kept of the index; the book; κ₁'s token; the reader's cell; _15; …]
+        -- [what `step` asks; the table; the case; what is kept of the index; the book; κ₁'s token; the reader's cell; _15; …]
         calls-out ! fm step.signature (step.spec 𝓤 H A at-mem run) known-step (to-step ν η (t .us) r (t .st)) (StepFin ν η (t .us) r (t .st))
         (λ s. id⊢ 𝓤 _) S′.lowered (S′.lowers .val-is)
-        (and-then ! (load ! (from ! (stop !)) (look ! 33 refl))
-        (and-then ! (load ! (from ! (stop !)) (look ! 31 refl)) (and-then ! (load ! (from ! (stop !)) (look ! 27 refl))
-        (and-then ! (load ! (from ! (stop !)) (look ! 25 refl)) (and-then ! (load ! (from ! (stop !)) (look ! 16 refl)) (and-then ! (load ! (from ! (stop !))
-        (look ! 18 refl)) (and-then ! (load ! (from ! (stop !)) (look ! 6 refl)) (no-more !)))))))) (λ s is-s.
+        (and-then ! (load ! (from ! (stop !)) (look ! 34 refl))
+        (and-then ! (load ! (from ! (stop !)) (look ! 32 refl)) (and-then ! (load ! (from ! (stop !)) (look ! 28 refl))
+        (and-then ! (load ! (from ! (stop !)) (look ! 26 refl)) (and-then ! (load ! (from ! (stop !)) (look ! 17 refl)) (and-then ! (load ! (from ! (stop !))
+        (look ! 19 refl)) (and-then ! (load ! (from ! (stop !)) (look ! 7 refl)) (no-more !)))))))) (λ s is-s.
         pick ! (λ vs. split ! $ move ! (1 ∷ []) $ heard ! (Says (t .us) r (t .st) s (vs .1 .1 .1 .1 .1 .1 .0)) (λ f.
         fsplit ! $ drop ! $ fsplit ! $ drop ! $ fsplit ! $ drop ! $ fsplit ! $ drop ! $ fsplit ! $ drop ! $ fsplit ! $ drop ! $ fsplit ! $ move !
         (1 ∷ []) $ drop ! $ fsplit ! $
         move ! (1 ∷ []) $ feqL ! (λ l.
-        move ! (1 ∷ []) $ use1 W (‵ (flft κ₀ q₀) ⊛ ‵ (flft (ν ∷ []) fullShare) ⊛ ‵ ftrue) (id⊢ 𝓤 _) $ split ! $ move ! (1 ∷ []) $ split ! $ move !
+        move ! (1 ∷ []) $ use1 W (‵ (flft κ₀ q₀) ⊛ ‵ (flft κ₂ q₂) ⊛ ‵ (flft (ν ∷ []) fullShare) ⊛ ‵ ftrue) (id⊢ 𝓤 _) $ split ! $ move ! (1 ∷ []) $ split ! $
+        move ! (1 ∷ []) $ split ! $ move !
         (1 ∷ []) $ drop ! $
-        -- [ν's token; κ₀'s; the index's last list; the case; what is kept of the index; the book; κ₁'s token; the reader's cell; _15; …]: the index comes back
-        move ! (0 ∷ 4 ∷ 2 ∷ []) $ back-on ! tt u16 (named 2) κ₂ q₂ (p₂ .γ) (p₂ .b) (p₂ .o) (length index) ν η (t .us) (vs .1 .1 .1 .1 .1 .1 .0) room₂
+        -- [ν's token; κ₂'s; κ₀'s; the index's last list; the table; the case; what is kept of the index; the book; κ₁'s token; the reader's cell; _15; …]: the index comes back
+        move ! (0 ∷ 6 ∷ 3 ∷ []) $ back-on ! tt u16 (named 3) κ₃ q₃ (p₃ .γ) (p₃ .b) (p₃ .o) (length index) ν η (t .us) (vs .1 .1 .1 .1 .1 .1 .0) room₃
         (t .len) (l ∙ t .len) $
-        move ! (0 ∷ 1 ∷ 3 ∷ 2 ∷ []) $
-        land ! (from ! (stop !)) (init ! 15 refl (LL.lawful S.the-type S′.the-laws 𝓤 H A W .typed s _ is-s .0)) $
-        assigns-last ! (of-opd ! (load ! (from ! (stop !)) (look ! 15 refl))) (from ! (stop !))
-        (store ! 19 refl (LL.lawful S.the-type S′.the-laws 𝓤 H A W .typed s _ is-s .0)) $
-        forget ! 7 refl $ forget ! 9 refl $ forget ! 11 refl $ forget ! 13 refl $ forget ! 15 refl $ forget ! 17 refl $
+        move ! (0 ∷ 1 ∷ 5 ∷ 3 ∷ 6 ∷ 7 ∷ 4 ∷ 2 ∷ []) $
+        land ! (from ! (stop !)) (init ! 17 refl (LL.lawful S.the-type S′.the-laws 𝓤 H A W .typed s _ is-s .0)) $
+        assigns-last ! (of-opd ! (load ! (from ! (stop !)) (look ! 17 refl))) (from ! (stop !))
+        (store ! 21 refl (LL.lawful S.the-type S′.the-laws 𝓤 H A W .typed s _ is-s .0)) $
+        forget ! 9 refl $ forget ! 11 refl $ forget ! 13 refl $ forget ! 15 refl $ forget ! 17 refl $ forget ! 19 refl $
         again ! Nearer At t (next t some-left r (took .0) s (vs .1 .1 .1 .1 .1 .1 .0) (l ∙ t .len) f is-s) (f .0 .fewer)))))))))))
       where
         fm : FmC 𝓤 H (W .laws) C
@@ -515,22 +521,20 @@ module _ {M : Type 1} (𝓤 : URA M) (H : Heap 𝓤) (A : Atoms 𝓤) (W : Given
     ends : (t : Here) → ltb 0 (t .st .left) ≡ false → Sq W (At t) (runs C Λ En code-mir.turn-1 (anyQ (Turned t)))
     unfolding afterTurn
     ends t e =
-        assigns ! (bin ! (lit ! tt) (load ! (from ! (fld ! refl (stop !))) (look-in ! 19 (sub ! 1 refl (whole !)))) tt) (from ! (stop !))
-        (init ! 13 refl (tt, tt)) $
-        rewrite ! 13 (λ (y : Bool). ‵ (fat fullShare tyBool l₁₂ 0 (vbool y))) e refl $ leaves-loop ! (load ! (from ! (stop !)) (look ! 13 refl)) $
+        assigns ! (bin ! (lit ! tt) (load ! (from ! (fld ! refl (stop !))) (look-in ! 21 (sub ! 1 refl (whole !)))) tt) (from ! (stop !))
+        (init ! 15 refl (tt, tt)) $
+        rewrite ! 15 (λ (y : Bool). ‵ (fat fullShare tyBool l₁₂ 0 (vbool y))) e refl $ leaves-loop ! (load ! (from ! (stop !)) (look ! 15 refl)) $
         exec ! C Λ En code-mir.t-4 (atRet En Post) $
-        assigns ! (of-opd ! (load ! (from ! (stop !)) (look ! 19 refl))) (from ! (stop !))
-        (init ! 36 refl (LL.lawful S.the-type S′.the-laws 𝓤 H A W .typed (t .st) _ (t .is) .0)) $
-        returns ! (look ! 36 refl) $ forget ! 6 refl $ forget ! 13 refl $ forget ! 19 refl $ forget ! 22 refl $ forget ! 24 refl $ forget ! 26 refl $
-        forget ! 28 refl $
-        forget ! 30 refl $ forget ! 32 refl $ forget ! 34 refl $ forget ! 36 refl $
-        move ! (36 ∷ 37 ∷ []) $ free1 ! $ move ! (34 ∷ 35 ∷ []) $ free1 ! $ move ! (32 ∷ 33 ∷ []) $ free1 ! $ move ! (30 ∷ 31 ∷ []) $ free1 ! $ move !
-        (28 ∷ 29 ∷ []) $ free1 ! $
-        move ! (26 ∷ 27 ∷ []) $ free1 ! $ move ! (24 ∷ 25 ∷ []) $ free1 ! $ move ! (22 ∷ 23 ∷ []) $ free1 ! $
-        move ! (6 ∷ 21 ∷ []) $ free1 ! $ move ! (18 ∷ 19 ∷ []) $ free1 ! $ move ! (16 ∷ 17 ∷ []) $ free1 ! $ move ! (14 ∷ 15 ∷ []) $ free1 ! $ move !
-        (12 ∷ 13 ∷ []) $ free1 ! $
-        move ! (10 ∷ 11 ∷ []) $ free1 ! $ move ! (8 ∷ 9 ∷ []) $ free1 ! $ move ! (6 ∷ 7 ∷ []) $ free1 ! $ free0 ! $
-        keep ! (0 ∷ 1 ∷ 2 ∷ 3 ∷ 4 ∷ 5 ∷ []) $ by ! (exits (t .us) (t .st) (t .len) (t .known, none-left) (t .is))
+        assigns ! (of-opd ! (load ! (from ! (stop !)) (look ! 21 refl))) (from ! (stop !))
+        (init ! 38 refl (LL.lawful S.the-type S′.the-laws 𝓤 H A W .typed (t .st) _ (t .is) .0)) $
+        returns ! (look ! 38 refl) $ forget ! 8 refl $ forget ! 15 refl $ forget ! 21 refl $ forget ! 24 refl $ forget ! 26 refl $ forget ! 28 refl $
+        forget ! 30 refl $
+        forget ! 32 refl $ forget ! 34 refl $ forget ! 36 refl $ forget ! 38 refl $
+        move ! (38 ∷ 39 ∷ []) $ free1 ! $ move ! (36 ∷ 37 ∷ []) $ free1 ! $ move ! (34 ∷ 35 ∷ []) $ free1 ! $ move ! (32 ∷ 33 ∷ []) $ free1 ! $ move ! (30 ∷ 31 ∷ []) $ free1 ! $
+        move ! (28 ∷ 29 ∷ []) $ free1 ! $ move ! (26 ∷ 27 ∷ []) $ free1 ! $ move ! (24 ∷ 25 ∷ []) $ free1 ! $
+        move ! (8 ∷ 23 ∷ []) $ free1 ! $ move ! (20 ∷ 21 ∷ []) $ free1 ! $ move ! (18 ∷ 19 ∷ []) $ free1 ! $ move ! (16 ∷ 17 ∷ []) $ free1 ! $ move ! (14 ∷ 15 ∷ []) $ free1 ! $
+        move ! (12 ∷ 13 ∷ []) $ free1 ! $ move ! (10 ∷ 11 ∷ []) $ free1 ! $ move ! (8 ∷ 9 ∷ []) $ free1 ! $ free0 ! $
+        keep ! (0 ∷ 1 ∷ 2 ∷ 3 ∷ 4 ∷ 5 ∷ 6 ∷ 7 ∷ []) $ by ! (exits (t .us) (t .st) (t .len) (t .known, none-left) (t .is))
       where
         none-left : t .st .left ≡ 0
         none-left = let z : t .st .left ≤ 0 = ltb-false 0 (t .st .left) e in omega arith
@@ -548,21 +552,20 @@ module _ {M : Type 1} (𝓤 : URA M) (H : Heap 𝓤) (A : Atoms 𝓤) (W : Given
 
   -- the MIR, up to the loop
   walk : (𝓣 : Tables 𝓤 H) → Triple 𝓤 (𝓣 .C #reader·take) (Take 𝓤 H A at-mem run) → Triple 𝓤 (𝓣 .C #book-tests·step) (StepOf 𝓤 H A at-mem run)
-      → ent 𝓤 (onEntry 𝓤 H A scan-on.signature κs qs x at) (WpFn 𝓤 H (𝓣 .C) (𝓣 .Λ) code.function (vint w16 cause ∷ sv p₀ case ∷ sv p₁ book ∷ vint w64 students
-      ∷ vint w64 workshops ∷ sv p₂ index ∷ S′.lowered start ∷ []) Post)
+      → ent 𝓤 (onEntry 𝓤 H A scan-on.signature κs qs x at) (WpFn 𝓤 H (𝓣 .C) (𝓣 .Λ) code.function (vint w16 cause ∷ sv p₀ case ∷ sv p₁ book ∷ sv p₂ table ∷ vint w64 first-pair ∷ sv p₃ index ∷ S′.lowered start ∷ []) Post)
   walk 𝓣 known-take known-step =
-      qed W ((‵ (flft κ₀ q₀) ⊛ ‵ (flft κ₁ q₁) ⊛ ‵ (flft κ₂ q₂) ⊛ ‵ ftrue) ∷ ‵
-      (owns (u16 ∷ ShrSlice (named 0) κ₀ u8 ∷ ShrSlice (named 1) κ₁ u8 ∷ usize ∷ usize ∷ MutSlice
-      (named 2) κ₂ u16 ∷ S.the-row ∷ []) x at) ∷ []) ∵
+      qed W ((‵ (flft κ₀ q₀) ⊛ ‵ (flft κ₁ q₁) ⊛ ‵ (flft κ₂ q₂) ⊛ ‵ (flft κ₃ q₃) ⊛ ‵ ftrue) ∷ ‵
+      (owns (u16 ∷ ShrSlice (named 0) κ₀ u8 ∷ ShrSlice (named 1) κ₁ u8 ∷ ShrSlice (named 2) κ₂ u64 ∷ usize
+      ∷ MutSlice (named 3) κ₃ u16 ∷ S.the-row ∷ []) x at) ∷ []) ∵
       enter ! (𝓣 .C) (𝓣 .Λ) code.function
-      (vint w16 cause ∷ sv p₀ case ∷ sv p₁ book ∷ vint w64 students ∷ vint w64 workshops ∷ sv p₂ index ∷ S′.lowered start ∷ []) _ $
+      (vint w16 cause ∷ sv p₀ case ∷ sv p₁ book ∷ sv p₂ table ∷ vint w64 first-pair ∷ sv p₃ index ∷ S′.lowered start ∷ []) _ $
       alloc1 ! (λ l₀. alloc1 ! (λ l₁. alloc1 !
       (λ l₂. alloc1 ! (λ l₃. alloc1 ! (λ l₄. alloc1 ! (λ l₅. alloc1 ! (λ l₆. alloc1 ! (λ l₇. alloc1 ! (λ l₈. alloc1 ! (λ l₉. alloc1 !
       (λ l₁₀. alloc1 ! (λ l₁₁. alloc1 ! (λ l₁₂. alloc1 ! (λ l₁₃. alloc1 ! (λ l₁₄. alloc1 ! (λ l₁₅. alloc0 ! $ params1 ! $
       pass1 ! (init ! 28 refl (tt, record { fits = cause-fits })) $ pass1 ! (init ! 26 refl (tt, (tt, (record { fits = room₀ .0 }, tt)))) $
       pass1 ! (init ! 24 refl (tt, (tt, (record { fits = room₁ .0 }, tt)))) $
-      pass1 ! (init ! 22 refl (tt, record { fits = students-fits })) $ pass1 ! (init ! 20 refl (tt, record { fits = workshops-fits })) $
-      pass1 ! (init ! 18 refl (tt, (tt, (record { fits = room₂ .0 }, tt)))) $
+      pass1 ! (init ! 22 refl (tt, (tt, (record { fits = room₂ .0 }, tt)))) $ pass1 ! (init ! 20 refl (tt, record { fits = first-fits })) $
+      pass1 ! (init ! 18 refl (tt, (tt, (record { fits = room₃ .0 }, tt)))) $
       pass1 ! (init ! 16 refl (LL.lawful S.the-type S′.the-laws 𝓤 H A W .typed start _ start-is .0)) $ pass0 ! $
       assigns ! (agg ! (and-then ! (load ! (from ! (stop !)) (look ! 24 refl))
       (and-then ! (load ! (from ! (fld ! refl (stop !))) (look-in ! 16 (sub ! 0 refl (whole !))))
@@ -570,10 +573,10 @@ module _ {M : Type 1} (𝓤 : URA M) (H : Heap 𝓤) (A : Atoms 𝓤) (W : Given
       assigns ! (of-opd ! (load ! (from ! (stop !)) (look ! 16 refl))) (from ! (stop !))
       (init ! 12 refl (LL.lawful S.the-type S′.the-laws 𝓤 H A W .typed start _ start-is .0)) $
       -- what the slices own, and the tokens, one by one
-      move ! (33 ∷ []) $ fsplit ! $ drop ! $ fsplit ! $ move ! (1 ∷ []) $ fsplit ! $ move !
-      (1 ∷ []) $ fsplit ! $ drop ! $ fsplit ! $ drop ! $ fsplit ! $ move ! (1 ∷ []) $ drop ! $
-      move ! (35 ∷ []) $ split ! $ move ! (1 ∷ []) $ split ! $ move ! (1 ∷ []) $ split ! $ move ! (1 ∷ []) $ drop ! $
-      move ! (3 ∷ 0 ∷ 5 ∷ 2 ∷ 4 ∷ 1 ∷ 20 ∷ []) $
+      move ! (33 ∷ []) $ fsplit ! $ drop ! $ fsplit ! $ move ! (1 ∷ []) $ fsplit ! $ move ! (1 ∷ []) $ fsplit ! $ move ! (1 ∷ []) $ fsplit ! $ drop ! $
+      fsplit ! $ move ! (1 ∷ []) $ drop ! $
+      move ! (36 ∷ []) $ split ! $ move ! (1 ∷ []) $ split ! $ move ! (1 ∷ []) $ split ! $ move ! (1 ∷ []) $ split ! $ move ! (1 ∷ []) $ drop ! $
+      move ! (4 ∷ 0 ∷ 7 ∷ 3 ∷ 6 ∷ 2 ∷ 5 ∷ 1 ∷ 22 ∷ []) $
       looped 𝓣 known-take known-step l₀ l₁ l₂ l₃ l₄ l₅ l₆ l₇ l₈ l₉ l₁₀ l₁₁ l₁₂ l₁₃ l₁₄ l₁₅
       (record { us = index; st = start; n = start .next; len = refl; fits = start-fits; is = start-is; here = λ l. refl; known = ok .scanned })))))))))))))))))
 
@@ -584,7 +587,7 @@ module _ {M : Type 1} (𝓤 : URA M) (H : Heap 𝓤) (A : Atoms 𝓤) (W : Given
   scan-on-walks : (𝓣 : Tables 𝓤 H) → Triple 𝓤 (𝓣 .C #reader·take) (Take 𝓤 H A at-mem run) → Triple 𝓤 (𝓣 .C #book-tests·step) (StepOf 𝓤 H A at-mem run)
       → Walks 𝓤 H A scan-on.ended stayed (WpFn 𝓤 H (𝓣 .C) (𝓣 .Λ) code.function) (scan-on.clauses 𝓤 H A at-mem run)
   scan-on-walks 𝓣 known-take known-step = walked 𝓤 H A scan-on.ended stayed (scan-on.clauses 𝓤 H A at-mem run) (WpFn 𝓤 H (𝓣 .C) (𝓣 .Λ) code.function)
-      (λ κs. (uint-vals w16, (slice-vals, (slice-vals, (uint-vals w64, (uint-vals w64, (slice-vals, ((λ st. S′.lowered st ∷ []), tt))))))))
+      (λ κs. (uint-vals w16, (slice-vals, (slice-vals, (slice-vals, (uint-vals w64, (slice-vals, ((λ st. S′.lowered st ∷ []), tt))))))))
       (λ κs. (
         uint-tells w16,
         (
@@ -592,12 +595,11 @@ module _ {M : Type 1} (𝓤 : URA M) (H : Heap 𝓤) (A : Atoms 𝓤) (W : Given
           (
             shr-slice-tells (named 1) (κs .1 .0) u8,
             (
-              uint-tells w64,
+              shr-slice-tells (named 2) (κs .1 .1 .0) u64,
               (
                 uint-tells w64,
                 (
-                  mut-slice-tells (named 2)
-                      (κs .1 .1 .0) u16,
+                  mut-slice-tells (named 3) (κs .1 .1 .1 .0) u16,
                   (S′.lowers .val-is, tt),
                 ),
               ),
@@ -606,10 +608,10 @@ module _ {M : Type 1} (𝓤 : URA M) (H : Heap 𝓤) (A : Atoms 𝓤) (W : Given
         ),
       ))
       (λ κs qs bounds a g are. needs 𝓤 _ _ (λ ok.
-      walk 𝓤 H A W at-mem run (κs .0) (κs .1 .0) (κs .1 .1 .0) (qs .0) (qs .1 .0) (qs .1 .1 .0) (spot-of (a .1 .0)) (spot-of (a .1 .1 .0))
-      (spot-of (a .1 .1 .1 .1 .1 .0))
-      (a .0) (a .1 .0 .now) (a .1 .1 .0 .now) (a .1 .1 .1 .0) (a .1 .1 .1 .1 .0) (a .1 .1 .1 .1 .1 .0 .now) (a .1 .1 .1 .1 .1 .1 .0)
-      (are .0 .1) (are .1 .1 .1 .0 .1) (are .1 .1 .1 .1 .0 .1) (are .1 .1 .1 .1 .1 .1 .0) (are .1 .0 .0 .1) (are .1 .1 .0 .0 .1)
+      walk 𝓤 H A W at-mem run (κs .0) (κs .1 .0) (κs .1 .1 .0) (κs .1 .1 .1 .0) (qs .0) (qs .1 .0) (qs .1 .1 .0) (qs .1 .1 .1 .0)
+      (spot-of (a .1 .0)) (spot-of (a .1 .1 .0)) (spot-of (a .1 .1 .1 .0)) (spot-of (a .1 .1 .1 .1 .1 .0))
+      (a .0) (a .1 .0 .now) (a .1 .1 .0 .now) (a .1 .1 .1 .0 .now) (a .1 .1 .1 .1 .0) (a .1 .1 .1 .1 .1 .0 .now) (a .1 .1 .1 .1 .1 .1 .0)
+      (are .0 .1) (are .1 .1 .1 .1 .0 .1) (are .1 .1 .1 .1 .1 .1 .0) (are .1 .0 .0 .1) (are .1 .1 .0 .0 .1) (are .1 .1 .1 .0 .0 .1)
       (are .1 .1 .1 .1 .1 .0 .0 .1) ok 𝓣 known-take known-step))
 
 scan-on-meets : {M : Type 1} (𝓤 : URA M) (H : Heap 𝓤) (A : Atoms 𝓤) → Given 𝓤 H A → (at-mem : Memory → SProp 𝓤) (run : Routine → Fun 𝓤) (𝓣 : Tables 𝓤 H)
@@ -617,20 +619,20 @@ scan-on-meets : {M : Type 1} (𝓤 : URA M) (H : Heap 𝓤) (A : Atoms 𝓤) →
     → Meets 𝓤 H A scan-on.signature (WpFn 𝓤 H (𝓣 .C) (𝓣 .Λ) code.function) (scan-on.spec 𝓤 H A at-mem run)
 scan-on-meets 𝓤 H A W at-mem run 𝓣 known-take known-step =
     walk-meets 𝓤 H A scan-on.ended stayed W (
-      goes-none 𝓤 H A W 3 (λ _. u16) yes (λ κs x f. refl),
+      goes-none 𝓤 H A W 4 (λ _. u16) yes (λ κs x f. refl),
       (
-        goes-none-slice 𝓤 H A W 3 (0 ∷ []) tt (plain (λ _. u8)) yes,
+        goes-none-slice 𝓤 H A W 4 (0 ∷ []) tt (plain (λ _. u8)) yes,
         (
-          goes-none-slice 𝓤 H A W 3 (1 ∷ []) tt (plain
+          goes-none-slice 𝓤 H A W 4 (1 ∷ []) tt (plain
               (λ _. u8)) yes,
           (
-            goes-none 𝓤 H A W 3 (λ _. usize) yes (λ κs x f. refl),
+            goes-none-slice 𝓤 H A W 4 (2 ∷ []) tt (plain (λ _. u64)) yes,
             (
-              goes-none 𝓤 H A W 3 (λ _. usize) yes (λ κs x f. refl),
+              goes-none 𝓤 H A W 4 (λ _. usize) yes (λ κs x f. refl),
               (
-                goes-slice 𝓤 H A W 3 2 tt (plain
+                goes-slice 𝓤 H A W 4 3 tt (plain
                     (λ _. u16)),
-                (goes-none 𝓤 H A W 3 (λ _. S.the-row) yes (λ κs x f. refl), tt),
+                (goes-none 𝓤 H A W 4 (λ _. S.the-row) yes (λ κs x f. refl), tt),
               ),
             ),
           ),

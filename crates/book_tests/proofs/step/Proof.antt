@@ -1,5 +1,5 @@
 -- `book_tests::step` meets its contract. What the tests say of the record, and the index with its number.
-use Prim.Native.Nat.{ℕ, _+_, _-_, _≤_, _<_}
+use Prim.Native.Nat.{ℕ, _-_, _≤_, _<_}
 use mathlib.Core.Path.{_≡_}
 use mathlib.Core.Bool.{true, false, _||_}
 use mathlib.Core.List.{List}
@@ -10,7 +10,6 @@ use Rattle.base.proofs.Tests.{never}
 use Rattle.format.specs.Layout.{rows, entries, entryAt}
 use Rattle.format.specs.Refusals.{badPair, badScores}
 use Rattle.records.specs.Records.{entryOf}
-use Rattle.case_tests.proofs.Cases.{pairs-found, few}
 use Rattle.book_tests.specs.Index.{pairsFrom}
 use Rattle.book_tests.specs.Scans.{badBy, Scanned}
 use Rattle.book_tests.proofs.Indexing.{Placed}
@@ -22,7 +21,7 @@ use Rattle.book_tests.proofs.step.Statement.{statement}
 use Rattle.book_tests.proofs.step.Tie as tie
 
 abbrev entry : tie.After-fails → tie.Start
-entry d = d .before .before .before .before .before .before
+entry d = d .before .before .before .before .before .before .before
 
 abbrev rows-of : tie.After-fails → ℕ
 rows-of d = d .before .before .row-count .result
@@ -77,29 +76,29 @@ located c book o =
     located-by (a .case .now) book (a .s .next) (comes (o .0) (entry d .pre .more)) (a .e) (o .1) (a .cause) (rows-of d) (place-at d)
     (d .before .before .row-count .ensures)
     (d .before .before .before .place-of .ensures) (d .before .is-unscored .result) (d .fails .result) (d .before .is-unscored .ensures) (d .fails .ensures)
-    (entry d .pre .clean) (c .before .if1 .left) (c .if2 .left)
+    (entry d .pre .prepared .clean) (c .before .if1 .left) (c .if2 .left)
 
-first-pair : (c : tie.Else2) → entry (here c) .args .students + entry (here c) .args .workshops ≡ pairsFrom (entry (here c) .args .case .now)
-first-pair c = let p = entry (here c) .pre .clean in omega (arith, p .students, p .workshops)
+first-pair : (c : tie.Else2) → entry (here c) .args .from ≡ pairsFrom (entry (here c) .args .case .now)
+first-pair c = entry (here c) .pre .prepared .from
 
 few-here : (c : tie.Else2) → entry (here c) .args .s .next ≤ 32768
 few-here c =
     let start = entry (here c) in
     let o = start .pre in
-    number-few (o .scanned) (start .pre .clean) (start .pre .room) (start .pre .more) (c .if2 .left) (place-at (here c))
+    number-few (o .scanned) (start .pre .prepared .clean) (start .pre .room) (start .pre .more) (c .if2 .left) (place-at (here c))
     (located c (o .book) (o .scanned, o .read))
 
 spot : (c : tie.Else2)
-    → (let a = entry (here c) .args in let from = a .students + a .workshops in (from ≤ place-at (here c)) × (place-at (here c) - from < 32768) × (place-at
-    (here c) - from < length (a .index .now)))
+    → (let a = entry (here c) .args in (a .from ≤ place-at (here c)) × (place-at (here c) - a .from < 32768)
+    × (place-at (here c) - a .from < length (a .index .now)))
 spot c =
     let start = entry (here c) in
     let o = start .pre in
-    spot-inside (o .scanned) (start .pre .clean) (start .pre .room) (start .pre .more) (c .if2 .left) (place-at (here c))
+    spot-inside (o .scanned) (start .pre .prepared .clean) (start .pre .room) (start .pre .more) (c .if2 .left) (place-at (here c))
     (located c (o .book) (o .scanned, o .read)) _ (first-pair c)
 
 place-of-requires : tie.Need-place-of-requires
-place-of-requires c κs = pairs-found _ _ _ (c .before .before .pre .clean) (λ k. omega (arith, c .before .shared-slice-known .given k))
+place-of-requires c κs = c .before .before .before .pre .prepared .tabled
 
 row-count-requires : tie.Need-row-count-requires
 row-count-requires c κs = search needs
@@ -115,7 +114,7 @@ stopped-requires c κs = search needs
 
 returns : tie.Need-returns
 returns c =
-    let start = c .before .before .before .before .before .before .before .before in (
+    let start = entry (c .before .before) in (
       rw (c .stopped .ensures) (stopped-on (start .pre .more)),
       λ book h q. rw (c .stopped .ensures) (scan-stop h (start .pre .more) (bad (c .before .before) book (h, q) (c .before .if1 .taken))),
     )
@@ -125,15 +124,12 @@ moved-requires c κs = search needs
 
 returns-2 : tie.Need-returns-2
 returns-2 c =
-    let start = c .before .before .before .before .before .before .before .before .before in (
+    let start = entry (c .before .before .before) in (
       rw (c .moved .ensures) (moved-on (start .pre .more)),
       λ book h q. rw (c .moved .ensures)
           (scan-move h (start .pre .more) (good (c .before .before .before) book (h, q) (c .before .before .if1 .left) (c .before .if2 .taken))
           (h .long) (λ f. never (c .before .if2 .taken) f)),
     )
-
-add-k : tie.Need-add-k
-add-k c = let start = entry (here c) in omega (arith, few (start .args .case .now) (start .args .students) (start .args .workshops) (start .pre .clean))
 
 sub-k : tie.Need-sub-k
 sub-k c = spot c .0
@@ -153,7 +149,7 @@ returns-3 c =
     let start = entry (here d) in (
       rw (c .stopped2 .ensures) (stopped-on (start .pre .more)),
       λ book h q. rw (c .stopped2 .ensures)
-          (step-stop h (start .pre .clean) (start .pre .room) (start .pre .more) (d .if2 .left) (place-at (here d)) (located d book (h, q)) _
+          (step-stop h (start .pre .prepared .clean) (start .pre .room) (start .pre .more) (d .if2 .left) (place-at (here d)) (located d book (h, q)) _
           (first-pair d) (c .before .if3 .taken)),
     )
 
@@ -181,7 +177,7 @@ returns-4 c =
     let start = entry (here d) in (
       rw (c .moved2 .ensures) (moved-on (start .pre .more)),
       λ book h q. rw (c .moved2 .ensures)
-          (step-fill h (start .pre .clean) (start .pre .room) (start .pre .more) (d .if2 .left) (place-at (here d)) (located d book (h, q)) _
+          (step-fill h (start .pre .prepared .clean) (start .pre .room) (start .pre .more) (d .if2 .left) (place-at (here d)) (located d book (h, q)) _
           (first-pair d) (parts d book (h, q)) (c .before .before .if3 .left)),
     )
 
@@ -197,7 +193,6 @@ step-spec =
     returns
     moved-requires
     returns-2
-    add-k
     sub-k
     mul-if3
     slice-read-if3

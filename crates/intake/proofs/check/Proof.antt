@@ -10,13 +10,13 @@ use Rattle.case_tests.specs.Checked.{CleanCase, pairCount, checkedOf, caseRefus
 use Rattle.case_tests.proofs.Cases.{as-refused, as-clean, none-clean}
 use Rattle.book_tests.specs.Index.{bookRefusal, indexAfter}
 use Rattle.intake.specs.Tested.{lengthsOf}
-use Rattle.intake.proofs.Joining.{refusal-case, refusal-room, refusal-book, refused-tested, room-is, room-index}
+use Rattle.intake.proofs.Joining.{refusal-case, refusal-room, refusal-book, refused-tested, room-is, room-index, clean-stands}
 use borrow.Author.Needs.{needs}
 use Rattle.intake.proofs.check.Statement.{statement}
 use Rattle.intake.proofs.check.Tie as tie
 
 abbrev entry : tie.After-students → tie.Start
-entry e = e .before .before .before .before .before .before .before .before .before .before
+entry e = e .before .before .before .before .before .before .before .before .before .before .before
 
 -- what the case's answer says where it is clean
 answer : (e : tie.After-students)
@@ -77,21 +77,30 @@ returns c =
     (refusal-room (a .case .now) (a .book .now) room (answer e .0) (tested (c .before .before) ∙ c .before .if1 .taken)) (c .refused2 .ensures)
     (c .before .before .before .before .before .before .before .before .before .before .clear .ensures)
 
+build-requires : tie.Need-build-requires
+build-requires c κs = let e = c .before .before .before .before .before in (clean-stands _ _ _ (tidy e), entry e .pre)
+
 check-book-requires : tie.Need-check-book-requires
 check-book-requires c κs =
-    let e = c .before .before .before .before .before in
+    let e = c .before .before .before .before .before .before .before .before .before .before in
     let a = entry e .args in
     let p = answer e .3 in
-    let clear = c .before .before .before .before .before .before .before .before .before .before .clear in
-    let enough = room-index (a .case .now) (lengthsOf (a .room) (length (a .index .now))) (tested (c .before .before) ∙ c .before .if1 .left) in
-    (tidy e, (p, omega (arith, p, enough, clear .kept .0), clear .ensures ∙ ap (λ k. replicate k 0) (sym (clear .kept .0))))
+    let clear = c .before .before .before .before .before .before .before .before .before .before .before .before .before .before .before .clear in
+    let lacks = c .before .before .before .before .before .before in
+    let enough = room-index (a .case .now) (lengthsOf (a .room) (length (a .index .now))) (tested (lacks .before) ∙ lacks .if1 .left) in (
+      tidy e,
+      (
+        c .before .before .before .before .build .ensures,
+        (p, omega (arith, p, enough, clear .kept .0), clear .ensures ∙ ap (λ k. replicate k 0) (sym (clear .kept .0))),
+      ),
+    )
 
 same-length-2 : tie.Need-same-length-2
 same-length-2 c = search needs
 
 returns-2 : tie.Need-returns-2
 returns-2 c =
-    let a = c .before .before .before .before .before .before .before .before .before .before .before .before .args in
+    let a = c .before .before .before .before .before .before .before .before .before .before .before .before .before .args in
     let room = lengthsOf (a .room) (length (a .index .now)) in
     let x = c .before .before .cause .given in
     let r = as-refused (a .case .now) (caseRefusal (a .case .now)) (x .0 .0) (x .0 .1 .0)
@@ -102,21 +111,21 @@ returns-2 c =
 same-length-3 : tie.Need-same-length-3
 same-length-3 c = search needs
 
+same-length-4 : tie.Need-same-length-4
+same-length-4 c = search needs
+
 returns-3 : tie.Need-returns-3
 returns-3 c =
-    let e = c .before .before .before .before .before .before .before .before in
+    let e = c .before .before .before .before .before .before .before .before .before .before .before .before .before in
     let a = entry e .args in
     let room = lengthsOf (a .room) (length (a .index .now)) in
+    let lacks = c .before .before .before .before .before .before .before .before .before in
     let done = c .before .before .check-book in
-    let o = refusal-book (a .case .now) (a .book .now) room (answer e .0)
-    (tested (c .before .before .before .before .before) ∙ c .before .before .before .before .if1 .left) in
+    let o = refusal-book (a .case .now) (a .book .now) room (answer e .0) (tested (lacks .before) ∙ lacks .if1 .left) in
     record {
       answer = done .ensures .0 ∙ ap (λ o. checkedOf o (a .case .now)) (sym o);
-      left = done .ensures .1 ∙ rw (
-        c .before .before .before .before .before .before .before .before .before .before .before .before .before .clear
-            .kept .0,
-        o,
-      );
+      left = done .ensures .1 ∙ rw (c .before .before .before .before .before .before .before .before .before .before .before .before .before .before .before .before .before .before .clear .kept .0, o);
+      tabled = λ n. c .before .before .before .before .before .before .before .build .ensures;
     }
 
 pub check-spec : {M : Type 1} → statement M
@@ -133,8 +142,10 @@ check-spec =
     refused-requires-2
     same-length
     returns
+    build-requires
     check-book-requires
     same-length-2
     returns-2
     same-length-3
+    same-length-4
     returns-3)

@@ -8,8 +8,8 @@ use Rattle.base.specs.Search.{firstBad}
 use Rattle.base.proofs.Search.{some-by, none-by}
 use Rattle.format.specs.Layout.{rows, entries, entryCount}
 use Rattle.format.specs.Refusals.{badTie}
-use Rattle.case_tests.proofs.Cases.{sound, whole-none, whole-some, clean-as}
-use Rattle.book_tests.specs.Index.{badAny, bookRefusal, lentIndex, indexAfter}
+use Rattle.case_tests.proofs.Cases.{few, sound, whole-none, whole-some, clean-as}
+use Rattle.book_tests.specs.Index.{Prepared, badAny, bookRefusal, lentIndex, indexAfter}
 use Rattle.book_tests.proofs.Books.{book-7, book-11, book-clean, refused-with}
 use Rattle.book_tests.proofs.Indexing.{all-paired, all-scored, all-fresh}
 use Rattle.ties.specs.Ties.{Indexed}
@@ -18,7 +18,17 @@ use Rattle.intake.proofs.check_book.Statement.{statement}
 use Rattle.intake.proofs.check_book.Tie as tie
 
 abbrev entry : tie.Else2 → tie.Start
-entry d = d .before .before .before .before .before .before .before .before .before .before
+entry d = d .before .before .before .before .before .before .before .before .before .before .before
+
+-- what the tests of the book need
+prepared : (start : tie.Start) → Prepared (start .args .case .now) (start .args .table .now) (start .args .students + start .args .workshops)
+prepared start =
+    let a = start .args in
+    record {
+      clean = sound (a .case .now) (a .students) (a .workshops) (start .pre .0);
+      tabled = start .pre .1 .0;
+      from = omega (arith, start .pre .0 .students, start .pre .0 .workshops);
+    }
 
 -- causes 8 to 10 find nothing when the fill goes through
 fine : (d : tie.Else2) → firstBad (badAny (rows (entry d .args .case .now)) (entries (entry d .args .book .now))) (entryCount (entry d .args .book .now)) ≡ none
@@ -47,12 +57,12 @@ indexed d =
     let start = entry d in
     let a = start .args in
     record {
-      sound = sound (a .case .now) (a .students) (a .workshops) (start .pre .0);
+      sound = prepared start .clean;
       paired = all-paired (a .case .now) (a .book .now) (fine d);
       fresh = all-fresh (a .case .now) (a .book .now) (fine d);
       made = made d ∙ ap (λ k. lentIndex (a .case .now) (a .book .now) (entryCount (a .book .now)) k) (sym (as-long d));
-      room = omega (arith, start .pre .1, as-long d);
-      from = omega (arith, start .pre .0 .students, start .pre .0 .workshops);
+      room = omega (arith, start .pre .1 .1, as-long d);
+      from = prepared start .from;
     }
 
 entry-count-requires : tie.Need-entry-count-requires
@@ -63,29 +73,37 @@ refused-requires c κs = search needs
 
 returns : tie.Need-returns
 returns c =
-    let start = c .before .before .before .before .before .before in
+    let start = c .before .before .before .before .before .before .before in
     let a = start .args in
     refused-with (a .case .now) (a .book .now) _ 7 0 _ _ _
-    (book-7 (a .case .now) (a .book .now) (whole-some (length (a .book .now) % 8) (c .before .if1 .taken))) (c .refused .ensures) (start .pre .1 .2)
+    (book-7 (a .case .now) (a .book .now) (whole-some (length (a .book .now) % 8) (c .before .if1 .taken))) (c .refused .ensures) (start .pre .1 .1 .2)
+
+add-from : tie.Need-add-from
+add-from c =
+    let start = c .before .before .before .before .before .before in
+    let a = start .args in
+    omega (arith, few (a .case .now) (a .students) (a .workshops) (start .pre .0))
 
 fill-requires : tie.Need-fill-requires
-fill-requires c κs = search needs
+fill-requires c κs =
+    let start = c .before .before .before .before .before .before .before in
+    (prepared start, (omega (arith, start .pre .1 .1), start .pre .1 .1 .2))
 
 book-fault-requires : tie.Need-book-fault-requires
 book-fault-requires c κs =
-    let start = c .before .before .before .before .before .before .before .before .before .before .before in
+    let start = c .before .before .before .before .before .before .before .before .before .before .before .before in
     let a = start .args in
     let fill = c .before .before .before .before .fill in
     let found = some-by (badAny (rows (a .case .now)) (entries (a .book .now))) (entryCount (a .book .now)) (fill .result) (fill .ensures .0)
     (omega (arith, c .before .if2 .taken, c .before .before .before .before .before .before .before .entry-count .ensures)) in
-    (start .pre .0, ((c .before .before .before .before .before .before .if1 .left, omega (arith, start .pre .1, fill .kept .1 .1 .1 .1 .0)), found))
+    (prepared start, ((c .before .before .before .before .before .before .if1 .left, omega (arith, start .pre .1 .1, fill .kept .1 .1 .1 .1 .0)), found))
 
 same-length : tie.Need-same-length
 same-length c = search needs
 
 returns-2 : tie.Need-returns-2
 returns-2 c =
-    let a = c .before .before .before .before .before .before .before .before .before .before .before .before .before .before .args in
+    let a = c .before .before .before .before .before .before .before .before .before .before .before .before .before .before .before .args in
     let fault = c .before .before .book-fault in (
       fault .ensures .0,
       fault .ensures .1 ∙ ap (λ k. indexAfter (bookRefusal (a .case .now) (a .book .now)) (a .case .now) (a .book .now) k)
@@ -93,7 +111,7 @@ returns-2 c =
     )
 
 first-tie-requires : tie.Need-first-tie-requires
-first-tie-requires c κs = let p = entry (c .before) .pre .0 in (indexed (c .before), (p .students, p .workshops))
+first-tie-requires c κs = let start = entry (c .before) in (indexed (c .before), (start .pre .1 .0, (start .pre .0 .students, start .pre .0 .workshops)))
 
 clear-requires : tie.Need-clear-requires
 clear-requires c κs = search needs
@@ -132,7 +150,7 @@ returns-4 c =
     (all-paired (a .case .now) (a .book .now) (fine d)) (all-scored (a .case .now) (a .book .now) (fine d))
     (all-fresh (a .case .now) (a .book .now) (fine d)) none-tie in (
       sym (clean-as (a .case .now) _ (a .students) (a .workshops) (a .pairs) o (start .pre .0 .students) (start .pre .0 .workshops)
-          (start .pre .1 .0)),
+          (start .pre .1 .1 .0)),
       rw o (made d),
     )
 
@@ -143,6 +161,7 @@ check-book-spec =
     entry-count-requires
     refused-requires
     returns
+    add-from
     fill-requires
     book-fault-requires
     same-length

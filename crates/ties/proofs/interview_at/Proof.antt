@@ -49,29 +49,17 @@ record-inside c =
     at-inside (a .case .now) (a .book .now) (a .index .now) (a .from) (start .pre .0) (a .student) (start .pre .1 .0) (a .y) (a .p) (start .pre .1 .1)
     (omega (arith, c .if1 .left))
 
-tier-at-requires : tie.Need-tier-at-requires
-tier-at-requires c κs = c .before .before .before .before .before .pre .1 .1 .inside
-
-cast-biased-at : tie.Need-cast-biased-at
-cast-biased-at c = omega (arith, record-inside (c .before))
-
-sub-biased-at : tie.Need-sub-biased-at
-sub-biased-at c = omega (arith, c .before .if1 .left)
-
-biased-at-requires : tie.Need-biased-at-requires
-biased-at-requires c κs = record-inside (c .before)
-
-joined-requires : tie.Need-joined-requires
-joined-requires c κs = search needs
+key-at-requires : tie.Need-key-at-requires
+key-at-requires c κs = (c .before .before .before .before .before .pre .1 .1 .inside, omega (arith, c .if1 .left), record-inside c)
 
 returns-2 : tie.Need-returns-2
 returns-2 c = λ x s.
-    let start = c .before .before .before .before .before .before .before .before in
+    let start = c .before .before .before .before .before .before in
     let a = start .args in
-    let l = c .before .before .before .if1 .left in (
+    let l = c .before .if1 .left in (
       at-number (a .case .now) (a .book .now) (a .index .now) (a .from) (start .pre .0) (a .student) x (a .y) (a .p) s,
-      c .joined .ensures ∙ rw (c .before .before .tier-at .ensures, c .before .biased-at .ensures)
-          (sym (at-key (a .case .now) (a .book .now) (a .index .now) (a .from) (start .pre .0) (a .student) x (a .y) (a .p) s (omega (arith, l)))),
+      c .key-at .ensures
+          ∙ sym (at-key (a .case .now) (a .book .now) (a .index .now) (a .from) (start .pre .0) (a .student) x (a .y) (a .p) s (omega (arith, l))),
     )
 
 pub interview-at-spec : {M : Type 1} → statement M
@@ -83,9 +71,5 @@ interview-at-spec =
     shared-slice-read-number
     no-interview-requires
     returns
-    tier-at-requires
-    cast-biased-at
-    sub-biased-at
-    biased-at-requires
-    joined-requires
+    key-at-requires
     returns-2)
