@@ -31,8 +31,7 @@ use Rattle.case_tests.specs.Checked.{CleanCase, pairCount}
 use Rattle.case_tests.proofs.Cases.{clean, pairs-found}
 use Rattle.book_tests.specs.Index.{fromOne, lentIndex}
 use Rattle.book_tests.proofs.Indexing.{Placed, placed-by, index-at, lent-length, any-number}
-use Rattle.tables.specs.Table.{Tabled, Standing}
-use Rattle.tables.proofs.Standing.{standing}
+use Rattle.tables.specs.Table.{Tabled}
 
 module _ (case book : List ℕ) (c : CleanCase case (marketIn case .students) (marketIn case .workshops)) (passed : Passed case book)
     (bytes : (k : ℕ) → getD case k 0 < 256) (lent : ℕ) (room : pairCount case ≤ lent) where
@@ -193,11 +192,3 @@ pub valid-clean : (case book : List ℕ) (room : Room) → Valid case book room 
     → Clean case book (lentIndex case book (entryCount book) (room .index)) table (marketIn case .students) (marketIn case .workshops)
 valid-clean case book room valid bytes =
     all-clean case book (clean-case case book room valid) (passed case book room valid) bytes (room .index) (enough case book room valid .index)
-
--- the records stand where the maker of the table needs them
-pub valid-stands : (case book : List ℕ) (room : Room) → Valid case book room → ((k : ℕ) → getD case k 0 < 256)
-    → Standing case (marketIn case .students) (marketIn case .workshops)
-valid-stands case book room valid bytes =
-    let c = clean-case case book room valid in
-    let found = pairs-found case (marketIn case .students) (marketIn case .workshops) c bytes in
-    standing case (clean case (marketIn case .students) (marketIn case .workshops) c) (found .manyStudents) (found .manyWorkshops)

@@ -16,16 +16,15 @@ use Rattle.case_tests.specs.declared.Checked.the-variants.{Refused as Halts, Co
 use Rattle.case_tests.specs.Checked.{pairCount}
 use Rattle.case_tests.proofs.Cases.{as-refused, as-clean}
 use Rattle.intake.specs.Tested.{Tested}
-use Rattle.tables.specs.Table.{Tabled, Standing}
 use Rattle.answering.specs.declared.Prepared.{Prepared}
 use Rattle.answering.specs.Steps.{Halted, Started, Found, noRun}
-use Rattle.answering.proofs.Cleaning.{valid-clean, valid-stands}
+use Rattle.answering.proofs.Cleaning.{valid-clean}
 
-module _ (case book index : List ℕ) (room : Room) (checked : Checked) (says : Tested case book room checked index) where
-  pub found-halted : (table : List ℕ) (k i : ℕ) → checked ≡ Halts k i → (p : Prepared)
+module _ (case book index table : List ℕ) (room : Room) (checked : Checked) (says : Tested case book room checked index table) where
+  pub found-halted : (k i : ℕ) → checked ≡ Halts k i → (p : Prepared)
       → p ≡ record { run = noRun; cause = k; «record» = i; students = 0; workshops = 0 }
       → Found case book index table p (refusal case book room)
-  found-halted table k i e p h =
+  found-halted k i e p h =
       subst (λ (o : Option (ℕ × ℕ)). Found case book index table p o) (sym (as-refused case (refusal case book room) k i (sym e ∙ says .answer)))
       (record {
         run = ap (λ q. q .run) h;
@@ -38,20 +37,14 @@ module _ (case book index : List ℕ) (room : Room) (checked : Checked) (says : 
     free : (refusal case book room ≡ none) × (n ≡ marketIn case .students) × (m ≡ marketIn case .workshops) × (k ≡ pairCount case)
     free = as-clean case (refusal case book room) n m k (sym e ∙ says .answer)
 
-    pub clean : (table : List ℕ) → Tabled case table → Clean case book index table n m
-    clean table t =
+    pub clean : Clean case book index table n m
+    clean =
         rw (says .left, free .0, free .1, free .2)
-        (valid-clean case book room (refusal-none case book room (free .0)) bytes table t)
+        (valid-clean case book room (refusal-none case book room (free .0)) bytes table (says .tabled (free .0)))
 
-    -- the records stand where the maker of the table needs them
-    pub stands : Standing case n m
-    stands =
-        rw (free .1, free .2)
-        (valid-stands case book room (refusal-none case book room (free .0)) bytes)
-
-    pub found-started : (table : List ℕ) → Tabled case table → (p : Prepared)
+    pub found-started : (p : Prepared)
         → p .run ≡ beginRun (marketIn case) (resultsIn book) → p .cause ≡ 0 → p .students ≡ n → p .workshops ≡ m
         → Found case book index table p (refusal case book room)
-    found-started table t p r c s w =
+    found-started p r c s w =
         subst (λ (o : Option (ℕ × ℕ)). Found case book index table p o) (sym (free .0))
-        (record { cause = c; run = r; clean = rw (s, w) (clean table t) })
+        (record { cause = c; run = r; clean = rw (s, w) clean })

@@ -80,7 +80,7 @@ pub fn prepare(
         states,
     };
     records::clear(&mut *seats);
-    let checked = intake::check(case, book, room, &mut *index);
+    let checked = intake::check(case, book, room, &mut *index, &mut *table);
     match checked {
         Checked::Refused { cause, record } => {
             let run = no_run();
@@ -97,7 +97,6 @@ pub fn prepare(
             workshops,
             pairs: _,
         } => {
-            tables::build(case, students, workshops, &mut *table);
             let run = turning::begin_run(case, students);
             Prepared {
                 run,

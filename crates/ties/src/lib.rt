@@ -266,7 +266,7 @@ fn student_shares(
 
 // For each student the first of her pair records.
 fn first_cursors(table: &[u64], students: usize, next: &mut [u16])
-    requires { ⌜ (length (now table) ≡ 1088) × (students ≤ 512) × (length (now next) ≡ 512) ⌝ }
+    requires { ⌜ (length (now table) ≡ 1089) × (students ≤ 512) × (length (now next) ≡ 512) ⌝ }
     ensures { λ _. ⌜ Cursors (now (table .entry)) (now (next .exit)) students 0 1 ⌝ }
 {
     let mut k = 0;

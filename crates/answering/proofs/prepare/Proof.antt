@@ -5,7 +5,7 @@ use native.Mathlib.Omega.{arith}
 use lib.ListN.{length}
 use Rattle.format.specs.Engine.{resultsIn}
 use Rattle.api.specs.Answered.{roomOf}
-use Rattle.answering.proofs.Preparing.{found-halted, found-started, clean, stands}
+use Rattle.answering.proofs.Preparing.{found-halted, found-started, clean}
 use borrow.Author.Needs.{needs}
 use Rattle.answering.proofs.prepare.Statement.{statement}
 use Rattle.answering.proofs.prepare.Tie as tie
@@ -22,39 +22,23 @@ enum-known-checked c = search needs
 no-run-requires : tie.Need-no-run-requires
 no-run-requires c κs = search needs
 
-cast-t24 : tie.Need-cast-t24
-cast-t24 c = search needs
+cast-t26 : tie.Need-cast-t26
+cast-t26 c = search needs
 
 enum-known-checked-2 : tie.Need-enum-known-checked-2
 enum-known-checked-2 c = search needs
 
-build-requires : tie.Need-build-requires
-build-requires c κs =
-    let read = c .before .before .before .before .before .before in
-    let tested = read .check in
-    let known = read .before .before .before .before .before .before .before .before .before .before in
-    let start = known .before in
-    let v = c .before .before .checked2 .given in
-    let room = roomOf (start .args .places) (start .args .visits) (length (start .args .seats .now)) (length (start .args .index .now)) (start .args .states) in
-    let byte = known .shared-slice-known .given in (
-      stands (start .args .case .now) (start .args .book .now) (tested .last .1 .1 .1 .0) room (tested .result) (tested .ensures)
-          (v .0 .0) (v .0 .1 .0) (v .0 .1 .1 .0) (v .1)
-          (λ j. omega (arith, byte j)),
-      start .pre,
-    )
-
 begin-run-requires : tie.Need-begin-run-requires
 begin-run-requires c κs =
-    let read = c .before .before .before .before .before .before .before .before .before in
+    let read = c .before .before .before .before .before .before .before in
     let tested = read .check in
-    let known = read .before .before .before .before .before .before .before .before .before .before in
+    let known = read .before .before .before .before .before .before .before .before .before .before .before in
     let start = known .before in
-    let v = c .before .before .before .before .before .checked2 .given in
     let room = roomOf (start .args .places) (start .args .visits) (length (start .args .seats .now)) (length (start .args .index .now)) (start .args .states) in
     let byte = known .shared-slice-known .given in
-    let k = clean (start .args .case .now) (start .args .book .now) (tested .last .1 .1 .1 .0) room (tested .result) (tested .ensures)
-    (v .0 .0) (v .0 .1 .0) (v .0 .1 .1 .0) (v .1)
-    (λ j. omega (arith, byte j)) _ (c .before .before .build .ensures) in
+    let v = c .before .checked2 .given in
+    let k = clean (start .args .case .now) (start .args .book .now) (tested .last .1 .1 .1 .0) (tested .last .1 .1 .1 .1 .0) room (tested .result)
+    (tested .ensures) (v .0 .0) (v .0 .1 .0) (v .0 .1 .1 .0) (v .1) (λ j. omega (arith, byte j)) in
     ((sym (k .students), k .manyStudents), k .student)
 
 same-length : tie.Need-same-length
@@ -63,23 +47,24 @@ same-length c = search needs
 same-length-2 : tie.Need-same-length-2
 same-length-2 c = search needs
 
+same-length-3 : tie.Need-same-length-3
+same-length-3 c = search needs
+
 returns : tie.Need-returns
 returns c =
-    let read = c .before .before .before .before .before .before in
+    let read = c .before .before .before .before .before .before .before .before in
     let tested = read .check in
-    let known = read .before .before .before .before .before .before .before .before .before .before in
+    let known = read .before .before .before .before .before .before .before .before .before .before .before in
     let start = known .before in
-    let v = c .before .before .checked .given in
     let room = roomOf (start .args .places) (start .args .visits) (length (start .args .seats .now)) (length (start .args .index .now)) (start .args .states) in
+    let v = c .before .before .checked .given in
     record {
-      cleared = c .before .before .before .before .before .before .before .before .before .before .clear .ensures;
-      found = found-halted (start .args .case .now) (start .args .book .now) (tested .last .1 .1 .1 .0) room (tested .result) (tested .ensures) _ (v .0 .0) (v .0 .1 .0) (v .1) _
+      cleared = read .before .before .before .before .before .clear .ensures;
+      found = found-halted (start .args .case .now) (start .args .book .now) (tested .last .1 .1 .1 .0) (tested .last .1 .1 .1 .1 .0) room (tested .result)
+          (tested .ensures) (v .0 .0) (v .0 .1 .0) (v .1) _
           (ap (λ r. record { run = r; cause = v .0 .0; «record» = v .0 .1 .0; students = 0; workshops = 0 }) (c .no-run .ensures));
       left = tested .ensures .left;
     }
-
-same-length-3 : tie.Need-same-length-3
-same-length-3 c = search needs
 
 same-length-4 : tie.Need-same-length-4
 same-length-4 c = search needs
@@ -87,21 +72,23 @@ same-length-4 c = search needs
 same-length-5 : tie.Need-same-length-5
 same-length-5 c = search needs
 
+same-length-6 : tie.Need-same-length-6
+same-length-6 c = search needs
+
 returns-2 : tie.Need-returns-2
 returns-2 c =
-    let read = c .before .before .before .before .before .before .before .before .before .before in
+    let read = c .before .before .before .before .before .before .before .before in
     let tested = read .check in
-    let known = read .before .before .before .before .before .before .before .before .before .before in
+    let known = read .before .before .before .before .before .before .before .before .before .before .before in
     let start = known .before in
-    let v = c .before .before .before .before .before .before .checked2 .given in
     let room = roomOf (start .args .places) (start .args .visits) (length (start .args .seats .now)) (length (start .args .index .now)) (start .args .states) in
     let byte = known .shared-slice-known .given in
+    let v = c .before .before .checked2 .given in
     record {
-      cleared = c .before .before .before .before .before .before .before .before .before .before .before .before .before .before .clear .ensures;
-      found = found-started (start .args .case .now) (start .args .book .now) (tested .last .1 .1 .1 .0) room (tested .result) (tested .ensures)
-          (v .0 .0) (v .0 .1 .0) (v .0 .1 .1 .0) (v .1)
-          (λ j. omega (arith, byte j))
-          _ (c .before .before .before .build .ensures) _ (c .begin-run .ensures (resultsIn (start .args .book .now))) refl refl refl;
+      cleared = read .before .before .before .before .before .clear .ensures;
+      found = found-started (start .args .case .now) (start .args .book .now) (tested .last .1 .1 .1 .0) (tested .last .1 .1 .1 .1 .0) room (tested .result)
+          (tested .ensures) (v .0 .0) (v .0 .1 .0) (v .0 .1 .1 .0) (v .1) (λ j. omega (arith, byte j)) _
+          (c .begin-run .ensures (resultsIn (start .args .book .now))) refl refl refl;
       left = tested .ensures .left;
     }
 
@@ -113,14 +100,14 @@ prepare-spec =
     check-requires
     enum-known-checked
     no-run-requires
-    cast-t24
+    cast-t26
     enum-known-checked-2
-    build-requires
     begin-run-requires
     same-length
     same-length-2
-    returns
     same-length-3
+    returns
     same-length-4
     same-length-5
+    same-length-6
     returns-2)
