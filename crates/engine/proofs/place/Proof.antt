@@ -563,7 +563,8 @@ module _ {M : Type 1} (𝓤 : URA M) (H : Heap 𝓤) (A : Atoms 𝓤) (W : Given
   }
 
   ready-read : (g : Prep) (h : Ran g) → CanRead (h .states₂) places (toPlace (g .p) (h .r))
-  ready-read g h = can-read case book places visits seats index ys (g .p) (g .seats₁) (g .index₁) (g .table₁) (g .prepared) (h .visits₂) (h .seats₂) (h .states₂)
+  ready-read g h = can-read case book places visits seats index ys (g .p) (g .seats₁) (g .index₁) (g .table₁) (g .prepared) (h .visits₂) (h .seats₂)
+      (h .states₂)
       (h .r) (h .ran)
 
   -- the places at the end
@@ -577,7 +578,8 @@ module _ {M : Type 1} (𝓤 : URA M) (H : Heap 𝓤) (A : Atoms 𝓤) (W : Given
       (known-clear : Triple 𝓤 (C #engine·clear-states) (ClearOf 𝓤 H A mem run)) (known-run : Triple 𝓤 (C #engine·run-all) (RunOf 𝓤 H A mem run))
       (known-to-place : Triple 𝓤 (C #answering·to-place) (ToPlaceOf 𝓤 H A mem run)) (known-read : Triple 𝓤 (C #engine·read-places) (ReadOf 𝓤 H A mem run))
       (known-finish : Triple 𝓤 (C #answering·finish) (FinishOf 𝓤 H A mem run))
-      (l₀ l₁ l₂ l₃ l₄ l₅ l₆ l₇ l₈ l₉ l₁₀ l₁₁ l₁₂ l₁₃ l₁₄ l₁₅ l₁₆ l₁₇ l₁₈ l₁₉ l₂₀ l₂₁ l₂₂ l₂₃ l₂₄ l₂₅ l₂₆ l₂₇ l₂₈ l₂₉ l₃₀ l₃₁ l₃₂ l₃₃ l₃₄ l₃₅ l₃₆ l₃₇ l₃₈ l₃₉ l₄₀ l₄₁ l₄₂
+      (l₀ l₁ l₂ l₃ l₄ l₅ l₆ l₇ l₈ l₉ l₁₀ l₁₁ l₁₂ l₁₃ l₁₄ l₁₅ l₁₆ l₁₇ l₁₈ l₁₉ l₂₀ l₂₁ l₂₂ l₂₃ l₂₄ l₂₅ l₂₆ l₂₇ l₂₈ l₂₉ l₃₀ l₃₁ l₃₂ l₃₃ l₃₄ l₃₅ l₃₆ l₃₇ l₃₈ l₃₉
+      l₄₀ l₄₁ l₄₂
       l₄₃ l₄₄ l₄₅ l₄₆ : ℕ) where
     abbrev En : Env 𝓤 H
     En =
@@ -620,7 +622,8 @@ module _ {M : Type 1} (𝓤 : URA M) (H : Heap 𝓤) (A : Atoms 𝓤) (W : Given
     Tab g = ‵ (cells (cell u64) (g .table₁) l₁₁ 0)
 
     -- `finish` is called, and the answer returned
-    finishing : (g : Prep) (h : Ran g) → Sq W (Ctx zeros (g .index₁) (h .seats₂) (h .visits₂) (read-at g h) (Tab g) (‵ (fat fullShare P′.mir l₁₂ 0 (P′.lowered (g .p))))
+    finishing : (g : Prep) (h : Ran g) → Sq W (Ctx zeros (g .index₁) (h .seats₂) (h .visits₂) (read-at g h) (Tab g) (‵ (fat fullShare P′.mir l₁₂ 0
+        (P′.lowered (g .p))))
         (‵ (fat fullShare S′.mir l₁₆ 0 (S′.lowered (h .r)))))
         (runs C Λ En code-mir.t-38 (atRet En Post))
     finishing g h =
@@ -659,9 +662,21 @@ module _ {M : Type 1} (𝓤 : URA M) (H : Heap 𝓤) (A : Atoms 𝓤) (W : Given
         move ! (14 ∷ []) $ local-out ! u64 long-kind entries l₁₁ (g .table₁) (g .longₜ) $
         move ! (1 ∷ 2 ∷ 3 ∷ 4 ∷ 5 ∷ 6 ∷ 7 ∷ 8 ∷ 9 ∷ 10 ∷ 11 ∷ 12 ∷ 13 ∷ 14 ∷ []) $
         returns ! (look ! 106 refl) $
-        forget ! 14 refl $ forget ! 15 refl $ forget ! 17 refl $ forget ! 19 refl $ forget ! 21 refl $ forget ! 75 refl $ forget ! 83 refl $ forget ! 92 refl $ forget ! 94 refl $ forget ! 96 refl $ forget ! 98 refl $ forget ! 100 refl $ forget ! 102 refl $ forget ! 104 refl $ forget ! 106 refl $
-        move ! (106 ∷ 107 ∷ []) $ free1 ! $ move ! (104 ∷ 105 ∷ []) $ free1 ! $ move ! (102 ∷ 103 ∷ []) $ free1 ! $ move ! (100 ∷ 101 ∷ []) $ free1 ! $ move ! (98 ∷ 99 ∷ []) $ free1 ! $ move ! (96 ∷ 97 ∷ []) $ free1 ! $ move ! (94 ∷ 95 ∷ []) $ free1 ! $ move ! (92 ∷ 93 ∷ []) $ free1 ! $ move ! (90 ∷ 91 ∷ []) $ free1 ! $ move ! (88 ∷ 89 ∷ []) $ free1 ! $ move ! (86 ∷ 87 ∷ []) $ free1 ! $
-        move ! (14 ∷ 85 ∷ []) $ free1 ! $ move ! (82 ∷ 83 ∷ []) $ free1 ! $ move ! (80 ∷ 81 ∷ []) $ free1 ! $ move ! (78 ∷ 79 ∷ []) $ free1 ! $ move ! (76 ∷ 77 ∷ []) $ free1 ! $ move ! (74 ∷ 75 ∷ []) $ free1 ! $ move ! (72 ∷ 73 ∷ []) $ free1 ! $ move ! (70 ∷ 71 ∷ []) $ free1 ! $ move ! (68 ∷ 69 ∷ []) $ free1 ! $ move ! (66 ∷ 67 ∷ []) $ free1 ! $ move ! (64 ∷ 65 ∷ []) $ free1 ! $ move ! (62 ∷ 63 ∷ []) $ free1 ! $ move ! (60 ∷ 61 ∷ []) $ free1 ! $ move ! (58 ∷ 59 ∷ []) $ free1 ! $ move ! (56 ∷ 57 ∷ []) $ free1 ! $ move ! (54 ∷ 55 ∷ []) $ free1 ! $ move ! (52 ∷ 53 ∷ []) $ free1 ! $ move ! (50 ∷ 51 ∷ []) $ free1 ! $ move ! (48 ∷ 49 ∷ []) $ free1 ! $ move ! (46 ∷ 47 ∷ []) $ free1 ! $ move ! (44 ∷ 45 ∷ []) $ free1 ! $ move ! (42 ∷ 43 ∷ []) $ free1 ! $ move ! (40 ∷ 41 ∷ []) $ free1 ! $ move ! (38 ∷ 39 ∷ []) $ free1 ! $ move ! (36 ∷ 37 ∷ []) $ free1 ! $ move ! (34 ∷ 35 ∷ []) $ free1 ! $ move ! (32 ∷ 33 ∷ []) $ free1 ! $ move ! (30 ∷ 31 ∷ []) $ free1 ! $ move ! (28 ∷ 29 ∷ []) $ free1 ! $ move ! (26 ∷ 27 ∷ []) $ free1 ! $ move ! (24 ∷ 25 ∷ []) $ free1 ! $ move ! (22 ∷ 23 ∷ []) $ free1 ! $ move ! (20 ∷ 21 ∷ []) $ free1 ! $ move ! (18 ∷ 19 ∷ []) $ free1 ! $ move ! (16 ∷ 17 ∷ []) $ free1 ! $ move ! (14 ∷ 15 ∷ []) $ free1 ! $ free0 ! $
+        forget ! 14 refl $ forget ! 15 refl $ forget ! 17 refl $ forget ! 19 refl $ forget ! 21 refl $ forget ! 75 refl $ forget ! 83 refl $
+        forget ! 92 refl $ forget ! 94 refl $ forget ! 96 refl $ forget ! 98 refl $ forget ! 100 refl $ forget ! 102 refl $ forget ! 104 refl $
+        forget ! 106 refl $
+        move ! (106 ∷ 107 ∷ []) $ free1 ! $ move ! (104 ∷ 105 ∷ []) $ free1 ! $ move ! (102 ∷ 103 ∷ []) $ free1 ! $ move ! (100 ∷ 101 ∷ []) $ free1 ! $
+        move ! (98 ∷ 99 ∷ []) $ free1 ! $ move ! (96 ∷ 97 ∷ []) $ free1 ! $ move ! (94 ∷ 95 ∷ []) $ free1 ! $ move ! (92 ∷ 93 ∷ []) $ free1 ! $
+        move ! (90 ∷ 91 ∷ []) $ free1 ! $ move ! (88 ∷ 89 ∷ []) $ free1 ! $ move ! (86 ∷ 87 ∷ []) $ free1 ! $
+        move ! (14 ∷ 85 ∷ []) $ free1 ! $ move ! (82 ∷ 83 ∷ []) $ free1 ! $ move ! (80 ∷ 81 ∷ []) $ free1 ! $ move ! (78 ∷ 79 ∷ []) $ free1 ! $
+        move ! (76 ∷ 77 ∷ []) $ free1 ! $ move ! (74 ∷ 75 ∷ []) $ free1 ! $ move ! (72 ∷ 73 ∷ []) $ free1 ! $ move ! (70 ∷ 71 ∷ []) $ free1 ! $
+        move ! (68 ∷ 69 ∷ []) $ free1 ! $ move ! (66 ∷ 67 ∷ []) $ free1 ! $ move ! (64 ∷ 65 ∷ []) $ free1 ! $ move ! (62 ∷ 63 ∷ []) $ free1 ! $
+        move ! (60 ∷ 61 ∷ []) $ free1 ! $ move ! (58 ∷ 59 ∷ []) $ free1 ! $ move ! (56 ∷ 57 ∷ []) $ free1 ! $ move ! (54 ∷ 55 ∷ []) $ free1 ! $
+        move ! (52 ∷ 53 ∷ []) $ free1 ! $ move ! (50 ∷ 51 ∷ []) $ free1 ! $ move ! (48 ∷ 49 ∷ []) $ free1 ! $ move ! (46 ∷ 47 ∷ []) $ free1 ! $
+        move ! (44 ∷ 45 ∷ []) $ free1 ! $ move ! (42 ∷ 43 ∷ []) $ free1 ! $ move ! (40 ∷ 41 ∷ []) $ free1 ! $ move ! (38 ∷ 39 ∷ []) $ free1 ! $
+        move ! (36 ∷ 37 ∷ []) $ free1 ! $ move ! (34 ∷ 35 ∷ []) $ free1 ! $ move ! (32 ∷ 33 ∷ []) $ free1 ! $ move ! (30 ∷ 31 ∷ []) $ free1 ! $
+        move ! (28 ∷ 29 ∷ []) $ free1 ! $ move ! (26 ∷ 27 ∷ []) $ free1 ! $ move ! (24 ∷ 25 ∷ []) $ free1 ! $ move ! (22 ∷ 23 ∷ []) $ free1 ! $
+        move ! (20 ∷ 21 ∷ []) $ free1 ! $ move ! (18 ∷ 19 ∷ []) $ free1 ! $ move ! (16 ∷ 17 ∷ []) $ free1 ! $ move ! (14 ∷ 15 ∷ []) $ free1 ! $ free0 ! $
         keep ! (0 ∷ 1 ∷ 2 ∷ 3 ∷ 4 ∷ 5 ∷ 6 ∷ 7 ∷ 8 ∷ 9 ∷ 10 ∷ 11 ∷ 12 ∷ 13 ∷ []) $
         by ! (exits (read-at g h) (h .visits₂) (ws .0) (ws .1 .0) a (places-long g h) (h .long₃) (e₄ ∙ h .long₄) (e₅ ∙ g .long₅)
         (answered case book places visits seats index ys (g .p) (g .seats₁) (g .index₁) (g .table₁) (g .prepared) (h .visits₂) (h .seats₂) (h .states₂) (h .r)
@@ -693,7 +708,8 @@ module _ {M : Type 1} (𝓤 : URA M) (H : Heap 𝓤) (A : Atoms 𝓤) (W : Given
         land ! (from ! (stop !)) (init ! 59 refl (tt, tt)) $ forget ! 23 refl $ forget ! 25 refl $ forget ! 59 refl $ finishing g h)))))
 
     -- the places are read off the states
-    reading : (g : Prep) (h : Ran g) → Sq W (Ctx (h .states₂) (g .index₁) (h .seats₂) (h .visits₂) places (Tab g) (‵ (fat fullShare P′.mir l₁₂ 0 (P′.lowered (g .p))))
+    reading : (g : Prep) (h : Ran g) → Sq W (Ctx (h .states₂) (g .index₁) (h .seats₂) (h .visits₂) places (Tab g) (‵ (fat fullShare P′.mir l₁₂ 0 (P′.lowered
+        (g .p))))
         (‵ (fat fullShare S′.mir l₁₆ 0 (S′.lowered (h .r)))))
         (runs C Λ En code-mir.t-29 (atRet En Post))
     reading g h =
@@ -734,7 +750,8 @@ module _ {M : Type 1} (𝓤 : URA M) (H : Heap 𝓤) (A : Atoms 𝓤) (W : Given
         refl $ forget ! 73 refl $ clearing-again g h))))))))
 
     -- the run
-    running : (g : Prep) → Sq W (Ctx zeros (g .index₁) (g .seats₁) visits places (Tab g) (‵ (fat fullShare P′.mir l₁₂ 0 (P′.lowered (g .p)))) (‵ (froom S′.mir l₁₆ 0)))
+    running : (g : Prep) → Sq W (Ctx zeros (g .index₁) (g .seats₁) visits places (Tab g) (‵ (fat fullShare P′.mir l₁₂ 0 (P′.lowered (g .p)))) (‵
+        (froom S′.mir l₁₆ 0)))
         (runs C Λ En code-mir.t-15 (atRet En Post))
     running g =
         assigns ! (of-opd ! (load ! (from ! (fld ! refl (stop !))) (look-in ! 83 (sub ! 0 refl (whole !))))) (from ! (stop !))
@@ -784,10 +801,15 @@ module _ {M : Type 1} (𝓤 : URA M) (H : Heap 𝓤) (A : Atoms 𝓤) (W : Given
         (Fin-run l₁₁ (record { ν = ν₅; δ = δ₅ }) (record { ν = νₜ; δ = δₜ }) (record { ν = ν₃; δ = δ₃ }) (record { ν = ν₄; δ = δ₄ })
         (record { ν = ν₆; δ = δ₆ }) (g .index₁) (g .table₁) (g .seats₁) (g .p))
         (λ _. id⊢ 𝓤 _) S′.lowered (S′.lowers .val-is)
-        (and-then ! (load ! (from ! (stop !)) (look ! 99 refl)) (and-then ! (load ! (from ! (stop !)) (look ! 97 refl)) (and-then ! (load ! (from ! (stop !)) (look ! 46 refl)) (and-then ! (load ! (from ! (stop !)) (look ! 42 refl)) (and-then ! (load ! (from ! (stop !)) (look ! 38 refl)) (and-then ! (load ! (from ! (stop !)) (look ! 34 refl)) (and-then ! (load ! (from ! (stop !)) (look ! 30 refl)) (and-then ! (load ! (from ! (stop !)) (look ! 76 refl)) (and-then ! (load ! (from ! (stop !)) (look ! 74 refl)) (and-then ! (load ! (from ! (stop !)) (look ! 72 refl)) (no-more !))))))))))) (λ r made.
+        (and-then ! (load ! (from ! (stop !)) (look ! 99 refl)) (and-then ! (load ! (from ! (stop !)) (look ! 97 refl)) (and-then ! (load ! (from !
+        (stop !)) (look ! 46 refl)) (and-then ! (load ! (from ! (stop !)) (look ! 42 refl)) (and-then ! (load ! (from ! (stop !)) (look ! 38 refl))
+        (and-then ! (load ! (from ! (stop !)) (look ! 34 refl)) (and-then ! (load ! (from ! (stop !)) (look ! 30 refl)) (and-then ! (load ! (from !
+        (stop !)) (look ! 76 refl)) (and-then ! (load ! (from ! (stop !)) (look ! 74 refl)) (and-then ! (load ! (from ! (stop !)) (look ! 72 refl))
+        (no-more !))))))))))) (λ r made.
         pick ! (λ ws. split ! $ move ! (1 ∷ []) $ heard ! (Says-run (g .index₁) (g .seats₁) (g .p) r
         (ws .1 .1 .0) (ws .1 .1 .1 .1 .0) (ws .1 .1 .1 .1 .1 .0) (ws .1 .1 .1 .1 .1 .1 .0)) (λ f.
-        fsplit ! $ drop ! $ fsplit ! $ drop ! $ fsplit ! $ fsplit ! $ move ! (1 ∷ []) $ feqL ! (λ e₅. move ! (1 ∷ []) $ fsplit ! $ drop ! $ fsplit ! $ fsplit ! $ move ! (1 ∷ []) $
+        fsplit ! $ drop ! $ fsplit ! $ drop ! $ fsplit ! $ fsplit ! $ move ! (1 ∷ []) $ feqL ! (λ e₅. move ! (1 ∷ []) $ fsplit ! $ drop ! $ fsplit ! $
+        fsplit ! $ move ! (1 ∷ []) $
         feqL ! (λ e₃. move ! (1 ∷ []) $ fsplit ! $ fsplit ! $ move ! (1 ∷ []) $ feqL ! (λ e₄. move ! (1 ∷ []) $ fsplit ! $ move ! (1 ∷ []) $ drop ! $ fsplit ! $
         move ! (1 ∷ []) $ feqL ! (λ e₆.
         move ! (4 ∷ []) $ use1 W (‵ (flft κ₀ q₀) ⊛ ‵ (flft κ₁ q₁) ⊛ ‵ (flft (ν₅ ∷ []) fullShare) ⊛ ‵ (flft (νₜ ∷ []) fullShare)
@@ -810,7 +832,8 @@ module _ {M : Type 1} (𝓤 : URA M) (H : Heap 𝓤) (A : Atoms 𝓤) (W : Given
         -- [the states, the seats, the visits, the index, each with its token; the table; κ₁'s token; κ₀'s; the book; the case; the places; κ₂'s; _46; …]
         move ! (0 ∷ 1 ∷ 6 ∷ 7 ∷ 2 ∷ 3 ∷ 4 ∷ 5 ∷ 13 ∷ 14 ∷ 12 ∷ 10 ∷ 11 ∷ 9 ∷ 8 ∷ []) $
         land ! (from ! (stop !)) (init ! 75 refl (LL.lawful S.the-type S′.the-laws 𝓤 H A W .typed r _ made .0)) $
-        forget ! 35 refl $ forget ! 37 refl $ forget ! 39 refl $ forget ! 41 refl $ forget ! 43 refl $ forget ! 45 refl $ forget ! 47 refl $ forget ! 49 refl $ forget ! 51 refl $ forget ! 53 refl $
+        forget ! 35 refl $ forget ! 37 refl $ forget ! 39 refl $ forget ! 41 refl $ forget ! 43 refl $ forget ! 45 refl $ forget ! 47 refl $
+        forget ! 49 refl $ forget ! 51 refl $ forget ! 53 refl $
         forget ! 77 refl $ forget ! 79 refl $ forget ! 81 refl $
         reading g (record {
           visits₂ = ws .1 .1 .1 .1 .0;
@@ -825,7 +848,8 @@ module _ {M : Type 1} (𝓤 : URA M) (H : Heap 𝓤) (A : Atoms 𝓤) (W : Given
         })))))))))))))
 
     -- the states are cleared
-    clearing : (g : Prep) → Sq W (Ctx ys (g .index₁) (g .seats₁) visits places (Tab g) (‵ (fat fullShare P′.mir l₁₂ 0 (P′.lowered (g .p)))) (‵ (froom S′.mir l₁₆ 0)))
+    clearing : (g : Prep) → Sq W (Ctx ys (g .index₁) (g .seats₁) visits places (Tab g) (‵ (fat fullShare P′.mir l₁₂ 0 (P′.lowered (g .p)))) (‵
+        (froom S′.mir l₁₆ 0)))
         (runs C Λ En code-mir.t-12 (atRet En Post))
     clearing g =
         assigns ! (addr ! (from ! (fld ! refl (hop ! (look-in ! 92 (sub ! 0 refl (whole !))) (stop !))))) (from ! (stop !)) (init ! 57 refl (tt, tt)) $
@@ -850,7 +874,8 @@ module _ {M : Type 1} (𝓤 : URA M) (H : Heap 𝓤) (A : Atoms 𝓤) (W : Given
         land ! (from ! (stop !)) (init ! 59 refl (tt, tt)) $ forget ! 55 refl $ forget ! 57 refl $ forget ! 59 refl $ running g)))))
 
     -- `prepare` is called
-    preparing : Sq W (Ctx ys index seats visits places (‵ (froom table-ty l₁₁ 0)) (‵ (froom P′.mir l₁₂ 0)) (‵ (froom S′.mir l₁₆ 0))) (runs C Λ En code-mir.t-1 (atRet En Post))
+    preparing : Sq W (Ctx ys index seats visits places (‵ (froom table-ty l₁₁ 0)) (‵ (froom P′.mir l₁₂ 0)) (‵ (froom S′.mir l₁₆ 0)))
+        (runs C Λ En code-mir.t-1 (atRet En Post))
     preparing =
         assigns ! (of-opd ! (load ! (from ! (fld ! refl (stop !))) (look-in ! 100 (sub ! 1 refl (whole !))))) (from ! (stop !))
         (init ! 90 refl (tt, record { fits = room₂ .0 })) $ assigns ! (of-opd ! (load ! (from ! (fld ! refl (stop !))) (look-in ! 98 (sub ! 1 refl (whole !)))))
@@ -888,7 +913,10 @@ module _ {M : Type 1} (𝓤 : URA M) (H : Heap 𝓤) (A : Atoms 𝓤) (W : Given
         calls-out ! fm prepare.signature (prepare.spec 𝓤 H A mem run) known-prepare
         (to-prepare l₁₁ (record { ν = ν₄; δ = δ₄ }) (record { ν = ν₅; δ = δ₅ }) (record { ν = νₜ; δ = δₜ }))
         (Fin-prepare l₁₁ (record { ν = ν₄; δ = δ₄ }) (record { ν = ν₅; δ = δ₅ }) (record { ν = νₜ; δ = δₜ })) (λ _. id⊢ 𝓤 _) P′.lowered (P′.lowers .val-is)
-        (and-then ! (load ! (from ! (stop !)) (look ! 101 refl)) (and-then ! (load ! (from ! (stop !)) (look ! 99 refl)) (and-then ! (load ! (from ! (stop !)) (look ! 87 refl)) (and-then ! (load ! (from ! (stop !)) (look ! 85 refl)) (and-then ! (load ! (from ! (stop !)) (look ! 66 refl)) (and-then ! (load ! (from ! (stop !)) (look ! 62 refl)) (and-then ! (load ! (from ! (stop !)) (look ! 83 refl)) (and-then ! (load ! (from ! (stop !)) (look ! 58 refl)) (no-more !))))))))) (λ p made.
+        (and-then ! (load ! (from ! (stop !)) (look ! 101 refl)) (and-then ! (load ! (from ! (stop !)) (look ! 99 refl)) (and-then ! (load ! (from !
+        (stop !)) (look ! 87 refl)) (and-then ! (load ! (from ! (stop !)) (look ! 85 refl)) (and-then ! (load ! (from ! (stop !)) (look ! 66 refl))
+        (and-then ! (load ! (from ! (stop !)) (look ! 62 refl)) (and-then ! (load ! (from ! (stop !)) (look ! 83 refl)) (and-then ! (load ! (from !
+        (stop !)) (look ! 58 refl)) (no-more !))))))))) (λ p made.
         pick ! (λ ws. split ! $ move ! (1 ∷ []) $
         heard ! (Says-prepare p (ws .1 .1 .1 .1 .0) (ws .1 .1 .1 .1 .1 .0) (ws .1 .1 .1 .1 .1 .1 .1 .0)) (λ f.
         fsplit ! $ drop ! $ fsplit ! $ drop ! $ fsplit ! $ drop ! $ fsplit ! $ drop ! $ fsplit ! $ fsplit ! $ move ! (1 ∷ []) $ feqL ! (λ e₄. move ! (1 ∷ []) $
@@ -903,7 +931,8 @@ module _ {M : Type 1} (𝓤 : URA M) (H : Heap 𝓤) (A : Atoms 𝓤) (W : Given
         move ! (2 ∷ 9 ∷ 6 ∷ []) $ back-on ! tt u16 (named 4) κ₄ q₄ (p₄ .γ) (p₄ .b) (p₄ .o) (length seats) ν₄ δ₄ seats (ws .1 .1 .1 .1 .0) room₄ refl e₄ $
         move ! (3 ∷ 9 ∷ 6 ∷ []) $ back-on ! tt u16 (named 5) κ₅ q₅ (p₅ .γ) (p₅ .b) (p₅ .o) (length index) ν₅ δ₅ index (ws .1 .1 .1 .1 .1 .0) room₅ refl e₅ $
         move ! (9 ∷ 10 ∷ 0 ∷ 1 ∷ 2 ∷ 3 ∷ 11 ∷ 12 ∷ 13 ∷ 14 ∷ 8 ∷ 6 ∷ 7 ∷ 5 ∷ 4 ∷ []) $
-        land ! (from ! (stop !)) (init ! 83 refl (LL.lawful P.the-type P′.the-laws 𝓤 H A W .typed p _ made .0)) $ forget ! 61 refl $ forget ! 63 refl $ forget ! 65 refl $ forget ! 67 refl $
+        land ! (from ! (stop !)) (init ! 83 refl (LL.lawful P.the-type P′.the-laws 𝓤 H A W .typed p _ made .0)) $ forget ! 61 refl $ forget ! 63 refl $
+        forget ! 65 refl $ forget ! 67 refl $
         forget ! 69 refl $ forget ! 71 refl $ forget ! 86 refl $ forget ! 88 refl $ forget ! 90 refl $
         clearing (record {
           p = p;
@@ -929,8 +958,10 @@ module _ {M : Type 1} (𝓤 : URA M) (H : Heap 𝓤) (A : Atoms 𝓤) (W : Given
         ∷ MutSlice (named 5) κ₅ u16 ∷ MutSlice (named 6) κ₆ T.the-row ∷ []) x at) ∷ []) ∵
         enter ! C Λ code.function (sv p₀ case ∷ sv p₁ book ∷ sv p₂ places ∷ sv p₃ visits ∷ sv p₄ seats ∷ sv p₅ index ∷ sv p₆ ys ∷ []) _ $
         alloc1 ! (λ l₀. alloc1 ! (λ l₁. alloc1 ! (λ l₂. alloc1 ! (λ l₃. alloc1 ! (λ l₄. alloc1 ! (λ l₅. alloc1 ! (λ l₆. alloc1 ! (λ l₇. alloc1 ! (λ l₈.
-        alloc1 ! (λ l₉. alloc1 ! (λ l₁₀. alloc1 ! (λ l₁₁. alloc1 ! (λ l₁₂. alloc1 ! (λ l₁₃. alloc1 ! (λ l₁₄. alloc1 ! (λ l₁₅. alloc1 ! (λ l₁₆. alloc1 ! (λ l₁₇. alloc1 ! (λ l₁₈.
-        alloc1 ! (λ l₁₉. alloc1 ! (λ l₂₀. alloc1 ! (λ l₂₁. alloc1 ! (λ l₂₂. alloc1 ! (λ l₂₃. alloc1 ! (λ l₂₄. alloc1 ! (λ l₂₅. alloc1 ! (λ l₂₆. alloc1 ! (λ l₂₇. alloc1 ! (λ l₂₈. alloc1 ! (λ l₂₉. alloc1 ! (λ l₃₀. alloc1 ! (λ l₃₁.
+        alloc1 ! (λ l₉. alloc1 ! (λ l₁₀. alloc1 ! (λ l₁₁. alloc1 ! (λ l₁₂. alloc1 ! (λ l₁₃. alloc1 ! (λ l₁₄. alloc1 ! (λ l₁₅. alloc1 ! (λ l₁₆. alloc1 !
+        (λ l₁₇. alloc1 ! (λ l₁₈.
+        alloc1 ! (λ l₁₉. alloc1 ! (λ l₂₀. alloc1 ! (λ l₂₁. alloc1 ! (λ l₂₂. alloc1 ! (λ l₂₃. alloc1 ! (λ l₂₄. alloc1 ! (λ l₂₅. alloc1 ! (λ l₂₆. alloc1 !
+        (λ l₂₇. alloc1 ! (λ l₂₈. alloc1 ! (λ l₂₉. alloc1 ! (λ l₃₀. alloc1 ! (λ l₃₁.
         alloc1 ! (λ l₃₂. alloc1 ! (λ l₃₃. alloc1 ! (λ l₃₄. alloc1 ! (λ l₃₅. alloc1 ! (λ l₃₆. alloc1 ! (λ l₃₇. alloc1 ! (λ l₃₈. alloc1 ! (λ l₃₉. alloc1 ! (λ l₄₀.
         alloc1 ! (λ l₄₁. alloc1 ! (λ l₄₂. alloc1 ! (λ l₄₃. alloc1 ! (λ l₄₄. alloc1 ! (λ l₄₅. alloc1 ! (λ l₄₆. alloc0 ! $ params1 ! $
         pass1 ! (init ! 90 refl (tt, (tt, (record { fits = room₀ .0 }, tt)))) $ pass1 ! (init ! 88 refl (tt, (tt, (record { fits = room₁ .0 }, tt)))) $
