@@ -73,7 +73,8 @@ module _ (case book : List ℕ) (room : Room) where
         found = rw b
 
   -- a refusal, and the index zero with it
-  pub refused-tested : {k i : ℕ} {r : Checked} {index table : List ℕ} → refusal case book room ≡ some (k, i) → r ≡ Refused k i → index ≡ replicate (room .index) 0
+  pub refused-tested : {k i : ℕ} {r : Checked} {index table : List ℕ} → refusal case book room ≡ some (k, i)
+      → r ≡ Refused k i → index ≡ replicate (room .index) 0
       → Tested case book room r index table
   refused-tested {k} {i} e a b =
       record {

@@ -1,4 +1,4 @@
-// Tests a case, the lent room and a book for the eleven refusals, of which the first in their table's order is told, and builds the table and the index of the pairs.
+// Tests a case, the lent room and a book for the eleven refusals, of which the first in the order of the causes is told, and builds the pairs' table and index.
 use case_tests::Checked;
 use case_tests::refused;
 ghost use mathlib.Core.Path.{_≡_};
@@ -56,8 +56,8 @@ fn check_book(
     }
 }
 
-// The first refusal of the causes' table, and then the index is zero; or the counts of the case, and then the index has, for each pair record, the number of its
-// book record from 1, and `table` is the table of the case.
+// The first refusal in the order of the causes, and then the index is zero; or the counts of the case, and then the index has, for each pair record, the number
+// of its book record from 1, and `table` is the table of the case.
 pub fn check(case: &[u8], book: &[u8], room: Room, index: &mut [u16], table: &mut [u64]) -> Checked
     requires { ⌜ Blank (now table) ⌝ }
     ensures { λ r. ⌜ Tested (now (case .entry)) (now (book .entry)) (lengthsOf room (length (now (index .entry)))) r (now (index .exit)) (now (table .exit)) ⌝ }

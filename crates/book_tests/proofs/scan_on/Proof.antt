@@ -216,7 +216,8 @@ module _ {M : Type 1} (𝓤 : URA M) (H : Heap 𝓤) (A : Atoms 𝓤) (W : Given
       -- [index; case; book; table]: what is had of the parameters, and the result
       nothing ! $ owned ! S.the-row (Is S.the-row) (LL.makes S.the-type S′.the-plain 𝓤 H A) start _ start-is $ fjoin ! $ move ! (1 ∷ 0 ∷ []) $ fjoin ! $
       owned ! usize (Is usize) (uint-makes 𝓤 H A W w64) first-pair _ (refl, first-fits) $ fjoin ! $
-      move ! (3 ∷ 0 ∷ []) $ fjoin ! $ move ! (2 ∷ 0 ∷ []) $ fjoin ! $ move ! (1 ∷ 0 ∷ []) $ fjoin ! $ owned ! u16 (Is u16) (uint-makes 𝓤 H A W w16) cause _ (refl, cause-fits) $ fjoin ! $
+      move ! (3 ∷ 0 ∷ []) $ fjoin ! $ move ! (2 ∷ 0 ∷ []) $ fjoin ! $ move ! (1 ∷ 0 ∷ []) $ fjoin ! $
+      owned ! u16 (Is u16) (uint-makes 𝓤 H A W w16) cause _ (refl, cause-fits) $ fjoin ! $
       owned ! S.the-row (Is S.the-row) (LL.makes S.the-type S′.the-plain 𝓤 H A) r _ is $ move ! (1 ∷ 0 ∷ []) $ done !
 
   -- ---- the reader: its type, as `take`'s signature has it at the lifetime of the book, and the reader before record k
@@ -324,7 +325,8 @@ module _ {M : Type 1} (𝓤 : URA M) (H : Heap 𝓤) (A : Atoms 𝓤) (W : Given
 
   step-goes : (ν : ℕ) (δ : GName) (us : List ℕ) (e : Entry) (st : Scan) → Is E.the-row e (E′.lowered e ∷ []) → Is S.the-row st (S′.lowered st ∷ [])
       → Asks us e st
-      → ent 𝓤 (⋆ 𝓤 H A (Case ∷ ‵ (flft κ₀ q₀) ∷ Table ∷ ‵ (flft κ₂ q₂) ∷ Lent ν δ us ∷ ‵ (flft (ν ∷ []) fullShare) ∷ [])) (StepOf 𝓤 H A at-mem run .pre (to-step ν δ us e st))
+      → ent 𝓤 (⋆ 𝓤 H A (Case ∷ ‵ (flft κ₀ q₀) ∷ Table ∷ ‵ (flft κ₂ q₂) ∷ Lent ν δ us ∷ ‵ (flft (ν ∷ []) fullShare) ∷ []))
+      (StepOf 𝓤 H A at-mem run .pre (to-step ν δ us e st))
   step-goes ν δ us e st is-e is-st asks =
       qed W (Case ∷ ‵ (flft κ₀ q₀) ∷ Table ∷ ‵ (flft κ₂ q₂) ∷ Lent ν δ us ∷ ‵ (flft (ν ∷ []) fullShare) ∷ []) ∵ says ! asks $
       nothing ! $ move ! (6 ∷ 0 ∷ []) $ join ! $ move ! (4 ∷ 0 ∷ []) $ join ! $ move ! (2 ∷ 0 ∷ []) $ join ! $ frame ! $
@@ -410,7 +412,8 @@ module _ {M : Type 1} (𝓤 : URA M) (H : Heap 𝓤) (A : Atoms 𝓤) (W : Given
         (T′.mir erased, l₈)
         ∷ (S′.mir, l₉) ∷ (E′.mir, l₁₀) ∷ (S′.mir, l₁₁) ∷ (tyBool, l₁₂) ∷ (lent-ty, l₁₃) ∷ (entry-ty, l₁₄) ∷ (sliceTy entry-ty, l₁₅) ∷ []
 
-    -- [the index; its token; the case; its token; the book; its token; the table; its token; the reader in _8; _15; …; _9; …; that _8 dies; _7; …; room for _0; …]
+    -- [the index; its token; the case; its token; the book; its token; the table; its token; the reader in _8; _15; …;
+    -- _9; …; that _8 dies; _7; …; room for _0; …]
     abbrev At : Here → List (Item 𝓤)
     At t = Index (t .us) ∷ ‵ (flft κ₃ q₃) ∷ Case ∷ ‵ (flft κ₀ q₀) ∷ Book ∷ ‵ (flft κ₁ q₁) ∷ Table ∷ ‵ (flft κ₂ q₂)
         ∷ ‵ (fat fullShare (T′.mir erased) l₈ 0 (cell-of (reader-at (t .n))))
@@ -450,7 +453,8 @@ module _ {M : Type 1} (𝓤 : URA M) (H : Heap 𝓤) (A : Atoms 𝓤) (W : Given
         (own-shut 𝓤 H A W (T.the-type α) (T′.the-laws α) (ref p₁ book, (t .n, tt))) $
         -- [what the reader owns; the book; the index; its token; the case; its token; the book's token; the table; its token; the reader's cell; _15; …]
         move ! (9 ∷ 0 ∷ []) $ use2 W (‵ (mem R .lies (reader-at (t .n)) l₈ 0)) (lies-in (t .n) l₈) $
-        -- [the reader in memory; the book; the index; its token; the case; its token; the book's token; the table; its token; _15; …]: the token is halved, and the reader is lent
+        -- [the reader in memory; the book; the index; its token; the case; its token; the book's token; the table; its token; _15; …]:
+        -- the token is halved, and the reader is lent
         move ! (6 ∷ []) $ use1 W (‵ (flft κ₁ (PosShare·left q₁)) ⊛ ‵ (flft κ₁ (PosShare·right q₁))) (W .lfts .lft-split κ₁ q₁) $ split ! $
         lft-new ! tt (λ a. move ! (0 ∷ 2 ∷ []) $ use2 W (‵ (flft (a ∷ κ₁) (PosShare·right q₁)) ⊛ raw (Rest 𝓤 H A W a (PosShare·right q₁)))
         (within-token 𝓤 H A W a κ₁
@@ -482,7 +486,8 @@ module _ {M : Type 1} (𝓤 : URA M) (H : Heap 𝓤) (A : Atoms 𝓤) (W : Given
         (no-more !)))) (from ! (stop !)) (init ! 9 refl (tt, (tt, (record { fits = room₃ .0 }, tt)))) $
         lends-on ! tt u16 (named 3) (named 2) κ₃ q₃ (p₃ .γ) (p₃ .b) (p₃ .o) (length index) (t .us) (t .len) (λ ν η.
         move ! (3 ∷ []) $ use1 W (Case ⊛ Case) (shr-slice-copy 𝓤 H A W (named 0) κ₀ u8 .twice (ref p₀ case) (sv p₀ case ∷ [])) $ split ! $
-        -- [the case; the case; the index lent; ν's token; what is kept of the index; κ₀'s token; the book; κ₁'s token; the table; κ₂'s token; the reader; _15; …]
+        -- [the case; the case; the index lent; ν's token; what is kept of the index; κ₀'s token; the book; κ₁'s token;
+        -- the table; κ₂'s token; the reader; _15; …]
         move ! (8 ∷ []) $ use1 W (Table ⊛ Table) (shr-slice-copy 𝓤 H A W (named 2) κ₂ u64 .twice (ref p₂ table) (sv p₂ table ∷ [])) $ split ! $
         move ! (2 ∷ 7 ∷ 0 ∷ 10 ∷ 4 ∷ 5 ∷ []) $ group ! 6 $ use1 W (raw (StepOf 𝓤 H A at-mem run .pre (to-step ν η (t .us) r (t .st))))
         (step-goes ν η (t .us) r (t .st) made (t .is)
@@ -501,7 +506,8 @@ module _ {M : Type 1} (𝓤 : URA M) (H : Heap 𝓤) (A : Atoms 𝓤) (W : Given
         move ! (1 ∷ []) $ use1 W (‵ (flft κ₀ q₀) ⊛ ‵ (flft κ₂ q₂) ⊛ ‵ (flft (ν ∷ []) fullShare) ⊛ ‵ ftrue) (id⊢ 𝓤 _) $ split ! $ move ! (1 ∷ []) $ split ! $
         move ! (1 ∷ []) $ split ! $ move !
         (1 ∷ []) $ drop ! $
-        -- [ν's token; κ₂'s; κ₀'s; the index's last list; the table; the case; what is kept of the index; the book; κ₁'s token; the reader's cell; _15; …]: the index comes back
+        -- [ν's token; κ₂'s; κ₀'s; the index's last list; the table; the case; what is kept of the index; the book; κ₁'s token;
+        -- the reader's cell; _15; …]: the index comes back
         move ! (0 ∷ 6 ∷ 3 ∷ []) $ back-on ! tt u16 (named 3) κ₃ q₃ (p₃ .γ) (p₃ .b) (p₃ .o) (length index) ν η (t .us) (vs .1 .1 .1 .1 .1 .1 .0) room₃
         (t .len) (l ∙ t .len) $
         move ! (0 ∷ 1 ∷ 5 ∷ 3 ∷ 6 ∷ 7 ∷ 4 ∷ 2 ∷ []) $
@@ -530,9 +536,11 @@ module _ {M : Type 1} (𝓤 : URA M) (H : Heap 𝓤) (A : Atoms 𝓤) (W : Given
         returns ! (look ! 38 refl) $ forget ! 8 refl $ forget ! 15 refl $ forget ! 21 refl $ forget ! 24 refl $ forget ! 26 refl $ forget ! 28 refl $
         forget ! 30 refl $
         forget ! 32 refl $ forget ! 34 refl $ forget ! 36 refl $ forget ! 38 refl $
-        move ! (38 ∷ 39 ∷ []) $ free1 ! $ move ! (36 ∷ 37 ∷ []) $ free1 ! $ move ! (34 ∷ 35 ∷ []) $ free1 ! $ move ! (32 ∷ 33 ∷ []) $ free1 ! $ move ! (30 ∷ 31 ∷ []) $ free1 ! $
+        move ! (38 ∷ 39 ∷ []) $ free1 ! $ move ! (36 ∷ 37 ∷ []) $ free1 ! $ move ! (34 ∷ 35 ∷ []) $ free1 ! $
+        move ! (32 ∷ 33 ∷ []) $ free1 ! $ move ! (30 ∷ 31 ∷ []) $ free1 ! $
         move ! (28 ∷ 29 ∷ []) $ free1 ! $ move ! (26 ∷ 27 ∷ []) $ free1 ! $ move ! (24 ∷ 25 ∷ []) $ free1 ! $
-        move ! (8 ∷ 23 ∷ []) $ free1 ! $ move ! (20 ∷ 21 ∷ []) $ free1 ! $ move ! (18 ∷ 19 ∷ []) $ free1 ! $ move ! (16 ∷ 17 ∷ []) $ free1 ! $ move ! (14 ∷ 15 ∷ []) $ free1 ! $
+        move ! (8 ∷ 23 ∷ []) $ free1 ! $ move ! (20 ∷ 21 ∷ []) $ free1 ! $ move ! (18 ∷ 19 ∷ []) $ free1 ! $
+        move ! (16 ∷ 17 ∷ []) $ free1 ! $ move ! (14 ∷ 15 ∷ []) $ free1 ! $
         move ! (12 ∷ 13 ∷ []) $ free1 ! $ move ! (10 ∷ 11 ∷ []) $ free1 ! $ move ! (8 ∷ 9 ∷ []) $ free1 ! $ free0 ! $
         keep ! (0 ∷ 1 ∷ 2 ∷ 3 ∷ 4 ∷ 5 ∷ 6 ∷ 7 ∷ []) $ by ! (exits (t .us) (t .st) (t .len) (t .known, none-left) (t .is))
       where
@@ -552,7 +560,8 @@ module _ {M : Type 1} (𝓤 : URA M) (H : Heap 𝓤) (A : Atoms 𝓤) (W : Given
 
   -- the MIR, up to the loop
   walk : (𝓣 : Tables 𝓤 H) → Triple 𝓤 (𝓣 .C #reader·take) (Take 𝓤 H A at-mem run) → Triple 𝓤 (𝓣 .C #book-tests·step) (StepOf 𝓤 H A at-mem run)
-      → ent 𝓤 (onEntry 𝓤 H A scan-on.signature κs qs x at) (WpFn 𝓤 H (𝓣 .C) (𝓣 .Λ) code.function (vint w16 cause ∷ sv p₀ case ∷ sv p₁ book ∷ sv p₂ table ∷ vint w64 first-pair ∷ sv p₃ index ∷ S′.lowered start ∷ []) Post)
+      → ent 𝓤 (onEntry 𝓤 H A scan-on.signature κs qs x at) (WpFn 𝓤 H (𝓣 .C) (𝓣 .Λ) code.function
+      (vint w16 cause ∷ sv p₀ case ∷ sv p₁ book ∷ sv p₂ table ∷ vint w64 first-pair ∷ sv p₃ index ∷ S′.lowered start ∷ []) Post)
   walk 𝓣 known-take known-step =
       qed W ((‵ (flft κ₀ q₀) ⊛ ‵ (flft κ₁ q₁) ⊛ ‵ (flft κ₂ q₂) ⊛ ‵ (flft κ₃ q₃) ⊛ ‵ ftrue) ∷ ‵
       (owns (u16 ∷ ShrSlice (named 0) κ₀ u8 ∷ ShrSlice (named 1) κ₁ u8 ∷ ShrSlice (named 2) κ₂ u64 ∷ usize

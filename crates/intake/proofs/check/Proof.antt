@@ -120,11 +120,12 @@ returns-3 c =
     let a = entry e .args in
     let room = lengthsOf (a .room) (length (a .index .now)) in
     let lacks = c .before .before .before .before .before .before .before .before .before in
+    let clear = c .before .before .before .before .before .before .before .before .before .before .before .before .before .before .before .before .before .before .clear in
     let done = c .before .before .check-book in
     let o = refusal-book (a .case .now) (a .book .now) room (answer e .0) (tested (lacks .before) ∙ lacks .if1 .left) in
     record {
       answer = done .ensures .0 ∙ ap (λ o. checkedOf o (a .case .now)) (sym o);
-      left = done .ensures .1 ∙ rw (c .before .before .before .before .before .before .before .before .before .before .before .before .before .before .before .before .before .before .clear .kept .0, o);
+      left = done .ensures .1 ∙ rw (clear .kept .0, o);
       tabled = λ n. c .before .before .before .before .before .before .before .build .ensures;
     }
 

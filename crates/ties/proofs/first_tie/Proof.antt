@@ -42,7 +42,8 @@ students : (c : tie.After-workshop-ties)
     → LoweredOn true (entry c .args .case .now) (entry c .args .book .now) (marketIn (entry c .args .case .now) .students)
     (entryCount (entry c .args .book .now) + 1) (c .before .student-ties .result)
 students c =
-    let count : c .before .before .entry-count .result + 1 ≡ entryCount (entry c .args .book .now) + 1 = ap (λ n. n + 1) (c .before .before .entry-count .ensures) in
+    let count : c .before .before .entry-count .result + 1 ≡ entryCount (entry c .args .book .now) + 1 =
+    ap (λ n. n + 1) (c .before .before .entry-count .ensures) in
     rw (entry c .pre .1 .1 .0, count) at (c .before .student-ties .ensures)
 
 workshops : (c : tie.After-workshop-ties)

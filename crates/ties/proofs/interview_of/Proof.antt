@@ -53,7 +53,8 @@ returns c =
     )
 
 interview-at-requires : tie.Need-interview-at-requires
-interview-at-requires c κs = let start = c .before .before .before .before .before .before .before .before .before in (start .pre .0, (start .args .x, stands c))
+interview-at-requires c κs =
+    let start = c .before .before .before .before .before .before .before .before .before in (start .pre .0, (start .args .x, stands c))
 
 returns-2 : tie.Need-returns-2
 returns-2 c = c .interview-at .ensures (c .before .before .before .before .before .before .before .before .before .before .args .x) (stands (c .before))

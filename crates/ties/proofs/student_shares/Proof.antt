@@ -25,7 +25,8 @@ abbrev entry : tie.After-pairs-of Inv-loop μ-loop → tie.Start Inv-loop μ-loo
 entry d = d .before .before .before .before .before
 
 -- her records
-stretch : (d : tie.After-pairs-of Inv-loop μ-loop) → Stretch (entry d .args .case .now) (entry d .args .s) (d .pairs-of .result .first) (d .pairs-of .result .many)
+stretch : (d : tie.After-pairs-of Inv-loop μ-loop)
+    → Stretch (entry d .args .case .now) (entry d .args .s) (d .pairs-of .result .first) (d .pairs-of .result .many)
 stretch d = d .pairs-of .ensures
 
 pairs-of-requires : tie.Need-pairs-of-requires Inv-loop μ-loop

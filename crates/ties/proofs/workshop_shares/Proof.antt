@@ -187,7 +187,12 @@ returns c =
     let e : here .k ≡ a .students = omega arith in (
       cursors-on (a .table .now) (here .next) (a .students) (here .k) (a .w) (here .inv .1) e,
       λ f. apart-all false (a .case .now) (a .book .now) (a .w) (λ s. s) (here .k + 1) (here .inv .2 .1 f)
-          (λ y l. omega (arith, e, start .pre .1 .1 .0 .1, named (a .case .now) (a .book .now) (a .index .now) (a .from) (start .pre .0) false (a .w) y l .1 .1)),
+          (λ y l. omega (
+            arith,
+            e,
+            start .pre .1 .1 .0 .1,
+            named (a .case .now) (a .book .now) (a .index .now) (a .from) (start .pre .0) false (a .w) y l .1 .1,
+          )),
     )
 
 pub workshop-shares-spec : {M : Type 1} → statement M
