@@ -48,22 +48,26 @@ module _ (seen : List ℕ) (slot : ℕ) (l : slot / 64 < length seen) where
   pub met-now : Met seen (set seen (slot / 64) more) slot (eqb (number / 2 ^ (slot % 64) % 2) 1)
   met-now = record { was = has; there = there; kept = kept }
 
+-- the slots of one person's keys, fewer than those of a scan
+abbrev pub fewerOf : ℕ → ℕ
+fewerOf key = slotOf key % 4096
+
 -- the slots of the keys below i are met
 pub record Marked (key : ℕ → ℕ) (seen : List ℕ) (i : ℕ) : Type 0 where
-  pub marked : (j : ℕ) → j < i → metIn seen (slotOf (key j)) ≡ true
+  pub marked : (j : ℕ) → j < i → metIn seen (fewerOf (key j)) ≡ true
 
 pub marked-none : (key : ℕ → ℕ) (seen : List ℕ) → Marked key seen 0
 marked-none key seen = record { marked = λ j l. absurd (omega arith) }
 
 module _ (key : ℕ → ℕ) (seen after : List ℕ) (i : ℕ) (h : Marked key seen i) where
-  pub marked-on : (r : Bool) → Met seen after (slotOf (key i)) r → Marked key after (i + 1)
+  pub marked-on : (r : Bool) → Met seen after (fewerOf (key i)) r → Marked key after (i + 1)
   marked-on r m = record { marked = go }
     where
-      go : (j : ℕ) → j < i + 1 → metIn after (slotOf (key j)) ≡ true
+      go : (j : ℕ) → j < i + 1 → metIn after (fewerOf (key j)) ≡ true
       go j l =
-          ⊎-elim (λ (q : j < i). m .kept (slotOf (key j)) (h .marked j q))
+          ⊎-elim (λ (q : j < i). m .kept (fewerOf (key j)) (h .marked j q))
           (λ (q : i ≤ j). let e : j ≡ i = omega arith in rw e (m .there))
           (less? j i)
 
-  pub unmet-new : Met seen after (slotOf (key i)) false → (j : ℕ) → j < i → key j ≡ key i → ⊥
-  unmet-new m j l e = never (ap (λ x. metIn seen (slotOf x)) (sym e) ∙ h .marked j l) (sym (m .was))
+  pub unmet-new : Met seen after (fewerOf (key i)) false → (j : ℕ) → j < i → key j ≡ key i → ⊥
+  unmet-new m j l e = never (ap (λ x. metIn seen (fewerOf x)) (sym e) ∙ h .marked j l) (sym (m .was))

@@ -64,16 +64,16 @@ fn lower(keys: &[u32], numbers: &[u16], i: usize, low: usize) -> usize
     after
 }
 
-// The same for all interviews. Where a key's slot was not met there is no earlier interview with the key.
+// The same for all interviews. Where a key's slot, of fewer here, was not met there is no earlier interview with the key.
 fn lower_all(keys: &[u32], numbers: &[u16], seen: &mut [u64], low: usize) -> usize
     requires { ⌜ length (now numbers) ≡ length (now keys) ⌝ }
-    requires { ⌜ length (now seen) ≡ 256 ⌝ }
+    requires { ⌜ length (now seen) ≡ 64 ⌝ }
     ensures { λ r. ⌜ Lowered (λ k. getD (now (keys .entry)) k 0) (λ k. getD (now (numbers .entry)) k 0) (length (now (keys .entry))) low r ⌝ }
 {
     let mut after = low;
     let mut i = 0;
     while i < keys.len() {
-        if met(seen, slot_of(keys[i])) {
+        if met(seen, slot_of(keys[i]) % 4096) {
             after = lower(keys, numbers, i, after);
             i += 1;
         } else {
@@ -88,7 +88,7 @@ fn lowest(keys: &[u32], numbers: &[u16], low: usize) -> usize
     requires { ⌜ length (now numbers) ≡ length (now keys) ⌝ }
     ensures { λ r. ⌜ Lowered (λ k. getD (now (keys .entry)) k 0) (λ k. getD (now (numbers .entry)) k 0) (length (now (keys .entry))) low r ⌝ }
 {
-    let mut seen = [0u64; 256];
+    let mut seen = [0u64; 64];
     lower_all(keys, numbers, &mut seen, low)
 }
 

@@ -6,14 +6,14 @@ use native.Mathlib.Omega.{arith}
 use lib.ListN.{length, getD}
 use borrow.Author.Needs.{needs}
 use Rattle.ties.specs.Ties.{Lowered}
-use Rattle.ties.specs.Seen.{Met, slotOf}
+use Rattle.ties.specs.Seen.{Met}
 use Rattle.ties.proofs.Lowering.{all-start, all-skip, all-on}
-use Rattle.ties.proofs.Seeing.{Marked, marked-none, marked-on, unmet-new}
+use Rattle.ties.proofs.Seeing.{fewerOf, Marked, marked-none, marked-on, unmet-new}
 use Rattle.ties.proofs.lower_all.Statement.{statement}
 use Rattle.ties.proofs.lower_all.Tie as tie
 
 abbrev Inv-loop : tie.InvT-loop
-Inv-loop keys numbers seen₀ low after₀ i₀ seen after i = ((i ≤ length keys) × (length seen ≡ 256)) ×
+Inv-loop keys numbers seen₀ low after₀ i₀ seen after i = ((i ≤ length keys) × (length seen ≡ 64)) ×
     (Lowered (λ k. getD keys k 0) (λ k. getD numbers k 0) i low after × Marked (λ k. getD keys k 0) seen i)
 
 abbrev μ-loop : tie.MeasureT-loop
@@ -57,7 +57,7 @@ loop-again c =
     let a = c .before .before .before .before .before .before .before .before .before .before .before .before .before .args in
     let here = c .before .before .before .before .before .before .before .before .before .loop in
     let known = c .before .before .before .before .met in
-    let m : Met (here .seen) (known .last .0) (slotOf (getD (a .keys .now) (here .i) 0)) (known .result) = rw
+    let m : Met (here .seen) (known .last .0) (fewerOf (getD (a .keys .now) (here .i) 0)) (known .result) = rw
     (c .before .before .before .before .before .slot-of .ensures) at (known .ensures) in (
       (omega arith, known .kept .0 ∙ here .inv .0 .1),
       (
@@ -78,7 +78,7 @@ loop-again-2 c =
     let a = c .before .before .before .before .before .before .before .before .before .before .before .before .args in
     let here = c .before .before .before .before .before .before .before .before .loop in
     let known = c .before .before .before .met in
-    let m : Met (here .seen) (known .last .0) (slotOf (getD (a .keys .now) (here .i) 0)) false = rw
+    let m : Met (here .seen) (known .last .0) (fewerOf (getD (a .keys .now) (here .i) 0)) false = rw
     (c .before .before .before .before .slot-of .ensures, c .if1 .left) at (known .ensures) in (
       (omega arith, known .kept .0 ∙ here .inv .0 .1),
       (

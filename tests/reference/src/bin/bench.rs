@@ -1,6 +1,6 @@
 //! Times the engine against the fast reference, in one process and in turns.
 //!
-//! Both get the same case and a full book. The engine's buffers are zero before the first
+//! Both get the same case and a book that has every pair. The engine's buffers are zero before the first
 //! run and are not cleared in between; the fast reference keeps its tables.
 
 use reference::engine;
@@ -16,10 +16,18 @@ use std::time::Instant;
 const RUNS: usize = 301;
 /// Students and workshops; the last three have four times the pairs of the one before.
 const SIZES: [(usize, usize); 5] = [(150, 20), (400, 20), (128, 16), (256, 32), (512, 64)];
-/// Of a hundred pairs, so many have a record.
-const KEPT: [usize; 3] = [100, 95, 50];
+/// Students, workshops, and how many of a hundred pairs have a record.
+const SPARSE: [(usize, usize, usize); 5] = [
+    (512, 64, 95),
+    (512, 64, 50),
+    (512, 64, 25),
+    (512, 64, 11),
+    (150, 20, 50),
+];
 /// Student groups and workshop groups.
-const GROUPS: [(usize, usize); 2] = [(4, 8), (1, 1)];
+const GROUPS: [(usize, usize); 3] = [(4, 8), (8, 8), (1, 1)];
+/// The size at which the growth with the pairs is told.
+const LARGEST: (usize, usize) = (512, 64);
 
 /// Buffers that an input needs, zero at first.
 struct Buffers {
@@ -112,11 +120,11 @@ fn median(mut times: Vec<f64>) -> f64 {
 }
 
 /// Times one input and prints its line; an answer other than the literal reference's is an error.
-fn line(students: usize, workshops: usize, input: &Input) -> Result<(), String> {
+fn line(students: usize, workshops: usize, input: &Input) -> Result<Times, String> {
     let expected = literal::answer(input);
     lending::check(&engine::call, input, &expected, &mut Rng::new(1))?;
     let times = measure(input);
-    let pairs = (input.lent.visits / 2) as f64;
+    let pairs = pairs_of(input) as f64;
     println!(
         "{students:4}x{workshops:<3} {pairs:6} pairs {:6} visits  engine {:9.1} us  fast {:9.1} us  \
          ratio {:5.2}  a pair {:5.1} and {:5.1} ns",
@@ -127,21 +135,50 @@ fn line(students: usize, workshops: usize, input: &Input) -> Result<(), String> 
         times.engine / pairs,
         times.fast / pairs,
     );
+    Ok(times)
+}
+
+fn pairs_of(input: &Input) -> usize {
+    input.lent.visits / 2
+}
+
+/// The engine's time at fewer pairs as a share of its time at all, beside the pairs' share.
+fn growth(grown: &[(usize, f64)]) {
+    let (all, whole) = grown[0];
+    for &(pairs, time) in &grown[1..] {
+        println!(
+            "{}x{}: {pairs} pairs, {:.2} of all, take {:.2} of the time",
+            LARGEST.0,
+            LARGEST.1,
+            pairs as f64 / all as f64,
+            time / whole,
+        );
+    }
+}
+
+/// The lines of one number of groups.
+fn lines(groups: (usize, usize)) -> Result<(), String> {
+    let full = SIZES.map(|(students, workshops)| (students, workshops, 100));
+    let mut grown = Vec::new();
+    for (students, workshops, kept) in full.into_iter().chain(SPARSE) {
+        let input = timing_input(students, workshops, groups, kept);
+        let times = line(students, workshops, &input)
+            .map_err(|what| format!("{students}x{workshops}: {what}"))?;
+        if (students, workshops) == LARGEST {
+            grown.push((pairs_of(&input), times.engine));
+        }
+    }
+    growth(&grown);
     Ok(())
 }
 
 fn main() -> ExitCode {
-    println!("median of {RUNS} runs in turns; full book in random order");
-    for kept in KEPT {
-        for (d, e) in GROUPS {
-            println!("{kept} of 100 pairs, student groups {d}, workshop groups {e}");
-            for (students, workshops) in SIZES {
-                let input = timing_input(students, workshops, (d, e), kept);
-                if let Err(what) = line(students, workshops, &input) {
-                    println!("{students}x{workshops}: {what}");
-                    return ExitCode::FAILURE;
-                }
-            }
+    println!("median of {RUNS} runs in turns; every pair in the book, in random order");
+    for (d, e) in GROUPS {
+        println!("student groups {d}, workshop groups {e}");
+        if let Err(what) = lines((d, e)) {
+            println!("{what}");
+            return ExitCode::FAILURE;
         }
     }
     ExitCode::SUCCESS
