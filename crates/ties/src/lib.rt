@@ -264,7 +264,7 @@ fn student_shares(
     false
 }
 
-// For each student the first of her pair records.
+// For each student the first of her pair records. Of one without pairs the table says nothing, and her cursor is never read.
 fn first_cursors(table: &[u64], students: usize, next: &mut [u16])
     requires { ⌜ (length (now table) ≡ 1089) × (students ≤ 512) × (length (now next) ≡ 512) ⌝ }
     ensures { λ _. ⌜ Cursors (now (table .entry)) (now (next .exit)) students 0 1 ⌝ }
