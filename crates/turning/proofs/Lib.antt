@@ -3,4 +3,5 @@ pub mod Due
 pub mod Visits
 pub mod Rounds
 pub mod Listing
+pub mod Favourites
 pub mod Turns
