@@ -2,7 +2,7 @@
 use Prim.Native.Nat.{ℕ, zero, suc, _+_, _-_, _≤_, _<_}
 use mathlib.Core.Path.{_≡_, refl, sym, ap, _∙_}
 use mathlib.Core.Logic.{⊎-elim}
-use mathlib.Core.Bool.{Bool, true, false, _||_}
+use mathlib.Core.Bool.{true, false, _||_}
 use mathlib.Core.List.{List}
 use native.Mathlib.Omega.{arith}
 use lib.Dec.{eqb}
@@ -14,17 +14,8 @@ use Rattle.base.specs.Bits.{member}
 use Rattle.base.proofs.Tests.{is-false, never, or-true, or-left, or-right, eq?, less?}
 use Rattle.base.proofs.Counting.{count-same, count-more, count-none}
 use Rattle.tables.specs.Table.{setOf, firstOf, Blank, Noted}
-use Rattle.tables.proofs.Laws.{member-zero}
+use Rattle.tables.proofs.Laws.{member-zero, count-stop}
 use Rattle.case_tests.specs.Pairs.{Piled}
-
--- a count stops to grow where none passes
-count-stop : (p : ℕ → Bool) (n m : ℕ) → n ≤ m → ((x : ℕ) → n < x → x ≤ m → p x ≡ false) → count p m ≡ count p n
-unfolding count
-count-stop p n zero l none = let e : n ≡ 0 = omega arith in rw e
-count-stop p n (suc m) l none =
-    ⊎-elim (λ (q : n < suc m). rw (none (suc m) q (omega arith)) (omega (arith, count-stop p n m (omega arith) (λ x a b. none x a (omega arith)))))
-    (λ (q : suc m ≤ n). let e : n ≡ suc m = omega arith in rw e)
-    (less? n (suc m))
 
 -- a blank table describes no pairs
 noted-none : (a b : ℕ → ℕ) (from : ℕ) (table : List ℕ) → Blank table → Noted a b from from table
@@ -180,6 +171,7 @@ module _ (a b : ℕ → ℕ) (from s i : ℕ) (old : List ℕ) (I : Shelved a b 
   shelved-more =
       record {
         reach = omega (arith, I .reach, P .reach);
-        done = λ k f h. either k h (λ q. (I .done k f q .0, omega (arith, I .done k f q .1))) (λ q. (omega (arith, P .hers k q h), omega (arith, P .hers k q h)));
+        done = λ k f h.
+            either k h (λ q. (I .done k f q .0, omega (arith, I .done k f q .1))) (λ q. (omega (arith, P .hers k q h), omega (arith, P .hers k q h)));
         noted = noted-next;
       }

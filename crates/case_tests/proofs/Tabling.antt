@@ -18,7 +18,7 @@ use Rattle.case_tests.specs.declared.order.Order.{Order}
 use Rattle.case_tests.specs.Order.{Passes, Counted, Sound, Heads}
 use Rattle.case_tests.specs.Checked.{CleanCase}
 use Rattle.case_tests.proofs.Cases.{clean, few, all-students, all-workshops, counts-same}
-use Rattle.case_tests.proofs.Trails.{names}
+use Rattle.case_tests.proofs.Trails.{Named, names}
 
 module _ (case : List ℕ) (n m : ℕ) where
   -- all records of a clean case pass
@@ -61,7 +61,9 @@ module _ (case : List ℕ) (o : Order) (h : Heads case o) where
   -- no pair is among them
   pub heads-end : o .at ≡ o .students + o .workshops
   heads-end =
-      ⊎-elim (λ (q : 0 < kindsBefore case 3 (o .at)). absurd (omega (arith, s .pair (o .at - 1) (omega (arith, s .whole)) (omega (arith, s .whole)), h .noPair (omega (arith, s .whole)))))
+      ⊎-elim (λ (q : 0 < kindsBefore case 3 (o .at)).
+      let k : rowAt case (o .at - 1) .kind ≡ 3 = s .pair (o .at - 1) (omega (arith, s .whole)) (omega (arith, s .whole)) in
+      absurd (omega (arith, h .noPair (omega (arith, s .whole)))))
       (λ (q : kindsBefore case 3 (o .at) ≤ 0). omega (arith, s .whole, students, workshops))
       (less? 0 (kindsBefore case 3 (o .at)))
     where
@@ -81,8 +83,7 @@ module _ (case : List ℕ) (o : Order) (h : Heads case o) where
       (λ (l : o .at < rowCount case).
       let p : Passes case (o .at) = clean-passes case n m c (o .at) l in
       let k : rowAt case (o .at) .kind ≡ 3 = omega (arith, h .stop l p, kind-within case (o .at) l (p .0)) in
-      let r : ((1 ≤ studentIn case (o .at)) × (studentIn case (o .at) ≤ o .students)) × ((1 ≤ workshopIn case (o .at)) × (workshopIn case (o .at) ≤ o .workshops)) =
-      names case (o .students) (o .workshops) (o .at) (h .sound) l p k in
+      let r : Named case (o .students) (o .workshops) (o .at) = names case (o .students) (o .workshops) (o .at) (h .sound) l p k in
       rw (is-within 1 512 (o .students) (omega arith) (omega (arith, more .0)), is-within 1 64 (o .workshops) (omega arith) (omega (arith, more .1))))
       (λ (l : rowCount case ≤ o .at).
       let e : o .at ≡ rowCount case = omega (arith, inside) in
@@ -90,10 +91,13 @@ module _ (case : List ℕ) (o : Order) (h : Heads case o) where
       sym (counts-same case (o .students) (o .workshops) d) ∙ c .counts)
       (less? (o .at) (rowCount case))
     where
+      grows : (kind : ℕ) → kindsBefore case kind (o .at) ≤ kindsBefore case kind (rowCount case)
+      grows kind = count-grows (λ k. ofKind kind (rowAt case k)) (o .at) (rowCount case) inside
+
       more : (o .students ≤ 512) × (o .workshops ≤ 64)
       more = (
-        omega (arith, few case n m c .0 .1, c .students, students, students-count case, count-grows (λ k. ofKind 1 (rowAt case k)) (o .at) (rowCount case) inside),
-        omega (arith, few case n m c .1 .1, c .workshops, workshops, workshops-count case, count-grows (λ k. ofKind 2 (rowAt case k)) (o .at) (rowCount case) inside),
+        omega (arith, few case n m c .0 .1, c .students, students, students-count case, grows 1),
+        omega (arith, few case n m c .1 .1, c .workshops, workshops, workshops-count case, grows 2),
       )
 
   -- the table of the pairs and of the seats' starts

@@ -31,10 +31,13 @@ later p r less fits =
     rw (le-ltb (p .first) (r .first) a, eq-eqb (p .first) (r .first) same, lt-ltb (p .second) (r .second) (omega arith)))
     (less? (p .first) (r .first))
 
+-- record i names one of n students and one of m workshops
+abbrev pub Named : List ℕ → ℕ → ℕ → ℕ → Type 0
+Named case n m i = ((1 ≤ studentIn case i) × (studentIn case i ≤ n)) × ((1 ≤ workshopIn case i) × (workshopIn case i ≤ m))
+
 module _ (case : List ℕ) (n m : ℕ) where
-  -- a pair that passes names a student and a workshop
-  pub names : (i : ℕ) → Sound case i n m → i < rowCount case → Passes case i → rowAt case i .kind ≡ 3
-      → ((1 ≤ studentIn case i) × (studentIn case i ≤ n)) × ((1 ≤ workshopIn case i) × (workshopIn case i ≤ m))
+  -- a pair that passes does
+  pub names : (i : ℕ) → Sound case i n m → i < rowCount case → Passes case i → rowAt case i .kind ≡ 3 → Named case n m i
   names i s l p k =
       let e : (notWithin 1 n (studentIn case i) || notWithin 1 m (workshopIn case i)) ≡ false =
       rw k at (sym (nobody case i n m (s .counted) l (p .0)) ∙ parts case i l (p .1) .1 .1) in
@@ -102,8 +105,7 @@ module _ (case : List ℕ) (n m : ℕ) (few : m ≤ 64) where
         next : i < rowCount case → Passes case i → (rowAt case i .kind ≡ 3) × ((s + 1) * 65536 + 0 < studentIn case i * 65536 + workshopIn case i)
         next l p =
             let a : (rowAt case i .kind ≡ 3) × (s * 65536 + last < studentIn case i * 65536 + workshopIn case i) = t .ahead l p in
-            let b : ((1 ≤ studentIn case i) × (studentIn case i ≤ n)) × ((1 ≤ workshopIn case i) × (workshopIn case i ≤ m)) =
-            names case n m i (t .sound) l p (a .0) in (
+            let b : Named case n m i = names case n m i (t .sound) l p (a .0) in (
               a .0,
               ⊎-elim (λ (g : s < studentIn case i). omega arith)
                   (λ (g : studentIn case i ≤ s).
@@ -116,7 +118,7 @@ module _ (case : List ℕ) (n m : ℕ) (few : m ≤ 64) where
   pub trail-end : (i : ℕ) → Trail case n m i (n + 1) 0 → i < rowCount case → Passes case i → ⊥
   trail-end i t l p =
       let a : (rowAt case i .kind ≡ 3) × ((n + 1) * 65536 + 0 < studentIn case i * 65536 + workshopIn case i) = t .ahead l p in
-      let b : ((1 ≤ studentIn case i) × (studentIn case i ≤ n)) × ((1 ≤ workshopIn case i) × (workshopIn case i ≤ m)) = names case n m i (t .sound) l p (a .0) in
+      let b : Named case n m i = names case n m i (t .sound) l p (a .0) in
       omega arith
 
 -- ---- after the students and the workshops

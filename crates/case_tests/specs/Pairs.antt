@@ -20,7 +20,7 @@ pub record NextPair (case : List ℕ) (i s last m : ℕ) : Type 0 where
   pub form : badForm (rows case) i ≡ false
   pub range : badRange (rows case) i ≡ false
 
--- the first i records pass, with n students and m workshops; a pair that is the last of them is not above (s, last), and record i, where it passes, is a pair above
+-- the first i records pass, with n students and m workshops; the last of them is no pair above (s, last), and record i, where it passes, is one
 pub record Trail (case : List ℕ) (n m i s last : ℕ) : Type 0 where
   pub sound : Sound case i n m
   pub before : 0 < i → rowAt case (i - 1) .kind ≡ 3 → studentIn case (i - 1) * 65536 + workshopIn case (i - 1) ≤ s * 65536 + last

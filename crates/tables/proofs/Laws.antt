@@ -2,14 +2,14 @@
 use Prim.Native.Nat.{ℕ, zero, suc, _+_, _-_, _≤_, _<_}
 use mathlib.Core.Path.{_≡_, refl, sym, _∙_}
 use mathlib.Core.Logic.{⊎-elim}
-use mathlib.Core.Bool.{true, false, _||_}
+use mathlib.Core.Bool.{Bool, true, false, _||_}
 use mathlib.Core.List.{List}
 use native.Mathlib.Omega.{arith}
 use lib.Dec.{eqb}
 use lib.ListN.{length, getD, set, replicate, length-set, length-replicate}
 use lib.Seq.{getD-set-same, getD-set-other}
 use borrow.Author.Tests.{eq-eqb, eqb-true}
-use Rattle.base.specs.Lists.{total}
+use Rattle.base.specs.Lists.{count, total}
 use Rattle.base.specs.Bits.{member}
 use Rattle.base.proofs.Tests.{never, or-true, or-left, or-right, less?}
 use Rattle.base.proofs.Digits.{bit-zero}
@@ -22,6 +22,15 @@ pub member-zero : (x : ℕ) → member 0 x ≡ false
 unfolding member
 member-zero zero = refl
 member-zero (suc i) = bit-zero i
+
+-- a count stops to grow where none passes
+pub count-stop : (p : ℕ → Bool) (n m : ℕ) → n ≤ m → ((x : ℕ) → n < x → x ≤ m → p x ≡ false) → count p m ≡ count p n
+unfolding count
+count-stop p n zero l none = let e : n ≡ 0 = omega arith in rw e
+count-stop p n (suc m) l none =
+    ⊎-elim (λ (q : n < suc m). rw (none (suc m) q (omega arith)) (omega (arith, count-stop p n m (omega arith) (λ x a b. none x a (omega arith)))))
+    (λ (q : suc m ≤ n). let e : n ≡ suc m = omega arith in rw e)
+    (less? n (suc m))
 
 -- the table as a caller makes it, `[0; 1089]`, is blank
 pub blank : Blank (replicate 1089 0)

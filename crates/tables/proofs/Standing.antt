@@ -10,7 +10,8 @@ use Rattle.format.proofs.Positions.{people, places, quota-at, pair-from, pair-n
 use Rattle.tables.specs.Table.{studentIn, workshopIn, Standing}
 
 module _ (case : List ℕ) (c : Clean case (rowCount case)) (few : marketIn case .students ≤ 512) (few′ : marketIn case .workshops ≤ 64) where
-  names : (k : ℕ) → people case ≤ k → k < rowCount case → ((1 ≤ studentIn case k) × (studentIn case k ≤ 512)) × ((1 ≤ workshopIn case k) × (workshopIn case k ≤ 64))
+  names : (k : ℕ) → people case ≤ k → k < rowCount case
+      → ((1 ≤ studentIn case k) × (studentIn case k ≤ 512)) × ((1 ≤ workshopIn case k) × (workshopIn case k ≤ 64))
   names k f l = let r = pair-names case c k l (places case c .pair k f l) in ((r .0 .0, omega (arith, r .0 .1)), (r .1 .0, omega (arith, r .1 .1)))
 
   pub standing : Standing case (marketIn case .students) (marketIn case .workshops)

@@ -74,7 +74,8 @@ pub record Standing (case : List ℕ) (n m : ℕ) : Type 0 where
   pub quota : (w : ℕ) → 1 ≤ w → w ≤ m → marketIn case .quota w ≡ rowAt case (n + w - 1) .second
   pub only : (k : ℕ) → k < rowCount case → rowAt case k .kind ≡ 3 → n + m ≤ k
   pub pair : (k : ℕ) → n + m ≤ k → k < rowCount case → rowAt case k .kind ≡ 3
-  pub named : (k : ℕ) → n + m ≤ k → k < rowCount case → ((1 ≤ studentIn case k) × (studentIn case k ≤ 512)) × ((1 ≤ workshopIn case k) × (workshopIn case k ≤ 64))
+  pub named : (k : ℕ) → n + m ≤ k → k < rowCount case
+      → ((1 ≤ studentIn case k) × (studentIn case k ≤ 512)) × ((1 ≤ workshopIn case k) × (workshopIn case k ≤ 64))
 
 -- ---- What the steps of its making give.
 

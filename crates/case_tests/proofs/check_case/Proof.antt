@@ -19,7 +19,8 @@ entry e = e .before .before .before .before .before .before .before .before .bef
 -- the pass over the pairs came to the end
 ended : (e : tie.Else3) → e .before .before .before .note-pairs .result ≡ rowCount (entry e .args .case .now)
 ended e =
-    omega (arith, e .before .before .before .note-pairs .ensures .sound .counted .inside, e .before .before .before .before .before .before .before .before .row-count .ensures)
+    let rows = e .before .before .before .before .before .before .before .before .row-count in
+    omega (arith, e .before .before .before .note-pairs .ensures .sound .counted .inside, rows .ensures)
 
 all : (e : tie.Else3)
     → (let o = e .before .before .before .before .before .before .before .heads .result in
@@ -29,7 +30,8 @@ all e = rw (ended e) at (e .before .before .before .note-pairs .ensures .sound)
 tidy : (e : tie.Else3)
     → (let o = e .before .before .before .before .before .before .before .heads .result in CleanCase (entry e .args .case .now) (o .students) (o .workshops))
 tidy e =
-    sound-clean _ _ _ (all e) (sym (e .before .before .before .before .before .before .bad-counts .ensures) ∙ e .before .before .before .before .before .if2 .left)
+    let asked = e .before .before .before .before .before in
+    sound-clean _ _ _ (all e) (sym (asked .before .bad-counts .ensures) ∙ asked .if2 .left)
 
 refused-requires : tie.Need-refused-requires
 refused-requires c κs = search needs

@@ -69,7 +69,11 @@ returns-2 : tie.Need-returns-2 Inv-loop μ-loop
 returns-2 c =
     let e : c .before .loop .i ≡ c .before .before .row-count .result = omega
     (arith, c .before .loop .inv .0 .counted .inside, c .before .before .row-count .ensures) in
-    record { sound = rw e at (c .before .loop .inv .0); noPair = rw e at (c .before .loop .inv .1); stop = λ l p. absurd (omega (arith, c .before .before .row-count .ensures)) }
+    record {
+      sound = rw e at (c .before .loop .inv .0);
+      noPair = rw e at (c .before .loop .inv .1);
+      stop = λ l p. absurd (omega (arith, c .before .before .row-count .ensures));
+    }
 
 pub heads-spec : {M : Type 1} → statement M
 heads-spec =
