@@ -62,6 +62,11 @@ module _ (case : List ℕ) where
           case-clean e = rw (whole, form, order, counts, e, firstCause)
 
 -- ---- a clean case
+pub counts-within : (n m : ℕ) → (notWithin 1 512 n || notWithin 1 64 m) ≡ false → ((1 ≤ n) × (n ≤ 512)) × ((1 ≤ m) × (m ≤ 64))
+counts-within n m e =
+    let r : (notWithin 1 512 n ≡ false) × (notWithin 1 64 m ≡ false) = or-false (notWithin 1 512 n) _ e in
+    (within 1 512 n (r .0), within 1 64 m (r .1))
+
 module _ (case : List ℕ) (n m : ℕ) (c : CleanCase case n m) where
   pub clean : CleanTo case (rowCount case)
   clean = clean-all case (c .form) (c .order)
@@ -72,12 +77,7 @@ module _ (case : List ℕ) (n m : ℕ) (c : CleanCase case n m) where
 
   pub few : ((1 ≤ n) × (n ≤ 512)) × ((1 ≤ m) × (m ≤ 64))
   unfolding badCounts marketOf
-  few =
-      let r : (notWithin 1 512 (marketIn case .students) ≡ false) × (notWithin 1 64 (marketIn case .workshops) ≡ false) = or-false
-      (notWithin 1 512 (marketIn case .students)) _ (c .counts) in
-      let s : (1 ≤ marketIn case .students) × (marketIn case .students ≤ 512) = within 1 512 (marketIn case .students) (r .0) in
-      let t : (1 ≤ marketIn case .workshops) × (marketIn case .workshops ≤ 64) = within 1 64 (marketIn case .workshops) (r .1) in
-      ((omega (arith, c .students), omega (arith, c .students)), (omega (arith, c .workshops), omega (arith, c .workshops)))
+  few = rw (c .students, c .workshops) (counts-within (marketIn case .students) (marketIn case .workshops) (c .counts))
 
   -- and the lookup finds it, for bytes
   pub pairs-found : ((k : ℕ) → getD case k 0 < 256) → PairsFound case n m

@@ -78,7 +78,7 @@ module _ (case : List ℕ) where
         (less? (rowAt case i .kind) 3))
         (less? (rowAt case i .kind) 2)
 
-    nobody : namesNobody (rows case) i ≡ (eqb (rowAt case i .kind) 3 && (notWithin 1 n (rowAt case i .first) || notWithin 1 m (rowAt case i .second)))
+    pub nobody : namesNobody (rows case) i ≡ (eqb (rowAt case i .kind) 3 && (notWithin 1 n (rowAt case i .first) || notWithin 1 m (rowAt case i .second)))
     nobody = names-at case i clean l ∙ rw (← kinds 1, ← kinds 2, ← c .students, ← c .workshops)
 
     pub order-test : badOrder (rows case) i ≡ orderTest n m (rowAt case i) (rowAt case (i - 1))

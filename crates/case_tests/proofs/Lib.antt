@@ -1,3 +1,6 @@
 pub mod Counting
 pub mod Sounding
 pub mod Cases
+pub mod Noting
+pub mod Trails
+pub mod Tabling

@@ -1,3 +1,4 @@
 pub mod Checked
 pub mod Order
+pub mod Pairs
 pub mod Scans

@@ -9,7 +9,6 @@ use Rattle.base.specs.Lists.{tally}
 use Rattle.base.specs.Search.{firstBad, orEnd}
 use Rattle.format.specs.Layout.{rowAt, rows, rowCount, ofKind}
 use Rattle.format.specs.Refusals.{badForm, badOrder, badRange}
-use Rattle.records.specs.Records.{pairKey}
 use Rattle.case_tests.specs.declared.order.Order.{Order}
 
 -- the first i records pass causes 2 and 3, of which n are students and m workshops
@@ -32,17 +31,12 @@ pub record Sound (case : List ℕ) (i n m : ℕ) : Type 0 where
   pub counted : Counted case i n m
   pub range : firstBad (badRange (rows case)) i ≡ none
 
--- the first records of a case, which all pass, and of which the last is no pair
+-- record i passes causes 2, 3 and 5
+abbrev pub Passes : List ℕ → ℕ → Type 0
+Passes case i = (badForm (rows case) i ≡ false) × (badOrder (rows case) i ≡ false) × (badRange (rows case) i ≡ false)
+
+-- the first records of a case, which all pass and are no pairs, up to the first that does not pass or is a pair
 pub record Heads (case : List ℕ) (o : Order) : Type 0 where
   pub sound : Sound case (o .at) (o .students) (o .workshops)
   pub noPair : 0 < o .at → rowAt case (o .at - 1) .kind < 3
-
--- record i is that of a pair that passes after one with the key `last`, n students and m workshops
-pub record SoundPair (case : List ℕ) (i last n m : ℕ) : Type 0 where
-  pub kind : rowAt case i .kind ≡ 3
-  pub form : badForm (rows case) i ≡ false
-  pub range : badRange (rows case) i ≡ false
-  pub later : last < pairKey (rowAt case i)
-  pub fits : rowAt case i .second < 65536
-  pub student : (1 ≤ rowAt case i .first) × (rowAt case i .first ≤ n)
-  pub workshop : (1 ≤ rowAt case i .second) × (rowAt case i .second ≤ m)
+  pub stop : o .at < rowCount case → Passes case (o .at) → 3 ≤ rowAt case (o .at) .kind

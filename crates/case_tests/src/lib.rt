@@ -1,14 +1,15 @@
 // Causes 1 to 5, which look at the case alone.
 ghost use mathlib.Core.Path.{_≡_};
 ghost use mathlib.Core.Bool.{_||_};
+ghost use mathlib.Core.Option.{none};
 ghost use Prim.Native.Nat.{_%_};
 ghost use lib.ListN.{length};
-ghost use Rattle.format.specs.Layout.{rowCount};
 ghost use Rattle.format.specs.Refusals.{notWithin};
+ghost use Rattle.tables.specs.Table.{Blank, Tabled};
 ghost use Rattle.case_tests.specs.Checked.{checkedOf, caseRefusal};
-ghost use Rattle.case_tests.specs.Order.{Sound};
 
 mod order;
+mod pairs;
 mod scans;
 mod sound;
 
@@ -69,36 +70,29 @@ fn check_each(case: &[u8]) -> Checked
     }
 }
 
-// Cause 4, where causes 2, 3 and 5 find nothing.
-fn check_counts(case: &[u8], students: usize, workshops: usize) -> Checked
-    requires { ⌜ length (now case) % 16 ≡ 0 ⌝ }
-    requires { ⌜ Sound (now case) (rowCount (now case)) students workshops ⌝ }
+// Causes 1 to 5, and the table of the case where they find nothing. One pass tells whether they do; else each looks for its first record.
+pub fn check_case(case: &[u8], table: &mut [u64]) -> Checked
+    requires { ⌜ Blank (now table) ⌝ }
     ensures { λ r. ⌜ r ≡ checkedOf (caseRefusal (now (case .entry))) (now (case .entry)) ⌝ }
-{
-    if bad_counts(students, workshops) {
-        refused(4, 0)
-    } else {
-        Checked::Counts {
-            students,
-            workshops,
-            pairs: records::row_count(case.len()) - students - workshops,
-        }
-    }
-}
-
-// Causes 1 to 5. One pass tells whether causes 2, 3 and 5 find nothing; else each looks for its first record.
-pub fn check_case(case: &[u8]) -> Checked
-    ensures { λ r. ⌜ r ≡ checkedOf (caseRefusal (now (case .entry))) (now (case .entry)) ⌝ }
+    ensures { λ _. ⌜ (caseRefusal (now (case .entry)) ≡ none → Tabled (now (case .entry)) (now (table .exit))) ⌝ }
 {
     if case.len() % 16 != 0 {
         return refused(1, 0);
     }
+    let rows = records::row_count(case.len());
     let heads = sound::heads(case);
-    let at = heads.at;
     let students = heads.students;
     let workshops = heads.workshops;
-    if sound::pairs_sound(case, at, students, workshops) {
-        return check_counts(case, students, workshops);
+    if bad_counts(students, workshops) {
+        return check_each(case);
     }
-    check_each(case)
+    if pairs::note_pairs(case, heads, &mut *table) < rows {
+        return check_each(case);
+    }
+    tables::note_starts(case, students, workshops, &mut *table);
+    Checked::Counts {
+        students,
+        workshops,
+        pairs: rows - students - workshops,
+    }
 }

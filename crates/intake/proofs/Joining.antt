@@ -11,16 +11,14 @@ use borrow.Author.Tests.{ltb-false}
 use Rattle.base.proofs.Tests.{or-false}
 use Rattle.base.proofs.Signed.{same-test}
 use Rattle.lgs.specs.Market.{allSeats}
-use Rattle.format.specs.Layout.{rows, ofKind, marketOf}
+use Rattle.format.specs.Layout.{rows}
 use Rattle.format.specs.Causes.{Cause, finds, firstCause}
 use Rattle.format.specs.Refusals.{Room, needed, badRoom, caseCauses, roomCauses, bookCauses, causes, refusal}
 use Rattle.format.specs.Engine.{marketIn}
-use Rattle.tables.specs.Table.{Standing}
-use Rattle.tables.proofs.Standing.{standing}
 use Rattle.case_tests.specs.declared.Checked.{Checked}
 use Rattle.case_tests.specs.declared.Checked.the-variants.{Refused}
-use Rattle.case_tests.specs.Checked.{CleanCase, checkedOf, pairCount, caseRefusal}
-use Rattle.case_tests.proofs.Cases.{refused-as, clean, few}
+use Rattle.case_tests.specs.Checked.{pairCount, caseRefusal}
+use Rattle.case_tests.proofs.Cases.{refused-as}
 use Rattle.book_tests.specs.Index.{bookRefusal}
 use Rattle.intake.specs.Tested.{Tested}
 
@@ -97,9 +95,3 @@ room-index case r e =
     let b = or-false (ltb (r .visits) _) _ a .1 in
     let d = or-false (ltb (r .seats) _) _ b .1 in
     ltb-false _ _ (or-false (ltb (r .index) (pairCount case)) _ d .0)
-
--- a clean case has its records where the table's maker needs them
-pub clean-stands : (case : List ℕ) (n m : ℕ) → CleanCase case n m → Standing case n m
-clean-stands case n m c =
-    let f = few case n m c in
-    rw (c .students, c .workshops) (standing case (clean case n m c) (omega (arith, c .students, f .0 .1)) (omega (arith, c .workshops, f .1 .1)))

@@ -63,7 +63,7 @@ pub fn check(case: &[u8], book: &[u8], room: Room, index: &mut [u16], table: &mu
     ensures { λ r. ⌜ Tested (now (case .entry)) (now (book .entry)) (lengthsOf room (length (now (index .entry)))) r (now (index .exit)) (now (table .exit)) ⌝ }
 {
     records::clear(&mut *index);
-    match case_tests::check_case(case) {
+    match case_tests::check_case(case, &mut *table) {
         Checked::Refused { cause, record } => refused(cause, record),
         Checked::Counts {
             students,
@@ -74,7 +74,6 @@ pub fn check(case: &[u8], book: &[u8], room: Room, index: &mut [u16], table: &mu
             if lengths::lacks(room, index.len(), students, pairs, seats) {
                 return refused(6, 0);
             }
-            tables::build(case, students, workshops, &mut *table);
             check_book(
                 case,
                 book,

@@ -59,7 +59,7 @@ module _ (case : List ℕ) (n m : ℕ) (o : Standing case n m) (table : List ℕ
     where
       go : (k : ℕ) × (pairPlace case s w ≡ k) × (n + m ≤ k) × (k < rowCount case) × (studentIn case k ≡ s) × (workshopIn case k ≡ w)
           → ((1 ≤ s) × (s ≤ 512)) × ((1 ≤ w) × (w ≤ 64))
-      go (k, p, f, l, a, b) = (rw a at (o .rises .student k f l), rw b at (o .rises .workshop k f l))
+      go (k, p, f, l, a, b) = rw (a, b) at (o .named k f l)
 
   noted-set : (s w : ℕ) → 1 ≤ s → s ≤ 512 → member (setOf table s) w ≡ marketIn case .paired s w
   noted-set s w f g =

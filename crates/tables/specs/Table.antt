@@ -1,5 +1,5 @@
 -- The table of a case: 1089 entries of 64 bits, made once for a call. By it a pair's record and a workshop's seats are found without a search.
-use Prim.Native.Nat.{ℕ, _+_, _-_, _*_, _≤_, _<_}
+use Prim.Native.Nat.{ℕ, _+_, _-_, _≤_, _<_}
 use mathlib.Core.Path.{_≡_}
 use mathlib.Core.Bool.{true}
 use mathlib.Core.List.{List}
@@ -65,13 +65,7 @@ pub record Stretch (case : List ℕ) (s first many : ℕ) : Type 0 where
 
 -- ---- What the table is made from.
 
--- the pairs (a k, b k), with k from `from` to n - 1, rise by student and then workshop
-pub record Rise (a b : ℕ → ℕ) (from n : ℕ) : Type 0 where
-  pub student : (k : ℕ) → from ≤ k → k < n → (1 ≤ a k) × (a k ≤ 512)
-  pub workshop : (k : ℕ) → from ≤ k → k < n → (1 ≤ b k) × (b k ≤ 64)
-  pub rise : (i j : ℕ) → from ≤ i → i < j → j < n → a i * 65536 + b i < a j * 65536 + b j
-
--- the records of m workshops stand after those of n students, and the pairs' after both, in order: so it is where causes 2 to 5 find nothing
+-- the records of m workshops stand after those of n students, and the pairs' after both: so it is where causes 2 to 5 find nothing
 pub record Standing (case : List ℕ) (n m : ℕ) : Type 0 where
   pub workshops : marketIn case .workshops ≡ m
   pub manyStudents : n ≤ 512
@@ -80,19 +74,10 @@ pub record Standing (case : List ℕ) (n m : ℕ) : Type 0 where
   pub quota : (w : ℕ) → 1 ≤ w → w ≤ m → marketIn case .quota w ≡ rowAt case (n + w - 1) .second
   pub only : (k : ℕ) → k < rowCount case → rowAt case k .kind ≡ 3 → n + m ≤ k
   pub pair : (k : ℕ) → n + m ≤ k → k < rowCount case → rowAt case k .kind ≡ 3
-  pub named : (k : ℕ) → n + m ≤ k → k < rowCount case → studentIn case k ≤ n
-  pub rises : Rise (studentIn case) (workshopIn case) (n + m) (rowCount case)
+  pub named : (k : ℕ) → n + m ≤ k → k < rowCount case
+      → ((1 ≤ studentIn case k) × (studentIn case k ≤ 512)) × ((1 ≤ workshopIn case k) × (workshopIn case k ≤ 64))
 
 -- ---- What the steps of its making give.
-
--- those of the pairs (a k, b k), with k from `from` to n - 1, that stand first and are of student s: the set of their workshops, and the end
-pub record Piled (a b : ℕ → ℕ) (from n s set end : ℕ) : Type 0 where
-  pub reach : (from ≤ end) × (end ≤ n)
-  pub hers : (k : ℕ) → from ≤ k → k < end → a k ≡ s
-  pub stop : end < n → a end ≡ s → ⊥
-  pub sound : (x : ℕ) → member set x ≡ true → (k : ℕ) × (from ≤ k) × (k < end) × (b k ≡ x)
-  pub full : (k : ℕ) → from ≤ k → k < end → member set (b k) ≡ true
-  pub place : (k : ℕ) → from ≤ k → k < end → from + count (member set) (b k - 1) ≡ k
 
 -- the table describes the pairs (a k, b k) with k from `from` to i - 1
 pub record Noted (a b : ℕ → ℕ) (from i : ℕ) (table : List ℕ) : Type 0 where

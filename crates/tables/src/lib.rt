@@ -6,59 +6,14 @@ ghost use lib.ListN.{length};
 ghost use Rattle.base.specs.Lists.{count};
 ghost use Rattle.base.specs.Bits.{member};
 ghost use Rattle.lgs.specs.Market.{seatsBefore};
-ghost use Rattle.format.specs.Layout.{rowCount};
 ghost use Rattle.format.specs.Engine.{marketIn};
 ghost use Rattle.records.specs.Records.{pairPlace};
-ghost use Rattle.tables.specs.Table.{Blank, Tabled, Stretch, Rise, Standing, Noted, Started, Piled, studentIn, workshopIn};
+ghost use Rattle.tables.specs.Table.{Tabled, Stretch, Standing, Started};
 
 // ---- the making
 
-// The workshops of one student's pairs, and the record after the last of them.
-struct Pile {
-    set: u64,
-    end: usize,
-}
-
-// The pairs of student s, which begin at record `from` where she has any.
-fn take_pile(case: &[u8], rows: usize, from: usize, s: usize) -> Pile
-    requires { ⌜ (rows ≡ rowCount (now case)) × (from ≤ rows) ⌝ }
-    requires { ⌜ Rise (studentIn (now case)) (workshopIn (now case)) from rows ⌝ }
-    ensures { λ r. ⌜ Piled (studentIn (now (case .entry))) (workshopIn (now (case .entry))) from rows s (r .set) (r .end) ⌝ }
-{
-    let mut set = 0;
-    let mut i = from;
-    while i < rows {
-        if records::first_at(case, i) as usize != s {
-            return Pile { set, end: i };
-        }
-        set = bits::with_bit(set, records::second_at(case, i) as usize);
-        i += 1;
-    }
-    Pile { set, end: i }
-}
-
-// The pairs' records, from record `from` on, student by student.
-fn note_pairs(case: &[u8], from: usize, students: usize, table: &mut [u64])
-    requires { ⌜ (from ≤ rowCount (now case)) × (students ≤ 512) ⌝ }
-    requires { ⌜ Rise (studentIn (now case)) (workshopIn (now case)) from (rowCount (now case)) ⌝ }
-    requires { ⌜ ((k : ℕ) → from ≤ k → k < rowCount (now case) → studentIn (now case) k ≤ students) ⌝ }
-    requires { ⌜ Blank (now table) ⌝ }
-    ensures { λ _. ⌜ Noted (studentIn (now (case .entry))) (workshopIn (now (case .entry))) from (rowCount (now (case .entry))) (now (table .exit)) ⌝ }
-{
-    let rows = records::row_count(case.len());
-    let mut i = from;
-    let mut s = 0;
-    while s < students {
-        let own = take_pile(case, rows, i, s + 1);
-        table[512 + s] = i as u64;
-        table[s] = own.set;
-        i = own.end;
-        s += 1;
-    }
-}
-
-// The workshops' records: where the seats of each start, and the set of them all.
-fn note_starts(case: &[u8], students: usize, workshops: usize, table: &mut [u64])
+// The workshops' records: where the seats of each start, and the set of them all. The pairs are noted before, where they are tested (`case_tests`).
+pub fn note_starts(case: &[u8], students: usize, workshops: usize, table: &mut [u64])
     requires { ⌜ Standing (now case) students workshops ⌝ }
     requires { ⌜ length (now table) ≡ 1089 ⌝ }
     ensures { λ _. ⌜ Started (now (case .entry)) (now (table .entry)) (now (table .exit)) (workshops + 1) ⌝ }
@@ -73,16 +28,6 @@ fn note_starts(case: &[u8], students: usize, workshops: usize, table: &mut [u64]
         w += 1;
     }
     table[1088] = all;
-}
-
-// The table of a case that passed causes 2 to 5.
-pub fn build(case: &[u8], students: usize, workshops: usize, table: &mut [u64])
-    requires { ⌜ Standing (now case) students workshops ⌝ }
-    requires { ⌜ Blank (now table) ⌝ }
-    ensures { λ _. ⌜ Tabled (now (case .entry)) (now (table .exit)) ⌝ }
-{
-    note_pairs(case, students + workshops, students, &mut *table);
-    note_starts(case, students, workshops, &mut *table);
 }
 
 // ---- the reading

@@ -10,13 +10,13 @@ use Rattle.case_tests.specs.Checked.{CleanCase, pairCount, checkedOf, caseRefus
 use Rattle.case_tests.proofs.Cases.{as-refused, as-clean, none-clean}
 use Rattle.book_tests.specs.Index.{bookRefusal, indexAfter}
 use Rattle.intake.specs.Tested.{lengthsOf}
-use Rattle.intake.proofs.Joining.{refusal-case, refusal-room, refusal-book, refused-tested, room-is, room-index, clean-stands}
+use Rattle.intake.proofs.Joining.{refusal-case, refusal-room, refusal-book, refused-tested, room-is, room-index}
 use borrow.Author.Needs.{needs}
 use Rattle.intake.proofs.check.Statement.{statement}
 use Rattle.intake.proofs.check.Tie as tie
 
 abbrev entry : tie.After-students → tie.Start
-entry e = e .before .before .before .before .before .before .before .before .before .before .before
+entry e = e .before .before .before .before .before .before .before .before .before .before .before .before .before .before
 
 -- what the case's answer says where it is clean
 answer : (e : tie.After-students)
@@ -24,7 +24,9 @@ answer : (e : tie.After-students)
     × (e .students .given .0 .0 ≡ marketIn (entry e .args .case .now) .students)
     × (e .students .given .0 .1 .0 ≡ marketIn (entry e .args .case .now) .workshops)
     × (e .students .given .0 .1 .1 .0 ≡ pairCount (entry e .args .case .now))
-answer e = let case = entry e .args .case .now in as-clean case (caseRefusal case) _ _ _ (sym (e .students .given .1) ∙ e .before .before .check-case .ensures)
+answer e =
+    let case = entry e .args .case .now in
+    as-clean case (caseRefusal case) _ _ _ (sym (e .students .given .1) ∙ e .before .before .before .before .check-case .ensures .0)
 
 tidy : (e : tie.After-students) → CleanCase (entry e .args .case .now) (e .students .given .0 .0) (e .students .given .0 .1 .0)
 tidy e =
@@ -39,7 +41,7 @@ tested c =
     let a = entry e .args in
     room-is (a .case .now) (lengthsOf (a .room) (length (a .index .now))) _ _ (c .before .seats-needed .result) (answer e .1) (answer e .3)
     (c .before .seats-needed .ensures)
-    ∙ sym (c .lacks .ensures ∙ rw (e .before .before .before .before .before .clear .kept .0))
+    ∙ sym (c .lacks .ensures ∙ rw (e .before .before .before .before .before .before .before .before .clear .kept .0))
 
 clear-requires : tie.Need-clear-requires
 clear-requires c κs = search needs
@@ -68,6 +70,9 @@ refused-requires-2 c κs = search needs
 same-length : tie.Need-same-length
 same-length c = search needs
 
+same-length-2 : tie.Need-same-length-2
+same-length-2 c = search needs
+
 returns : tie.Need-returns
 returns c =
     let e = c .before .before .before .before .before in
@@ -75,38 +80,22 @@ returns c =
     let room = lengthsOf (a .room) (length (a .index .now)) in
     refused-tested (a .case .now) (a .book .now) room
     (refusal-room (a .case .now) (a .book .now) room (answer e .0) (tested (c .before .before) ∙ c .before .if1 .taken)) (c .refused2 .ensures)
-    (c .before .before .before .before .before .before .before .before .before .before .clear .ensures)
-
-build-requires : tie.Need-build-requires
-build-requires c κs = let e = c .before .before .before .before .before in (clean-stands _ _ _ (tidy e), entry e .pre)
+    (c .before .before .before .before .before .before .before .before .before .before .before .before .before .clear .ensures)
 
 check-book-requires : tie.Need-check-book-requires
 check-book-requires c κs =
-    let e = c .before .before .before .before .before .before .before .before .before .before in
+    let e = c .before .before .before .before .before .before in
     let a = entry e .args in
     let p = answer e .3 in
-    let clear = c .before .before .before .before .before .before .before .before .before .before .before .before .before .before .before .clear in
-    let lacks = c .before .before .before .before .before .before in
+    let clear = e .before .before .before .before .before .before .before .before .clear in
+    let lacks = c .before .before in
     let enough = room-index (a .case .now) (lengthsOf (a .room) (length (a .index .now))) (tested (lacks .before) ∙ lacks .if1 .left) in (
       tidy e,
       (
-        c .before .before .before .before .build .ensures,
+        e .before .before .before .before .check-case .ensures .1 (answer e .0),
         (p, omega (arith, p, enough, clear .kept .0), clear .ensures ∙ ap (λ k. replicate k 0) (sym (clear .kept .0))),
       ),
     )
-
-same-length-2 : tie.Need-same-length-2
-same-length-2 c = search needs
-
-returns-2 : tie.Need-returns-2
-returns-2 c =
-    let a = c .before .before .before .before .before .before .before .before .before .before .before .before .before .args in
-    let room = lengthsOf (a .room) (length (a .index .now)) in
-    let x = c .before .before .cause .given in
-    let r = as-refused (a .case .now) (caseRefusal (a .case .now)) (x .0 .0) (x .0 .1 .0)
-    (sym (x .1) ∙ c .before .before .before .before .check-case .ensures) in
-    refused-tested (a .case .now) (a .book .now) room (refusal-case (a .case .now) (a .book .now) room _ r) (c .refused .ensures)
-    (c .before .before .before .before .before .before .before .clear .ensures)
 
 same-length-3 : tie.Need-same-length-3
 same-length-3 c = search needs
@@ -114,19 +103,34 @@ same-length-3 c = search needs
 same-length-4 : tie.Need-same-length-4
 same-length-4 c = search needs
 
+returns-2 : tie.Need-returns-2
+returns-2 c =
+    let a = c .before .before .before .before .before .before .before .before .before .before .before .before .before .before .before .before .args in
+    let room = lengthsOf (a .room) (length (a .index .now)) in
+    let x = c .before .before .cause .given in
+    let r = as-refused (a .case .now) (caseRefusal (a .case .now)) (x .0 .0) (x .0 .1 .0)
+    (sym (x .1) ∙ c .before .before .before .before .before .before .check-case .ensures .0) in
+    refused-tested (a .case .now) (a .book .now) room (refusal-case (a .case .now) (a .book .now) room _ r) (c .refused .ensures)
+    (c .before .before .before .before .before .before .before .before .before .before .clear .ensures)
+
+same-length-5 : tie.Need-same-length-5
+same-length-5 c = search needs
+
+same-length-6 : tie.Need-same-length-6
+same-length-6 c = search needs
+
 returns-3 : tie.Need-returns-3
 returns-3 c =
-    let e = c .before .before .before .before .before .before .before .before .before .before .before .before .before in
+    let e = c .before .before .before .before .before .before .before .before .before in
     let a = entry e .args in
     let room = lengthsOf (a .room) (length (a .index .now)) in
-    let lacks = c .before .before .before .before .before .before .before .before .before in
-    let clear = c .before .before .before .before .before .before .before .before .before .before .before .before .before .before .before .before .before .before .clear in
+    let lacks = c .before .before .before .before .before in
     let done = c .before .before .check-book in
     let o = refusal-book (a .case .now) (a .book .now) room (answer e .0) (tested (lacks .before) ∙ lacks .if1 .left) in
     record {
       answer = done .ensures .0 ∙ ap (λ o. checkedOf o (a .case .now)) (sym o);
-      left = done .ensures .1 ∙ rw (clear .kept .0, o);
-      tabled = λ n. c .before .before .before .before .before .before .before .build .ensures;
+      left = done .ensures .1 ∙ rw (e .before .before .before .before .before .before .before .before .clear .kept .0, o);
+      tabled = λ n. e .before .before .before .before .check-case .ensures .1 (answer e .0);
     }
 
 pub check-spec : {M : Type 1} → statement M
@@ -142,11 +146,12 @@ check-spec =
     lacks-requires
     refused-requires-2
     same-length
-    returns
-    build-requires
-    check-book-requires
     same-length-2
-    returns-2
+    returns
+    check-book-requires
     same-length-3
     same-length-4
+    returns-2
+    same-length-5
+    same-length-6
     returns-3)

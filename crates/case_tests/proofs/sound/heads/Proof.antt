@@ -2,7 +2,7 @@
 use Prim.Native.Nat.{_+_, _-_, _<_}
 use mathlib.Core.Path.{_≡_}
 use native.Mathlib.Omega.{arith}
-use borrow.Author.Tests.{not-false}
+use borrow.Author.Tests.{not-false, not-true}
 use Rattle.format.specs.Layout.{rowAt}
 use Rattle.case_tests.specs.Order.{Sound}
 use Rattle.case_tests.proofs.Sounding.{sound-start, sound-on}
@@ -25,7 +25,12 @@ is-sound-head-requires : tie.Need-is-sound-head-requires Inv-loop μ-loop
 is-sound-head-requires c κs = (omega (arith, c .before .before .row-count .ensures), c .before .loop .inv .0 .counted)
 
 returns : tie.Need-returns Inv-loop μ-loop
-returns c = record { sound = c .before .before .before .loop .inv .0; noPair = c .before .before .before .loop .inv .1 }
+returns c =
+    record {
+      sound = c .before .before .before .loop .inv .0;
+      noPair = c .before .before .before .loop .inv .1;
+      stop = λ l p. c .before .is-sound-head .ensures .1 (not-true (c .before .is-sound-head .result) (c .if1 .taken)) p;
+    }
 
 kind-at-requires : tie.Need-kind-at-requires Inv-loop μ-loop
 kind-at-requires c κs = omega (arith, c .before .before .before .before .row-count .ensures)
@@ -52,19 +57,23 @@ loop-again : tie.Need-loop-again Inv-loop μ-loop
 loop-again c =
     let case = c .before .before .before .before .before .before .before .before .before .args .case .now in
     let here = c .before .before .before .before .before .before .loop in
-    let passes = c .before .before .before .before .is-sound-head .ensures
+    let passes = c .before .before .before .before .is-sound-head .ensures .0
     (not-false (c .before .before .before .before .is-sound-head .result) (c .before .before .before .if1 .left)) in (
       rw (c .before .one-if .ensures .0, c .one-if2 .ensures .0, c .before .before .kind-at .ensures)
           (sound-on case (here .i) (here .students) (here .workshops) (here .inv .0)
-          (omega (arith, c .before .before .before .before .before .before .before .row-count .ensures)) (passes .0) (passes .1) (passes .2)),
-      λ l. let e : here .i + 1 - 1 ≡ here .i = omega arith in rw e (passes .3),
+          (omega (arith, c .before .before .before .before .before .before .before .row-count .ensures)) (passes .0)),
+      λ l. let e : here .i + 1 - 1 ≡ here .i = omega arith in rw e (passes .1),
     )
 
 returns-2 : tie.Need-returns-2 Inv-loop μ-loop
 returns-2 c =
     let e : c .before .loop .i ≡ c .before .before .row-count .result = omega
     (arith, c .before .loop .inv .0 .counted .inside, c .before .before .row-count .ensures) in
-    record { sound = rw e at (c .before .loop .inv .0); noPair = rw e at (c .before .loop .inv .1) }
+    record {
+      sound = rw e at (c .before .loop .inv .0);
+      noPair = rw e at (c .before .loop .inv .1);
+      stop = λ l p. absurd (omega (arith, c .before .before .row-count .ensures));
+    }
 
 pub heads-spec : {M : Type 1} → statement M
 heads-spec =
