@@ -68,12 +68,39 @@ pub fn entry_of(index: &[u16], first: usize, pair: usize) -> usize
     index[at] as usize
 }
 
+// The score that the student gave, from book record e - 1.
+fn student_score(book: &[u8], e: usize) -> i16
+    requires { ⌜ (1 ≤ e) × (e ≤ entryCount (now book)) ⌝ }
+    ensures { λ r. ⌜ biased r ≡ entryAt (now (book .entry)) (e - 1) .studentScore ⌝ }
+{
+    records::student_score_at(book, e - 1)
+}
+
 // The score that the workshop gave, from book record e - 1.
 pub fn workshop_score(book: &[u8], e: usize) -> i16
     requires { ⌜ (1 ≤ e) × (e ≤ entryCount (now book)) ⌝ }
     ensures { λ r. ⌜ biased r ≡ entryAt (now (book .entry)) (e - 1) .workshopScore ⌝ }
 {
     records::workshop_score_at(book, e - 1)
+}
+
+// The score that student s gave workshop w in their interview.
+pub fn student_score_of(
+    case: &[u8],
+    book: &[u8],
+    index: &[u16],
+    table: &[u64],
+    students: usize,
+    workshops: usize,
+    s: usize,
+    w: usize,
+) -> i16
+    requires { ⌜ Clean (now case) (now book) (now index) (now table) students workshops ⌝ }
+    requires { ⌜ Booked (marketIn (now case)) (resultsIn (now book)) s w ⌝ }
+    ensures { λ r. ⌜ biased r ≡ resultsIn (now (book .entry)) .studentScore s w ⌝ }
+{
+    let pair = tables::pair_at(case, table, s, w);
+    student_score(book, entry_of(index, students + workshops, pair))
 }
 
 // Where student s stands at workshop w: its tier for her, and the score that it gave her.

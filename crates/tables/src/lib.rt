@@ -76,24 +76,20 @@ pub fn pair_of(case: &[u8], table: &[u64], s: usize, w: usize) -> usize
     records::row_count(case.len())
 }
 
-// A student's pairs: the number of the first record, how many there are, and with which workshops.
+// A student's pairs: the number of the first record, and how many there are.
 pub struct Pairs {
     pub first: usize,
     pub many: usize,
-    pub set: u64,
 }
 
 pub fn pairs_of(case: &[u8], table: &[u64], s: usize) -> Pairs
     requires { ⌜ Tabled (now case) (now table) ⌝ }
     requires { ⌜ (1 ≤ s) × (s ≤ 512) ⌝ }
     ensures { λ r. ⌜ Stretch (now (case .entry)) s (r .first) (r .many) ⌝ }
-    ensures { λ r. ⌜ ((w : ℕ) → member (r .set) w ≡ marketIn (now (case .entry)) .paired s w) ⌝ }
 {
-    let set = table[s - 1];
     Pairs {
         first: table[511 + s] as usize,
-        many: bits::count(set) as usize,
-        set,
+        many: bits::count(table[s - 1]) as usize,
     }
 }
 

@@ -3,5 +3,4 @@ pub mod Due
 pub mod Visits
 pub mod Rounds
 pub mod Listing
-pub mod Favourites
 pub mod Turns

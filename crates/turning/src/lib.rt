@@ -3,14 +3,14 @@ ghost use mathlib.Core.Path.{_≡_};
 ghost use mathlib.Core.Bool.{true, cond, _&&_, _||_};
 ghost use mathlib.Core.List.{List, [], _∷_};
 ghost use Prim.Native.Nat.{ℕ, suc, _+_, _-_, _*_, _≤_, _<_};
-ghost use lib.ListN.{length, getD};
+ghost use lib.ListN.{length};
 ghost use lib.Dec.{eqb, ltb};
 ghost use Rattle.base.specs.Lists.{count};
 ghost use Rattle.base.specs.Words.{biased};
-ghost use Rattle.base.specs.Bits.{member};
+ghost use Rattle.base.specs.Bits.{member, members};
 ghost use Rattle.lgs.specs.Market.{Market, Results, seatsOf, seatsBefore};
-ghost use Rattle.lgs.specs.Rule.{unopened};
-ghost use Rattle.format.specs.Layout.{rowAt, rowCount, entryAt, entryCount, outsideScore};
+ghost use Rattle.lgs.specs.Rule.{unopened, best};
+ghost use Rattle.format.specs.Layout.{rowAt, rowCount, entryAt, entryCount};
 ghost use Rattle.format.specs.Buffers.{flat};
 ghost use Rattle.format.specs.Engine.{marketIn, resultsIn};
 ghost use Rattle.model.specs.Model.{shutBy};
@@ -120,24 +120,60 @@ fn next_student(case: &[u8], students: usize, last: usize) -> usize
 
 // ---- the best of what is open
 
-// What the outside option is compared by where it is open: the score 0, from 1. 0 stands below every score.
-fn start_score(outside: bool) -> u32
-    ensures { λ r. ⌜ r ≡ cond outside (suc outsideScore) 0 ⌝ }
+// The score that student s gave workshop w; the outside option, 0, has the score 0.
+fn score_of(
+    case: &[u8],
+    book: &[u8],
+    index: &[u16],
+    table: &[u64],
+    students: usize,
+    workshops: usize,
+    s: usize,
+    w: usize,
+) -> i16
+    requires { ⌜ Clean (now case) (now book) (now index) (now table) students workshops ⌝ }
+    requires { ⌜ (0 < w → Booked (marketIn (now case)) (resultsIn (now book)) s w) ⌝ }
+    ensures { λ r. ⌜ biased r ≡ resultsIn (now (book .entry)) .studentScore s w ⌝ }
 {
-    if outside { 32769 } else { 0 }
+    if w == 0 {
+        return 0;
+    }
+    lookup::student_score_of(case, book, index, table, students, workshops, s, w)
 }
 
-// The score that the student gave in the interview of the pair that has this record, from 1: `first` is the number of the first pair's record.
-fn score_from(book: &[u8], index: &[u16], first: usize, pair: usize) -> u32
-    requires { ⌜ (first ≤ pair) × (pair - first < length (now index)) ⌝ }
-    requires { ⌜ (1 ≤ getD (now index) (pair - first) 0) × (getD (now index) (pair - first) 0 ≤ entryCount (now book)) ⌝ }
-    ensures { λ r. ⌜ r ≡ suc (entryAt (now (book .entry)) (getD (now (index .entry)) (pair - first) 0 - 1) .studentScore) ⌝ }
+// The best of `start` and the set: the lowest is compared and taken out until none is left.
+fn best_from(
+    case: &[u8],
+    book: &[u8],
+    index: &[u16],
+    table: &[u64],
+    students: usize,
+    workshops: usize,
+    s: usize,
+    start: usize,
+    set: u64,
+) -> usize
+    requires { ⌜ Clean (now case) (now book) (now index) (now table) students workshops ⌝ }
+    requires { ⌜ (0 < start → Booked (marketIn (now case)) (resultsIn (now book)) s start) ⌝ }
+    requires { ⌜ ((w : ℕ) → member set w ≡ true → Booked (marketIn (now case)) (resultsIn (now book)) s w) ⌝ }
+    ensures { λ r. ⌜ r ≡ best (marketIn (now (case .entry))) (resultsIn (now (book .entry))) s start (members set) ⌝ }
 {
-    let e = lookup::entry_of(index, first, pair);
-    records::biased_at(book, e - 1, true) as u32 + 1
+    let mut best = start;
+    let mut top = score_of(case, book, index, table, students, workshops, s, start);
+    let mut rest = set;
+    while rest > 0 {
+        let w = bits::lowest(rest);
+        let score = score_of(case, book, index, table, students, workshops, s, w);
+        rest = bits::without_lowest(rest);
+        if records::above(score, top) {
+            best = w;
+            top = score;
+        }
+    }
+    best
 }
 
-// The best of the open set, and of the outside option if it is open; 0 also where nothing is open. Her pairs are gone over in order.
+// The best of the open set, and of the outside option if it is open; 0 also where nothing is open.
 fn favourite(
     case: &[u8],
     book: &[u8],
@@ -150,33 +186,18 @@ fn favourite(
     set: u64,
 ) -> usize
     requires { ⌜ Clean (now case) (now book) (now index) (now table) students workshops ⌝ }
-    requires { ⌜ (1 ≤ s) × (s ≤ students) ⌝ }
     requires { ⌜ ((w : ℕ) → member set w ≡ true → Booked (marketIn (now case)) (resultsIn (now book)) s w) ⌝ }
     ensures { λ r. ⌜ r ≡ favouriteIn (marketIn (now (case .entry))) (resultsIn (now (book .entry))) s outside set ⌝ }
 {
-    let from = students + workshops;
-    let own = tables::pairs_of(case, table, s);
-    let mut mine = own.set;
-    let mut pair = own.first;
-    let mut best = 0;
-    let mut top = start_score(outside);
-    while mine > 0 {
-        let w = bits::lowest(mine);
-        mine = bits::without_lowest(mine);
-        if bits::has_bit(set, w) {
-            let score = score_from(book, index, from, pair);
-            if top < score {
-                best = w;
-                top = score;
-                pair += 1;
-            } else {
-                pair += 1;
-            }
-        } else {
-            pair += 1;
-        }
+    if outside {
+        return best_from(case, book, index, table, students, workshops, s, 0, set);
     }
-    best
+    if bits::count(set) == 0 {
+        return 0;
+    }
+    let w = bits::lowest(set);
+    let rest = bits::without_bit(set, w);
+    best_from(case, book, index, table, students, workshops, s, w, rest)
 }
 
 // ---- a round of interviews

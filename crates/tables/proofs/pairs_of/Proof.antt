@@ -1,50 +1,48 @@
--- `tables::pairs_of` meets its contract. The records of a student's pairs (`stretch`), and their set (`Tabled.set`).
+-- `tables::pairs_of` meets its contract. The records of a student's pairs (`stretch`).
 use Rattle.tables.proofs.Reading.{stretch}
 use borrow.Author.Needs.{needs}
 use Rattle.tables.proofs.pairs_of.Statement.{statement}
 use Rattle.tables.proofs.pairs_of.Tie as tie
 
-sub-set : tie.Need-sub-set
-sub-set c = search needs
+add-t4 : tie.Need-add-t4
+add-t4 c = search needs
 
-mul-set : tie.Need-mul-set
-mul-set c = search needs
+mul-t5 : tie.Need-mul-t5
+mul-t5 c = search needs
 
-shared-slice-read-set : tie.Need-shared-slice-read-set
-shared-slice-read-set c = search needs
+shared-slice-read-t7 : tie.Need-shared-slice-read-t7
+shared-slice-read-t7 c = search needs
 
-add-t5 : tie.Need-add-t5
-add-t5 c = search needs
+sub-count : tie.Need-sub-count
+sub-count c = search needs
 
-mul-t6 : tie.Need-mul-t6
-mul-t6 c = search needs
+mul-count : tie.Need-mul-count
+mul-count c = search needs
 
-shared-slice-read-t8 : tie.Need-shared-slice-read-t8
-shared-slice-read-t8 c = search needs
+shared-slice-read-count : tie.Need-shared-slice-read-count
+shared-slice-read-count c = search needs
 
 count-requires : tie.Need-count-requires
 count-requires c κs = search needs
 
-cast-t12 : tie.Need-cast-t12
-cast-t12 c = search needs
+cast-t14 : tie.Need-cast-t14
+cast-t14 c = search needs
 
 returns : tie.Need-returns
 returns c =
-    let start = c .before .before .before .before .before in (
-      rw (c .count .ensures) (stretch _ _ (start .pre .0) (start .args .s) (start .pre .1 .0) (start .pre .1 .1)),
-      λ w. start .pre .0 .set (start .args .s) w (start .pre .1 .0) (start .pre .1 .1),
-    )
+    let start = c .before .before .before .before .before in
+    rw (c .count .ensures) (stretch _ _ (start .pre .0) (start .args .s) (start .pre .1 .0) (start .pre .1 .1))
 
 pub pairs-of-spec : {M : Type 1} → statement M
 pairs-of-spec =
     tie.close
     (tie.spec
-    sub-set
-    mul-set
-    shared-slice-read-set
-    add-t5
-    mul-t6
-    shared-slice-read-t8
+    add-t4
+    mul-t5
+    shared-slice-read-t7
+    sub-count
+    mul-count
+    shared-slice-read-count
     count-requires
-    cast-t12
+    cast-t14
     returns)

@@ -27,7 +27,7 @@ entry d = d .before .before .before .before .before
 -- her records
 stretch : (d : tie.After-pairs-of Inv-loop μ-loop)
     → Stretch (entry d .args .case .now) (entry d .args .s) (d .pairs-of .result .first) (d .pairs-of .result .many)
-stretch d = d .pairs-of .ensures .0
+stretch d = d .pairs-of .ensures
 
 pairs-of-requires : tie.Need-pairs-of-requires Inv-loop μ-loop
 pairs-of-requires c κs = let start = c .before .before .before .before in (start .pre .1 .0, start .pre .1 .1)

@@ -23,35 +23,35 @@ loop-holds : tie.Need-loop-holds Inv-loop μ-loop
 loop-holds c =
     let start = c .before .before .before .before in
     let a = start .args in
-    listing-start (a .case .now) (a .table .now) (start .pre .0) (a .s) (a .tier) _ _ (c .pairs-of .ensures .0) (a .pairs .now)
+    listing-start (a .case .now) (a .table .now) (start .pre .0) (a .s) (a .tier) _ _ (c .pairs-of .ensures) (a .pairs .now)
 
 add-pair : tie.Need-add-pair Inv-loop μ-loop
 add-pair c =
     omega (
       arith,
-      c .before .before .pairs-of .ensures .0 .inside (c .before .loop .k) (omega arith),
+      c .before .before .pairs-of .ensures .inside (c .before .loop .k) (omega arith),
       c .before .before .before .before .before .before .good,
     )
 
 mul-pairs : tie.Need-mul-pairs Inv-loop μ-loop
-mul-pairs c = omega (arith, c .before .loop .inv .few, c .before .before .pairs-of .ensures .0 .few)
+mul-pairs c = omega (arith, c .before .loop .inv .few, c .before .before .pairs-of .ensures .few)
 
 slice-write-pairs : tie.Need-slice-write-pairs Inv-loop μ-loop
 slice-write-pairs c =
     let start = c .before .before .before .before .before .before in
-    omega (arith, c .before .loop .inv .few, c .before .loop .inv .same, c .before .before .pairs-of .ensures .0 .few, start .pre .1 .0 .2)
+    omega (arith, c .before .loop .inv .few, c .before .loop .inv .same, c .before .before .pairs-of .ensures .few, start .pre .1 .0 .2)
 
 student-tier-requires : tie.Need-student-tier-requires Inv-loop μ-loop
-student-tier-requires c κs = c .before .before .pairs-of .ensures .0 .inside (c .before .loop .k) (omega arith)
+student-tier-requires c κs = c .before .before .pairs-of .ensures .inside (c .before .loop .k) (omega arith)
 
 one-if-requires : tie.Need-one-if-requires Inv-loop μ-loop
 one-if-requires c κs = tt
 
 add-n : tie.Need-add-n Inv-loop μ-loop
-add-n c = omega (arith, c .before .before .before .loop .inv .few, c .before .before .before .before .pairs-of .ensures .0 .few)
+add-n c = omega (arith, c .before .before .before .loop .inv .few, c .before .before .before .before .pairs-of .ensures .few)
 
 add-k : tie.Need-add-k Inv-loop μ-loop
-add-k c = omega (arith, c .before .before .before .before .pairs-of .ensures .0 .few)
+add-k c = omega (arith, c .before .before .before .before .pairs-of .ensures .few)
 
 loop-less : tie.Need-loop-less Inv-loop μ-loop
 loop-less c = omega arith
@@ -63,11 +63,11 @@ loop-again c =
     let here = c .before .before .before .loop in
     let own = c .before .before .before .before .pairs-of in
     let w = workshopIn (a .case .now) (own .result .first + here .k) in
-    let e = sym (own .ensures .0 .place (here .k) (omega arith)) in
-    let t = tier-paired (a .case .now) (a .s) w (a .tier) _ e (own .ensures .0 .inside (here .k) (omega arith)) (start .pre .1 .1 w) in
-    listing-more (a .case .now) (a .table .now) (start .pre .0) (a .s) (a .tier) _ _ (own .ensures .0) (a .pairs .now) (here .pairs) (here .n) (here .k)
+    let e = sym (own .ensures .place (here .k) (omega arith)) in
+    let t = tier-paired (a .case .now) (a .s) w (a .tier) _ e (own .ensures .inside (here .k) (omega arith)) (start .pre .1 .1 w) in
+    listing-more (a .case .now) (a .table .now) (start .pre .0) (a .s) (a .tier) _ _ (own .ensures) (a .pairs .now) (here .pairs) (here .n) (here .k)
     (here .inv) (omega arith) w refl (c .one-if .result)
-    (omega (arith, here .inv .few, here .inv .same, own .ensures .0 .few, start .pre .1 .0 .2))
+    (omega (arith, here .inv .few, here .inv .same, own .ensures .few, start .pre .1 .0 .2))
     (c .one-if .ensures .0 ∙ rw (c .before .student-tier .ensures) (ap one (sym t)))
 
 same-length : tie.Need-same-length Inv-loop μ-loop
@@ -78,7 +78,7 @@ returns c =
     let start = c .before .before .before .before .before .before in
     let a = start .args in
     let here = c .before .loop in
-    listing-end (a .case .now) (a .table .now) (start .pre .0) (a .s) (a .tier) _ _ (c .before .before .pairs-of .ensures .0) (a .pairs .now) (here .pairs)
+    listing-end (a .case .now) (a .table .now) (start .pre .0) (a .s) (a .tier) _ _ (c .before .before .pairs-of .ensures) (a .pairs .now) (here .pairs)
     (here .n) (here .k) (here .inv) (omega arith)
 
 pub list-tier-spec : {M : Type 1} → statement M
