@@ -1,5 +1,5 @@
 -- The table while it is made: one student's pairs, by `take_pile`, all of them, by `note_pairs`, and the starts of the seats, by `note_starts`.
-use Prim.Native.Nat.{ℕ, zero, suc, _+_, _-_, _^_, _≤_, _<_}
+use Prim.Native.Nat.{ℕ, zero, suc, _+_, _-_, _*_, _^_, _≤_, _<_}
 use mathlib.Core.Path.{_≡_, refl, sym, ap, _∙_}
 use mathlib.Core.Logic.{⊎-elim}
 use mathlib.Core.Bool.{Bool, true, false, cond, _&&_, _||_}
@@ -12,11 +12,11 @@ use borrow.Author.Tests.{eq-eqb, ne-eqb, eqb-true}
 use Rattle.base.specs.Lists.{count, total}
 use Rattle.base.specs.Bits.{member}
 use Rattle.base.proofs.Tests.{is-false, never, and-left, and-right, and-make, or-true, or-left, or-right, eq?, less?}
-use Rattle.base.proofs.Counting.{find?, count-same, count-more, count-none}
+use Rattle.base.proofs.Counting.{find?, count-same, count-more, count-none, count-le}
 use Rattle.base.proofs.Digits.{bit-zero, count-empty}
 use Rattle.lgs.specs.Market.{Market, seatsOf, seatsBefore}
 use Rattle.format.specs.Engine.{marketIn}
-use Rattle.tables.specs.Table.{setOf, firstOf, startOf, Blank, Rise, Piled, Noted, Started}
+use Rattle.tables.specs.Table.{setOf, entryOf, startOf, Blank, Rise, Piled, Noted, Started}
 
 -- nobody is in the set 0
 pub member-zero : (x : ℕ) → member 0 x ≡ false
@@ -52,6 +52,7 @@ noted-none a b from table z =
       sound = λ s x f g m. never (rw (z .zero (s - 1)) at m) (member-zero x);
       full = λ k f h. absurd (omega arith);
       place = λ k f h. absurd (omega arith);
+      small = λ s f g. omega (arith, z .zero (511 + s));
     }
 
 -- ---- the pairs of one student, from record `from` to i - 1
@@ -75,7 +76,8 @@ module _ (a b : ℕ → ℕ) (from s : ℕ) where
 
   pub piled : (n i set : ℕ) → Piling a b from i s set → from ≤ i → i ≤ n → (i < n → a i ≡ s → ⊥) → Piled a b from n s set i
   piled n i set I f g stop =
-      record { reach = (f, g); hers = I .hers; stop = stop; sound = I .sound; full = I .full; place = I .place }
+      let few : i ≤ from + 64 = omega (arith, I .many, count-le (member set) 64) in
+      record { reach = (f, g); few = few; hers = I .hers; stop = stop; sound = I .sound; full = I .full; place = I .place }
 
   -- one pair more
   module _ (n i old new : ℕ) (o : Rise a b from n) (l : from ≤ i) (u : i < n) (e : a i ≡ s) (I : Piling a b from i s old)
@@ -140,6 +142,7 @@ rise-from a b from i n l o =
 -- ---- one student more: the pairs of students 1 to s stand before record i, and the table has them
 pub record Shelved (a b : ℕ → ℕ) (from n s i : ℕ) (table : List ℕ) : Type 0 where
   pub reach : (from ≤ i) × (i ≤ n)
+  pub upto : i ≤ from + 64 * s
   pub done : (k : ℕ) → from ≤ k → k < i → a k ≤ s
   pub left : (k : ℕ) → i ≤ k → k < n → s < a k
   pub noted : Noted a b from i table
@@ -148,12 +151,13 @@ pub shelved-none : (a b : ℕ → ℕ) (from n : ℕ) (table : List ℕ) → fro
 shelved-none a b from n table l o z =
     record {
       reach = (omega arith, l);
+      upto = omega arith;
       done = λ k f h. absurd (omega arith);
       left = λ k f h. omega (arith, o .student k f h .0);
       noted = noted-none a b from table z;
     }
 
-module _ (a b : ℕ → ℕ) (from n s i : ℕ) (old : List ℕ) (o : Rise a b from n) (I : Shelved a b from n s i old) (less : s < 512)
+module _ (a b : ℕ → ℕ) (from n s i : ℕ) (old : List ℕ) (o : Rise a b from n) (I : Shelved a b from n s i old) (less : s < 512) (low : from ≤ 576)
     (set′ end : ℕ) (P : Piled a b i n (suc s) set′ end) where
   abbrev middle : List ℕ
   middle = set old (512 + s) i
@@ -167,19 +171,19 @@ module _ (a b : ℕ → ℕ) (from n s i : ℕ) (old : List ℕ) (o : Rise a b f
   set-here : setOf new (suc s) ≡ set′
   set-here = let e : suc s - 1 ≡ s = omega arith in rw e (getD-set-same middle s set′ 0 (omega (arith, long)))
 
-  first-here : firstOf new (suc s) ≡ i
+  first-here : entryOf new (suc s) ≡ i
   first-here =
       let e : 511 + suc s ≡ 512 + s = omega arith in
       rw e (getD-set-other middle s (512 + s) set′ 0 (λ q. omega arith) ∙ getD-set-same old (512 + s) i 0 (omega (arith, I .noted .sized)))
 
-  elsewhere : (t : ℕ) → 1 ≤ t → t ≤ 512 → (t ≡ suc s → ⊥) → (setOf new t ≡ setOf old t) × (firstOf new t ≡ firstOf old t)
+  elsewhere : (t : ℕ) → 1 ≤ t → t ≤ 512 → (t ≡ suc s → ⊥) → (setOf new t ≡ setOf old t) × (entryOf new t ≡ entryOf old t)
   elsewhere t f g ne = (
     getD-set-other middle s (t - 1) set′ 0 (λ q. ne (omega arith)) ∙ getD-set-other old (512 + s) (t - 1) i 0 (λ q. omega arith),
     getD-set-other middle s (511 + t) set′ 0 (λ q. omega arith) ∙ getD-set-other old (512 + s) (511 + t) i 0 (λ q. ne (omega arith)),
   )
 
   -- a pair that was noted before is another student's
-  other : (k : ℕ) → from ≤ k → k < i → (setOf new (a k) ≡ setOf old (a k)) × (firstOf new (a k) ≡ firstOf old (a k))
+  other : (k : ℕ) → from ≤ k → k < i → (setOf new (a k) ≡ setOf old (a k)) × (entryOf new (a k) ≡ entryOf old (a k))
   other k f h =
       let r : (1 ≤ a k) × (a k ≤ 512) = o .student k f (omega (arith, I .reach)) in
       elsewhere (a k) (r .0) (r .1) (λ q. omega (arith, I .done k f h))
@@ -206,12 +210,17 @@ module _ (a b : ℕ → ℕ) (from n s i : ℕ) (old : List ℕ) (o : Rise a b f
         place = λ k f h.
             either k h (λ q. rw (other k f q .0, other k f q .1) (I .noted .place k f q))
             (λ q. rw (P .hers k q h, set-here, first-here) (P .place k q h));
+        small = λ t f g.
+            ⊎-elim (λ (q : t ≡ suc s). rw (q, first-here) (omega (arith, I .upto)))
+            (λ (ne : t ≡ suc s → ⊥). rw (elsewhere t f g ne .1) (I .noted .small t f g))
+            (eq? t (suc s));
       }
 
   pub shelved-more : Shelved a b from n (s + 1) end new
   shelved-more =
       record {
         reach = (omega (arith, I .reach, P .reach), P .reach .1);
+        upto = omega (arith, I .upto, P .few);
         done = λ k f h.
             either k h (λ q. omega (arith, I .done k f q)) (λ q. omega (arith, P .hers k q h));
         left = λ k f h. after k f h;

@@ -17,9 +17,12 @@ use Rattle.records.specs.Records.{pairPlace}
 abbrev pub setOf : List ℕ → ℕ → ℕ
 setOf table s = getD table (s - 1) 0
 
--- the number of her first pair's record
+-- her entry: the number of her first pair's record
+abbrev pub entryOf : List ℕ → ℕ → ℕ
+entryOf table s = getD table (511 + s) 0
+
 abbrev pub firstOf : List ℕ → ℕ → ℕ
-firstOf table s = getD table (511 + s) 0
+firstOf table s = entryOf table s
 
 -- where the seats of workshop w, from 1 to 64, start
 abbrev pub startOf : List ℕ → ℕ → ℕ
@@ -88,6 +91,7 @@ pub record Standing (case : List ℕ) (n m : ℕ) : Type 0 where
 -- those of the pairs (a k, b k), with k from `from` to n - 1, that stand first and are of student s: the set of their workshops, and the end
 pub record Piled (a b : ℕ → ℕ) (from n s set end : ℕ) : Type 0 where
   pub reach : (from ≤ end) × (end ≤ n)
+  pub few : end ≤ from + 64
   pub hers : (k : ℕ) → from ≤ k → k < end → a k ≡ s
   pub stop : end < n → a end ≡ s → ⊥
   pub sound : (x : ℕ) → member set x ≡ true → (k : ℕ) × (from ≤ k) × (k < end) × (b k ≡ x)
@@ -99,7 +103,8 @@ pub record Noted (a b : ℕ → ℕ) (from i : ℕ) (table : List ℕ) : Type 0 
   pub sized : length table ≡ 1089
   pub sound : (s x : ℕ) → 1 ≤ s → s ≤ 512 → member (setOf table s) x ≡ true → (k : ℕ) × (from ≤ k) × (k < i) × (a k ≡ s) × (b k ≡ x)
   pub full : (k : ℕ) → from ≤ k → k < i → member (setOf table (a k)) (b k) ≡ true
-  pub place : (k : ℕ) → from ≤ k → k < i → firstOf table (a k) + pairsUpTo table (a k) (b k - 1) ≡ k
+  pub place : (k : ℕ) → from ≤ k → k < i → entryOf table (a k) + pairsUpTo table (a k) (b k - 1) ≡ k
+  pub small : (s : ℕ) → 1 ≤ s → s ≤ 512 → entryOf table s < 65536
 
 -- the table with the starts of the seats of workshops 1 to m - 1, and their set, beside its other entries
 pub record Started (case : List ℕ) (old new : List ℕ) (m : ℕ) : Type 0 where

@@ -39,7 +39,7 @@ fn take_pile(case: &[u8], rows: usize, from: usize, s: usize) -> Pile
 
 // The pairs' records, from record `from` on, student by student.
 fn note_pairs(case: &[u8], from: usize, students: usize, table: &mut [u64])
-    requires { ⌜ (from ≤ rowCount (now case)) × (students ≤ 512) ⌝ }
+    requires { ⌜ (from ≤ rowCount (now case)) × (students ≤ 512) × (from ≤ 576) ⌝ }
     requires { ⌜ Rise (studentIn (now case)) (workshopIn (now case)) from (rowCount (now case)) ⌝ }
     requires { ⌜ ((k : ℕ) → from ≤ k → k < rowCount (now case) → studentIn (now case) k ≤ students) ⌝ }
     requires { ⌜ Blank (now table) ⌝ }

@@ -75,7 +75,7 @@ loop-again c =
     let p = rw (c .before .before .before .row-count .ensures, e) at (c .take-pile .ensures) in (
       omega arith,
       shelved-more _ _ (start .args .from) _ (here .s) (here .i) (here .table) (start .pre .1 .0) (here .inv .1) (omega arith)
-          (c .take-pile .result .set) (c .take-pile .result .end) p,
+          (start .pre .0 .2) (c .take-pile .result .set) (c .take-pile .result .end) p,
     )
 
 -- src/lib.rt:41:1
