@@ -1,5 +1,5 @@
--- `tables::build` meets its contract. What the two passes leave is the table of the case (`tabled`).
-use Rattle.tables.proofs.Reading.{tabled}
+-- `tables::build` meets its contract. What the two passes leave is the table of the case (`made`).
+use Rattle.tables.proofs.Reading.{made}
 use borrow.Author.Needs.{needs}
 use Rattle.tables.proofs.build.Statement.{statement}
 use Rattle.tables.proofs.build.Tie as tie
@@ -19,7 +19,7 @@ same-length c = search needs
 returns : tie.Need-returns
 returns c =
     let start = c .before .before .before .before .before .before .before .before .before .before in
-    tabled _ _ _ (start .pre .0) _ (c .before .before .before .before .before .before .note-pairs .ensures) _ (c .before .before .note-starts .ensures)
+    made _ _ _ (start .pre .0) _ (c .before .before .before .before .before .before .note-pairs .ensures) _ (c .before .before .note-starts .ensures)
 
 pub build-spec : {M : Type 1} → statement M
 build-spec =
