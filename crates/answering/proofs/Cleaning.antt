@@ -31,7 +31,8 @@ use Rattle.case_tests.specs.Checked.{CleanCase, pairCount}
 use Rattle.case_tests.proofs.Cases.{clean, pairs-found}
 use Rattle.book_tests.specs.Index.{fromOne, lentIndex}
 use Rattle.book_tests.proofs.Indexing.{Placed, placed-by, index-at, lent-length, any-number}
-use Rattle.tables.specs.Table.{Tabled}
+use Rattle.tables.specs.Table.{Tabled, Linked, Staged}
+use Rattle.tables.proofs.Standing.{staged}
 
 module _ (case book : List ℕ) (c : CleanCase case (marketIn case .students) (marketIn case .workshops)) (passed : Passed case book)
     (bytes : (k : ℕ) → getD case k 0 < 256) (lent : ℕ) (room : pairCount case ≤ lent) where
@@ -123,14 +124,19 @@ module _ (case book : List ℕ) (c : CleanCase case (marketIn case .students) (m
           entry-pair s w i (first-below (λ k. isInterview s w (entryAt book k)) (entryCount book) i e)
           (first-passes (λ k. isInterview s w (entryAt book k)) (entryCount book) i e)
 
-  pub all-clean : (table : List ℕ) → Tabled case table → Clean case book index table n m
-  all-clean table tabled =
+  pub all-staged : Staged case n
+  all-staged =
+      staged case (clean case n m c) (pairs-found case n m c bytes .manyStudents) (pairs-found case n m c bytes .manyWorkshops) (passed .range)
+
+  pub all-clean : (table : List ℕ) → Tabled case table → Linked case table n → Clean case book index table n m
+  all-clean table tabled linked =
       record {
         students = refl;
         workshops = refl;
         manyStudents = pairs-found case n m c bytes .manyStudents;
         manyWorkshops = pairs-found case n m c bytes .manyWorkshops;
         tabled = tabled;
+        linked = linked;
         student = λ s a b. record {
           from = a;
           to = omega (arith, places case (clean case n m c) .whole);
@@ -188,7 +194,12 @@ clean-case case book room valid =
       workshops = refl;
     }
 
+pub valid-staged : (case book : List ℕ) (room : Room) → Valid case book room → ((k : ℕ) → getD case k 0 < 256) → Staged case (marketIn case .students)
+valid-staged case book room valid bytes =
+    all-staged case book (clean-case case book room valid) (passed case book room valid) bytes (room .index) (enough case book room valid .index)
+
 pub valid-clean : (case book : List ℕ) (room : Room) → Valid case book room → ((k : ℕ) → getD case k 0 < 256) → (table : List ℕ) → Tabled case table
+    → Linked case table (marketIn case .students)
     → Clean case book (lentIndex case book (entryCount book) (room .index)) table (marketIn case .students) (marketIn case .workshops)
 valid-clean case book room valid bytes =
     all-clean case book (clean-case case book room valid) (passed case book room valid) bytes (room .index) (enough case book room valid .index)

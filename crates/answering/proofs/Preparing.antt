@@ -18,7 +18,9 @@ use Rattle.case_tests.proofs.Cases.{as-refused, as-clean}
 use Rattle.intake.specs.Tested.{Tested}
 use Rattle.answering.specs.declared.Prepared.{Prepared}
 use Rattle.answering.specs.Steps.{Halted, Started, Found, noRun}
-use Rattle.answering.proofs.Cleaning.{valid-clean}
+use Rattle.tables.specs.Table.{Made, Staged, Linked, Kept}
+use Rattle.tables.proofs.Reading.{kept-tabled}
+use Rattle.answering.proofs.Cleaning.{valid-staged, valid-clean}
 
 module _ (case book index table : List ℕ) (room : Room) (checked : Checked) (says : Tested case book room checked index table) where
   pub found-halted : (k i : ℕ) → checked ≡ Halts k i → (p : Prepared)
@@ -37,14 +39,24 @@ module _ (case book index table : List ℕ) (room : Room) (checked : Checked) (s
     free : (refusal case book room ≡ none) × (n ≡ marketIn case .students) × (m ≡ marketIn case .workshops) × (k ≡ pairCount case)
     free = as-clean case (refusal case book room) n m k (sym e ∙ says .answer)
 
-    pub clean : Clean case book index table n m
-    clean =
-        rw (says .left, free .0, free .1, free .2)
-        (valid-clean case book room (refusal-none case book room (free .0)) bytes table (says .tabled (free .0)))
+    -- what the links are made from
+    pub made : Made case table
+    made = says .tabled (free .0)
 
-    pub found-started : (p : Prepared)
-        → p .run ≡ beginRun (marketIn case) (resultsIn book) → p .cause ≡ 0 → p .students ≡ n → p .workshops ≡ m
-        → Found case book index table p (refusal case book room)
-    found-started p r c s w =
-        subst (λ (o : Option (ℕ × ℕ)). Found case book index table p o) (sym (free .0))
-        (record { cause = c; run = r; clean = rw (s, w) clean })
+    pub stages : Staged case n
+    stages = rw (free .1) (valid-staged case book room (refusal-none case book room (free .0)) bytes)
+
+    -- the table with the links
+    module _ (linked : List ℕ) (links : Linked case linked n) (kept : Kept table linked) where
+      pub clean : Clean case book index linked n m
+      clean =
+          let own : Linked case linked (marketIn case .students) = rw (← free .1) links in
+          rw (says .left, free .0, free .1, free .2)
+          (valid-clean case book room (refusal-none case book room (free .0)) bytes linked (kept-tabled case table linked (made .tabled) kept) own)
+
+      pub found-started : (p : Prepared)
+          → p .run ≡ beginRun (marketIn case) (resultsIn book) → p .cause ≡ 0 → p .students ≡ n → p .workshops ≡ m
+          → Found case book index linked p (refusal case book room)
+      found-started p r c s w =
+          subst (λ (o : Option (ℕ × ℕ)). Found case book index linked p o) (sym (free .0))
+          (record { cause = c; run = r; clean = rw (s, w) clean })

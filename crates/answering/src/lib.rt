@@ -97,7 +97,8 @@ pub fn prepare(
             workshops,
             pairs: _,
         } => {
-            let run = turning::begin_run(case, students);
+            tables::link(case, students, &mut *table);
+            let run = turning::begin_run(case, &table[..]);
             Prepared {
                 run,
                 cause: 0,

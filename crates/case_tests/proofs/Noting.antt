@@ -1,5 +1,5 @@
 -- The pairs noted in the table: one student's, by `take_pile`, and all of them, by `note_pairs`.
-use Prim.Native.Nat.{ℕ, zero, suc, _+_, _-_, _≤_, _<_}
+use Prim.Native.Nat.{ℕ, zero, suc, _+_, _-_, _*_, _≤_, _<_}
 use mathlib.Core.Path.{_≡_, refl, sym, ap, _∙_}
 use mathlib.Core.Logic.{⊎-elim}
 use mathlib.Core.Bool.{true, false, _||_}
@@ -12,8 +12,8 @@ use borrow.Author.Tests.{eq-eqb, ne-eqb, eqb-true}
 use Rattle.base.specs.Lists.{count}
 use Rattle.base.specs.Bits.{member}
 use Rattle.base.proofs.Tests.{is-false, never, or-true, or-left, or-right, eq?, less?}
-use Rattle.base.proofs.Counting.{count-same, count-more, count-none}
-use Rattle.tables.specs.Table.{setOf, firstOf, Blank, Noted}
+use Rattle.base.proofs.Counting.{count-same, count-more, count-none, count-le}
+use Rattle.tables.specs.Table.{setOf, entryOf, Blank, Noted}
 use Rattle.tables.proofs.Laws.{member-zero, count-stop}
 use Rattle.case_tests.specs.Pairs.{Piled}
 
@@ -25,6 +25,7 @@ noted-none a b from table z =
       sound = λ s x f g m. never (rw (z .zero (s - 1)) at m) (member-zero x);
       full = λ k f h. absurd (omega arith);
       place = λ k f h. absurd (omega arith);
+      small = λ s f g. omega (arith, z .zero (511 + s));
     }
 
 -- ---- the pairs of one student, from record `from` to i - 1, with workshops up to `last`
@@ -49,7 +50,9 @@ module _ (a b : ℕ → ℕ) (from s : ℕ) where
       }
 
   pub piled : (i last set : ℕ) → Piling a b from i s last set → from ≤ i → Piled a b from s set i
-  piled i last set I f = record { reach = f; hers = I .hers; sound = I .sound; full = I .full; place = I .place }
+  piled i last set I f =
+      let few : i ≤ from + 64 = omega (arith, I .many, count-le (member set) 64) in
+      record { reach = f; few = few; hers = I .hers; sound = I .sound; full = I .full; place = I .place }
 
   -- one pair more
   module _ (i last old new : ℕ) (l : from ≤ i) (e : a i ≡ s) (later : last < b i) (u : b i ≤ 64) (I : Piling a b from i s last old)
@@ -106,13 +109,15 @@ module _ (a b : ℕ → ℕ) (from s : ℕ) where
 -- ---- one student more: the pairs of students 1 to s stand before record i, and the table has them
 pub record Shelved (a b : ℕ → ℕ) (from s i : ℕ) (table : List ℕ) : Type 0 where
   pub reach : from ≤ i
+  pub upto : i ≤ from + 64 * s
   pub done : (k : ℕ) → from ≤ k → k < i → (1 ≤ a k) × (a k ≤ s)
   pub noted : Noted a b from i table
 
 pub shelved-none : (a b : ℕ → ℕ) (from : ℕ) (table : List ℕ) → Blank table → Shelved a b from 0 from table
-shelved-none a b from table z = record { reach = omega arith; done = λ k f h. absurd (omega arith); noted = noted-none a b from table z }
+shelved-none a b from table z =
+    record { reach = omega arith; upto = omega arith; done = λ k f h. absurd (omega arith); noted = noted-none a b from table z }
 
-module _ (a b : ℕ → ℕ) (from s i : ℕ) (old : List ℕ) (I : Shelved a b from s i old) (less : s < 512)
+module _ (a b : ℕ → ℕ) (from s i : ℕ) (old : List ℕ) (I : Shelved a b from s i old) (less : s < 512) (low : from ≤ 576)
     (set′ end : ℕ) (P : Piled a b i (suc s) set′ end) where
   abbrev middle : List ℕ
   middle = set old (512 + s) i
@@ -126,19 +131,19 @@ module _ (a b : ℕ → ℕ) (from s i : ℕ) (old : List ℕ) (I : Shelved a b 
   set-here : setOf new (suc s) ≡ set′
   set-here = let e : suc s - 1 ≡ s = omega arith in rw e (getD-set-same middle s set′ 0 (omega (arith, long)))
 
-  first-here : firstOf new (suc s) ≡ i
+  first-here : entryOf new (suc s) ≡ i
   first-here =
       let e : 511 + suc s ≡ 512 + s = omega arith in
       rw e (getD-set-other middle s (512 + s) set′ 0 (λ q. omega arith) ∙ getD-set-same old (512 + s) i 0 (omega (arith, I .noted .sized)))
 
-  elsewhere : (t : ℕ) → 1 ≤ t → t ≤ 512 → (t ≡ suc s → ⊥) → (setOf new t ≡ setOf old t) × (firstOf new t ≡ firstOf old t)
+  elsewhere : (t : ℕ) → 1 ≤ t → t ≤ 512 → (t ≡ suc s → ⊥) → (setOf new t ≡ setOf old t) × (entryOf new t ≡ entryOf old t)
   elsewhere t f g ne = (
     getD-set-other middle s (t - 1) set′ 0 (λ q. ne (omega arith)) ∙ getD-set-other old (512 + s) (t - 1) i 0 (λ q. omega arith),
     getD-set-other middle s (511 + t) set′ 0 (λ q. omega arith) ∙ getD-set-other old (512 + s) (511 + t) i 0 (λ q. ne (omega arith)),
   )
 
   -- a pair that was noted before is another student's
-  other : (k : ℕ) → from ≤ k → k < i → (setOf new (a k) ≡ setOf old (a k)) × (firstOf new (a k) ≡ firstOf old (a k))
+  other : (k : ℕ) → from ≤ k → k < i → (setOf new (a k) ≡ setOf old (a k)) × (entryOf new (a k) ≡ entryOf old (a k))
   other k f h =
       let r : (1 ≤ a k) × (a k ≤ s) = I .done k f h in
       elsewhere (a k) (r .0) (omega arith) (λ q. omega arith)
@@ -165,12 +170,17 @@ module _ (a b : ℕ → ℕ) (from s i : ℕ) (old : List ℕ) (I : Shelved a b 
         place = λ k f h.
             either k h (λ q. rw (other k f q .0, other k f q .1) (I .noted .place k f q))
             (λ q. rw (P .hers k q h, set-here, first-here) (P .place k q h));
+        small = λ t f g.
+            ⊎-elim (λ (q : t ≡ suc s). rw (q, first-here) (omega (arith, I .upto)))
+            (λ (ne : t ≡ suc s → ⊥). rw (elsewhere t f g ne .1) (I .noted .small t f g))
+            (eq? t (suc s));
       }
 
   pub shelved-more : Shelved a b from (s + 1) end new
   shelved-more =
       record {
         reach = omega (arith, I .reach, P .reach);
+        upto = omega (arith, I .upto, P .few);
         done = λ k f h.
             either k h (λ q. (I .done k f q .0, omega (arith, I .done k f q .1))) (λ q. (omega (arith, P .hers k q h), omega (arith, P .hers k q h)));
         noted = noted-next;

@@ -11,9 +11,9 @@ use Rattle.base.proofs.Search.{none-fails}
 use Rattle.format.specs.Layout.{rowAt, rows, rowCount, ofKind}
 use Rattle.format.specs.Refusals.{notWithin, badForm, badOrder, badRange}
 use Rattle.format.proofs.Positions.{Sorted, sorted, is-within, kindsBefore, kinds-before, kind-within, students-count, workshops-count}
-use Rattle.tables.specs.Table.{studentIn, workshopIn, Standing, Noted, Started, Tabled}
+use Rattle.tables.specs.Table.{studentIn, workshopIn, Standing, Noted, Started, Made}
 use Rattle.tables.proofs.Standing.{standing}
-use Rattle.tables.proofs.Reading.{tabled}
+use Rattle.tables.proofs.Reading.{made}
 use Rattle.case_tests.specs.declared.order.Order.{Order}
 use Rattle.case_tests.specs.Order.{Passes, Counted, Sound, Heads}
 use Rattle.case_tests.specs.Checked.{CleanCase}
@@ -103,5 +103,5 @@ module _ (case : List ℕ) (o : Order) (h : Heads case o) where
   -- the table of the pairs and of the seats' starts
   pub heads-tabled : CleanCase case (o .students) (o .workshops) → (pairs new : List ℕ) → Noted (studentIn case) (workshopIn case) (o .at) (rowCount case) pairs
       → Started case pairs new (o .workshops + 1)
-      → Tabled case new
-  heads-tabled c pairs new I S = tabled case (o .students) (o .workshops) (clean-stands case (o .students) (o .workshops) c) pairs (rw heads-end at I) new S
+      → Made case new
+  heads-tabled c pairs new I S = made case (o .students) (o .workshops) (clean-stands case (o .students) (o .workshops) c) pairs (rw heads-end at I) new S

@@ -29,6 +29,7 @@ pub record Trail (case : List ℕ) (n m i s last : ℕ) : Type 0 where
 -- the pairs (a k, b k), with k from `from` to end - 1, are of student s: the set of their workshops, by which a pair is counted from the first
 pub record Piled (a b : ℕ → ℕ) (from s set end : ℕ) : Type 0 where
   pub reach : from ≤ end
+  pub few : end ≤ from + 64
   pub hers : (k : ℕ) → from ≤ k → k < end → a k ≡ s
   pub sound : (x : ℕ) → member set x ≡ true → (k : ℕ) × (from ≤ k) × (k < end) × (b k ≡ x)
   pub full : (k : ℕ) → from ≤ k → k < end → member set (b k) ≡ true

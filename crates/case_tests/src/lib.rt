@@ -5,7 +5,7 @@ ghost use mathlib.Core.Option.{none};
 ghost use Prim.Native.Nat.{_%_};
 ghost use lib.ListN.{length};
 ghost use Rattle.format.specs.Refusals.{notWithin};
-ghost use Rattle.tables.specs.Table.{Blank, Tabled};
+ghost use Rattle.tables.specs.Table.{Blank, Made};
 ghost use Rattle.case_tests.specs.Checked.{checkedOf, caseRefusal};
 
 mod order;
@@ -74,7 +74,7 @@ fn check_each(case: &[u8]) -> Checked
 pub fn check_case(case: &[u8], table: &mut [u64]) -> Checked
     requires { ⌜ Blank (now table) ⌝ }
     ensures { λ r. ⌜ r ≡ checkedOf (caseRefusal (now (case .entry))) (now (case .entry)) ⌝ }
-    ensures { λ _. ⌜ (caseRefusal (now (case .entry)) ≡ none → Tabled (now (case .entry)) (now (table .exit))) ⌝ }
+    ensures { λ _. ⌜ (caseRefusal (now (case .entry)) ≡ none → Made (now (case .entry)) (now (table .exit))) ⌝ }
 {
     if case.len() % 16 != 0 {
         return refused(1, 0);

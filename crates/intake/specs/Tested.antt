@@ -5,7 +5,7 @@ use mathlib.Core.List.{List}
 use mathlib.Core.Option.{none}
 use Rattle.format.specs.Refusals.{refusal}
 use Rattle.format.specs.Refusals.{Room as Lengths}
-use Rattle.tables.specs.Table.{Tabled}
+use Rattle.tables.specs.Table.{Made}
 use Rattle.case_tests.specs.declared.Checked.{Checked}
 use Rattle.case_tests.specs.Checked.{checkedOf}
 use Rattle.book_tests.specs.Index.{indexAfter}
@@ -19,4 +19,4 @@ lengthsOf r n = record { places = r .places; visits = r .visits; seats = r .seat
 pub record Tested (case book : List ℕ) (room : Lengths) (r : Checked) (index table : List ℕ) : Type 0 where
   pub answer : r ≡ checkedOf (refusal case book room) case
   pub left : index ≡ indexAfter (refusal case book room) case book (room .index)
-  pub tabled : refusal case book room ≡ none → Tabled case table
+  pub tabled : refusal case book room ≡ none → Made case table

@@ -8,7 +8,7 @@ use Rattle.lgs.specs.Market.{studentOutside, workshopOutside}
 use Rattle.format.specs.Layout.{rowAt, rowCount, entryAt, entryCount}
 use Rattle.format.specs.Engine.{marketIn, resultsIn}
 use Rattle.records.specs.Records.{pairPlace}
-use Rattle.tables.specs.Table.{Tabled}
+use Rattle.tables.specs.Table.{Tabled, Linked}
 
 -- record s - 1 is that of student s
 pub record StudentAt (case : List ℕ) (s : ℕ) : Type 0 where
@@ -47,6 +47,7 @@ pub record Clean (case book index table : List ℕ) (n m : ℕ) : Type 0 where
   pub manyStudents : n ≤ 512
   pub manyWorkshops : m ≤ 64
   pub tabled : Tabled case table
+  pub linked : Linked case table n
   pub student : (s : ℕ) → 1 ≤ s → s ≤ n → StudentAt case s
   pub workshop : (w : ℕ) → 1 ≤ w → w ≤ m → WorkshopAt case n w
   pub pair : (s w : ℕ) → marketIn case .paired s w ≡ true → PairAt case s w

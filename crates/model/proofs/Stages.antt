@@ -20,7 +20,7 @@ module _ (stage : ℕ → ℕ) where
   abbrev pub Before : ℕ → ℕ → Type 0
   Before s t = (stage s < stage t) ⊎ ((stage s ≡ stage t) × (s < t))
 
-  no-both : {A : Type 0} (s t : ℕ) → Before s t → Before t s → A
+  pub no-both : {A : Type 0} (s t : ℕ) → Before s t → Before t s → A
   no-both s t (inl a) (inl b) = absurd (omega arith)
   no-both s t (inl a) (inr b) = absurd (omega arith)
   no-both s t (inr a) (inl b) = absurd (omega arith)
@@ -32,12 +32,12 @@ module _ (stage : ℕ → ℕ) where
   chain s t u (inr a) (inl b) = inl (omega arith)
   chain s t u (inr a) (inr b) = inr (omega arith)
 
-  before-after : (s t : ℕ) → Before s t → comesAfter stage s t ≡ true
+  pub before-after : (s t : ℕ) → Before s t → comesAfter stage s t ≡ true
   unfolding comesAfter
   before-after s t (inl a) = or-right (eqb s 0) _ (or-left (ltb (stage s) (stage t)) _ (lt-ltb _ _ a))
   before-after s t (inr a) = or-right (eqb s 0) _ (or-right (ltb (stage s) (stage t)) _ (and-make (eq-eqb _ _ (a .0)) (lt-ltb _ _ (a .1))))
 
-  after-before : (s t : ℕ) → comesAfter stage s t ≡ true → (s ≡ 0) ⊎ Before s t
+  pub after-before : (s t : ℕ) → comesAfter stage s t ≡ true → (s ≡ 0) ⊎ Before s t
   unfolding comesAfter
   after-before s t e =
       ⊎-elim (λ z. inl (eqb-true _ _ z))
@@ -48,10 +48,10 @@ module _ (stage : ℕ → ℕ) where
       (or-true (eqb s 0) _ e)
 
   -- r is the first who comes after s
-  record First (s n r : ℕ) : Type 0 where
-    range : r ≤ n
-    after : comesAfter stage s r ≡ true
-    first : (t : ℕ) → 1 ≤ t → t ≤ n → comesAfter stage s t ≡ true → (t ≡ r) ⊎ Before r t
+  pub record First (s n r : ℕ) : Type 0 where
+    pub range : r ≤ n
+    pub after : comesAfter stage s r ≡ true
+    pub first : (t : ℕ) → 1 ≤ t → t ≤ n → comesAfter stage s t ≡ true → (t ≡ r) ⊎ Before r t
 
   -- what the search finds
   record Found (s n r : ℕ) : Type 0 where
@@ -122,6 +122,27 @@ module _ (stage : ℕ → ℕ) where
   unfolding nextIn
   found s zero = record { none = λ e t l u. absurd (omega arith); some = λ l. absurd (omega arith) }
   found s (suc k) = found-on s k (found s k)
+
+  -- so whoever is the first is found, and where nobody is there nobody
+  pub next-first : (s n r : ℕ) → 1 ≤ r → First s n r → r ≡ nextIn stage s n
+  next-first s n r pos f =
+      ⊎-elim (λ (z : nextIn stage s n ≡ 0). absurd (found s n .none z r pos (f .range) (f .after)))
+      (λ (nz : nextIn stage s n ≡ 0 → ⊥).
+      let g : First s n (nextIn stage s n) = found s n .some (pos-of-ne-zero nz) in
+      ⊎-elim (λ (q : r ≡ nextIn stage s n). q)
+      (λ b.
+      ⊎-elim (λ (q : nextIn stage s n ≡ r). sym q) (λ d. no-both (nextIn stage s n) r b d)
+      (f .first (nextIn stage s n) (pos-of-ne-zero nz) (g .range) (g .after)))
+      (g .first r pos (f .range) (f .after)))
+      (eq? (nextIn stage s n) 0)
+
+  pub next-none : (s n : ℕ) → ((t : ℕ) → 1 ≤ t → t ≤ n → comesAfter stage s t ≡ true → ⊥) → 0 ≡ nextIn stage s n
+  next-none s n empty =
+      ⊎-elim (λ (z : nextIn stage s n ≡ 0). sym z)
+      (λ (nz : nextIn stage s n ≡ 0 → ⊥).
+      let g : First s n (nextIn stage s n) = found s n .some (pos-of-ne-zero nz) in
+      absurd (empty (nextIn stage s n) (pos-of-ne-zero nz) (g .range) (g .after)))
+      (eq? (nextIn stage s n) 0)
 
   abbrev pub Rising : List ℕ → Type 0
   Rising [] = Unit {0}

@@ -22,7 +22,7 @@ use Rattle.format.specs.Engine.{marketIn}
 use Rattle.format.proofs.Positions.{pair-says}
 use Rattle.records.specs.Records.{pairPlace}
 use Rattle.records.proofs.Laws.{pair-any}
-use Rattle.tables.specs.Table.{setOf, firstOf, allOf, pairsUpTo, studentIn, workshopIn, Tabled, Stretch, Standing, Noted, Started}
+use Rattle.tables.specs.Table.{setOf, entryOf, firstOf, allOf, pairsUpTo, studentIn, workshopIn, Tabled, Made, Stretch, Standing, Noted, Started, Kept}
 
 -- ---- a pair and its record
 pub pair-there : (case : List ℕ) (s w : ℕ) → marketIn case .paired s w ≡ true
@@ -79,9 +79,12 @@ module _ (case : List ℕ) (n m : ℕ) (o : Standing case n m) (table : List ℕ
     where
       go : (k : ℕ) × (pairPlace case s w ≡ k) × (n + m ≤ k) × (k < rowCount case) × (studentIn case k ≡ s) × (workshopIn case k ≡ w)
           → pairPlace case s w ≡ firstOf table s + pairsUpTo table s (w - 1)
-      go (k, p, f, l, a, b) = p ∙ sym (rw (a, b) at (I .place k f l))
+      go (k, p, f, l, a, b) =
+          let r : (1 ≤ s) × (s ≤ 512) = noted-names s w e .0 in
+          let h : entryOf table s + pairsUpTo table s (w - 1) ≡ k = rw (a, b) at (I .place k f l) in
+          omega (arith, p, h, I .small s (r .0) (r .1))
 
-  pub tabled : (new : List ℕ) → Started case table new (m + 1) → Tabled case new
+  tabled : (new : List ℕ) → Started case table new (m + 1) → Tabled case new
   tabled new S =
       record {
         sized = S .sized;
@@ -94,6 +97,24 @@ module _ (case : List ℕ) (n m : ℕ) (o : Standing case n m) (table : List ℕ
         few = omega (arith, o .workshops);
         start = λ w f g. S .start w f (omega (arith, o .workshops));
       }
+
+  pub made : (new : List ℕ) → Started case table new (m + 1) → Made case new
+  made new S = record { tabled = tabled new S; small = λ s f g. rw (S .others (511 + s) (omega arith)) (I .small s f g) }
+
+-- where nothing but the links has changed, the table still describes the case
+pub kept-tabled : (case old new : List ℕ) → Tabled case old → Kept old new → Tabled case new
+kept-tabled case old new T K =
+    record {
+      sized = K .sized ∙ T .sized;
+      named = T .named;
+      set = λ s w f g. rw (K .low (s - 1) (omega arith)) (T .set s w f g);
+      place = λ s w e.
+          let r : ((1 ≤ s) × (s ≤ 512)) × ((1 ≤ w) × (w ≤ 64)) = T .named s w e in
+          rw (K .first s (r .0 .0) (r .0 .1), K .low (s - 1) (omega arith)) (T .place s w e);
+      all = λ w x m f g. rw (K .high 1088 (omega arith)) (T .all w x (rw (K .high 1088 (omega arith)) at m) f g);
+      few = T .few;
+      start = λ w f g. K .high (1023 + w) (omega arith) ∙ T .start w f g;
+    }
 
 -- ---- the count of the members below w
 pub below-law : (n w : ℕ) → 1 ≤ w → w ≤ 64 → ones (bitAnd n ((1 * 2 ^ (w - 1)) % 2 ^ 64 - 1)) ≡ count (member n) (w - 1)

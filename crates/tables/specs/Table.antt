@@ -1,5 +1,6 @@
--- The table of a case: 1089 entries of 64 bits, made once for a call. By it a pair's record and a workshop's seats are found without a search.
-use Prim.Native.Nat.{ℕ, _+_, _-_, _≤_, _<_}
+-- The table of a case: 1089 entries of 64 bits, made once for a call. By it a pair's record, a workshop's seats and the next student are found without
+-- a search.
+use Prim.Native.Nat.{ℕ, _+_, _-_, _/_, _%_, _≤_, _<_}
 use mathlib.Core.Path.{_≡_}
 use mathlib.Core.Bool.{true}
 use mathlib.Core.List.{List}
@@ -17,9 +18,21 @@ use Rattle.records.specs.Records.{pairPlace}
 abbrev pub setOf : List ℕ → ℕ → ℕ
 setOf table s = getD table (s - 1) 0
 
+-- her entry, which has three numbers
+abbrev pub entryOf : List ℕ → ℕ → ℕ
+entryOf table s = getD table (511 + s) 0
+
 -- the number of her first pair's record
 abbrev pub firstOf : List ℕ → ℕ → ℕ
-firstOf table s = getD table (511 + s) 0
+firstOf table s = entryOf table s % 65536
+
+-- the next student of her stage, or 0
+abbrev pub nextOf : List ℕ → ℕ → ℕ
+nextOf table s = entryOf table s / 65536 % 65536
+
+-- the first student of stage t, from 1 to 512, or 0
+abbrev pub headOf : List ℕ → ℕ → ℕ
+headOf table t = entryOf table t / 4294967296
 
 -- where the seats of workshop w, from 1 to 64, start
 abbrev pub startOf : List ℕ → ℕ → ℕ
@@ -54,6 +67,11 @@ pub record Tabled (case table : List ℕ) : Type 0 where
   pub few : marketIn case .workshops ≤ 64
   pub start : (w : ℕ) → 1 ≤ w → w ≤ marketIn case .workshops → startOf table w ≡ seatsBefore (marketIn case) w
 
+-- As it is made: nothing but the first pairs' records stands in the students' entries yet.
+pub record Made (case table : List ℕ) : Type 0 where
+  pub tabled : Tabled case table
+  pub small : (s : ℕ) → 1 ≤ s → s ≤ 512 → entryOf table s < 65536
+
 -- The pairs of student s are the records from `first` on, as many as `many`.
 pub record Stretch (case : List ℕ) (s first many : ℕ) : Type 0 where
   pub few : many ≤ 64
@@ -62,6 +80,40 @@ pub record Stretch (case : List ℕ) (s first many : ℕ) : Type 0 where
   pub paired : (k : ℕ) → k < many → marketIn case .paired s (workshopIn case (first + k)) ≡ true
   pub place : (k : ℕ) → k < many → pairPlace case s (workshopIn case (first + k)) ≡ first + k
   pub all : (w : ℕ) → marketIn case .paired s w ≡ true → (first ≤ pairPlace case s w) × (pairPlace case s w < first + many)
+
+-- ---- The students of a stage, one after the other.
+
+-- r is the first of the students s + 1 to n who has stage t, or 0 where none has it
+pub record Following (stage : ℕ → ℕ) (t s n r : ℕ) : Type 0 where
+  pub none : r ≡ 0 → (k : ℕ) → s < k → k ≤ n → stage k ≡ t → ⊥
+  pub some : 0 < r → (s < r) × (r ≤ n) × (stage r ≡ t)
+  pub first : (k : ℕ) → s < k → k < r → stage k ≡ t → ⊥
+
+-- each of n students has the next one of her stage, and each stage its first student
+pub record Linked (case table : List ℕ) (n : ℕ) : Type 0 where
+  pub range : (s : ℕ) → 1 ≤ s → s ≤ n → (1 ≤ marketIn case .stage s) × (marketIn case .stage s ≤ 512)
+  pub next : (s : ℕ) → 1 ≤ s → s ≤ n → Following (marketIn case .stage) (marketIn case .stage s) s n (nextOf table s)
+  pub head : (t : ℕ) → 1 ≤ t → t ≤ 512 → Following (marketIn case .stage) t 0 n (headOf table t)
+
+-- record s - 1 has the stage of student s, for each of n students
+pub record Staged (case : List ℕ) (n : ℕ) : Type 0 where
+  pub many : n ≤ 512
+  pub inside : n ≤ rowCount case
+  pub stage : (s : ℕ) → 1 ≤ s → s ≤ n → marketIn case .stage s ≡ rowAt case (s - 1) .second
+  pub range : (s : ℕ) → 1 ≤ s → s ≤ n → (1 ≤ marketIn case .stage s) × (marketIn case .stage s ≤ 512)
+
+-- an entry has these three numbers
+pub record Holds (entry a b c : ℕ) : Type 0 where
+  pub first : entry % 65536 ≡ a
+  pub next : entry / 65536 % 65536 ≡ b
+  pub head : entry / 4294967296 ≡ c
+
+-- nothing but the links has changed
+pub record Kept (old new : List ℕ) : Type 0 where
+  pub sized : length new ≡ length old
+  pub low : (k : ℕ) → k < 512 → getD new k 0 ≡ getD old k 0
+  pub high : (k : ℕ) → 1024 ≤ k → getD new k 0 ≡ getD old k 0
+  pub first : (s : ℕ) → 1 ≤ s → s ≤ 512 → firstOf new s ≡ firstOf old s
 
 -- ---- What the table is made from.
 
@@ -84,7 +136,8 @@ pub record Noted (a b : ℕ → ℕ) (from i : ℕ) (table : List ℕ) : Type 0 
   pub sized : length table ≡ 1089
   pub sound : (s x : ℕ) → 1 ≤ s → s ≤ 512 → member (setOf table s) x ≡ true → (k : ℕ) × (from ≤ k) × (k < i) × (a k ≡ s) × (b k ≡ x)
   pub full : (k : ℕ) → from ≤ k → k < i → member (setOf table (a k)) (b k) ≡ true
-  pub place : (k : ℕ) → from ≤ k → k < i → firstOf table (a k) + pairsUpTo table (a k) (b k - 1) ≡ k
+  pub place : (k : ℕ) → from ≤ k → k < i → entryOf table (a k) + pairsUpTo table (a k) (b k - 1) ≡ k
+  pub small : (s : ℕ) → 1 ≤ s → s ≤ 512 → entryOf table s < 65536
 
 -- the table with the starts of the seats of workshops 1 to m - 1, and their set, beside its other entries
 pub record Started (case : List ℕ) (old new : List ℕ) (m : ℕ) : Type 0 where

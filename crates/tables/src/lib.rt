@@ -1,7 +1,8 @@
-// A table of the pairs and of where the seats start, made once for a call: a pair's record is her first pair's plus the count of her workshops before it.
+// A table of the pairs, of where the seats start and of the students of a stage, made once for a call: a pair's record is her first pair's plus the count of
+// her workshops before it.
 ghost use mathlib.Core.Path.{_≡_};
 ghost use mathlib.Core.Bool.{true};
-ghost use Prim.Native.Nat.{ℕ, _+_, _-_, _≤_, _<_};
+ghost use Prim.Native.Nat.{ℕ, _+_, _-_, _/_, _%_, _≤_, _<_};
 ghost use lib.ListN.{length};
 ghost use Rattle.base.specs.Lists.{count};
 ghost use Rattle.base.specs.Bits.{member};
@@ -9,6 +10,7 @@ ghost use Rattle.lgs.specs.Market.{seatsBefore};
 ghost use Rattle.format.specs.Engine.{marketIn};
 ghost use Rattle.records.specs.Records.{pairPlace};
 ghost use Rattle.tables.specs.Table.{Tabled, Stretch, Standing, Started};
+ghost use Rattle.tables.specs.Table.{entryOf, nextOf, headOf, Staged, Linked, Holds, Kept};
 
 // ---- the making
 
@@ -28,6 +30,40 @@ pub fn note_starts(case: &[u8], students: usize, workshops: usize, table: &mut [
         w += 1;
     }
     table[1088] = all;
+}
+
+// The entry with another next student.
+fn with_next(entry: u64, next: u64) -> u64
+    requires { ⌜ next < 65536 ⌝ }
+    ensures { λ r. ⌜ Holds r (entry % 65536) next (entry / 4294967296) ⌝ }
+{
+    entry / 4294967296 * 4294967296 + next * 65536 + entry % 65536
+}
+
+// The entry with another first student.
+fn with_head(entry: u64, head: u64) -> u64
+    requires { ⌜ head < 65536 ⌝ }
+    ensures { λ r. ⌜ Holds r (entry % 65536) (entry / 65536 % 65536) head ⌝ }
+{
+    head * 4294967296 + entry % 4294967296
+}
+
+// Each student gets the next one of her stage, and each stage its first student, from the last student on.
+pub fn link(case: &[u8], students: usize, table: &mut [u64])
+    requires { ⌜ Staged (now case) students ⌝ }
+    requires { ⌜ length (now table) ≡ 1089 ⌝ }
+    requires { ⌜ ((s : ℕ) → 1 ≤ s → s ≤ 512 → entryOf (now table) s < 65536) ⌝ }
+    ensures { λ _. ⌜ Linked (now (case .entry)) (now (table .exit)) students ⌝ }
+    ensures { λ _. ⌜ Kept (now (table .entry)) (now (table .exit)) ⌝ }
+{
+    let mut s = students;
+    while s > 0 {
+        let stage = records::second_at(case, s - 1) as usize;
+        let next = table[511 + stage] / 4294967296;
+        table[511 + s] = with_next(table[511 + s], next);
+        table[511 + stage] = with_head(table[511 + stage], s as u64);
+        s -= 1;
+    }
 }
 
 // ---- the reading
@@ -58,7 +94,7 @@ pub fn pair_at(case: &[u8], table: &[u64], s: usize, w: usize) -> usize
     ensures { λ r. ⌜ r ≡ pairPlace (now (case .entry)) s w ⌝ }
 {
     let set = table[s - 1];
-    let first = table[511 + s] as usize;
+    let first = (table[511 + s] % 65536) as usize;
     if set == table[1088] {
         return first + (w - 1);
     }
@@ -88,7 +124,7 @@ pub fn pairs_of(case: &[u8], table: &[u64], s: usize) -> Pairs
     ensures { λ r. ⌜ Stretch (now (case .entry)) s (r .first) (r .many) ⌝ }
 {
     Pairs {
-        first: table[511 + s] as usize,
+        first: (table[511 + s] % 65536) as usize,
         many: bits::count(table[s - 1]) as usize,
     }
 }
@@ -100,4 +136,20 @@ pub fn start_of(case: &[u8], table: &[u64], w: usize) -> usize
     ensures { λ r. ⌜ r ≡ seatsBefore (marketIn (now (case .entry))) w ⌝ }
 {
     table[1023 + w] as usize
+}
+
+// The next student of student s's stage, or 0.
+pub fn next_of(table: &[u64], s: usize) -> usize
+    requires { ⌜ (length (now table) ≡ 1089) × (s ≤ 512) ⌝ }
+    ensures { λ r. ⌜ r ≡ nextOf (now (table .entry)) s ⌝ }
+{
+    (table[511 + s] / 65536 % 65536) as usize
+}
+
+// The first student of stage t, or 0.
+pub fn head_of(table: &[u64], t: usize) -> usize
+    requires { ⌜ (length (now table) ≡ 1089) × (t ≤ 512) ⌝ }
+    ensures { λ r. ⌜ r ≡ headOf (now (table .entry)) t ⌝ }
+{
+    (table[511 + t] / 4294967296) as usize
 }

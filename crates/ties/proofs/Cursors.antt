@@ -76,11 +76,11 @@ module _ (table next : List ℕ) (n k w : ℕ) (h : Cursors table next n k w) wh
         }
 
     -- the pair with workshop w has the record at her cursor
-    pub cursor-place : (case : List ℕ) → Tabled case table → rowCount case ≤ 65535 → marketIn case .paired (suc k) w ≡ true
+    pub cursor-place : (case : List ℕ) → Tabled case table → marketIn case .paired (suc k) w ≡ true
         → getD next k 0 ≡ pairPlace case (suc k) w
-    cursor-place case T many e =
+    cursor-place case T e =
         let q : pairPlace case (suc k) w ≡ firstOf table (suc k) + pairsUpTo table (suc k) (w - 1) = T .place (suc k) w e in
-        omega (arith, h .before k (omega arith) l, q, many, pair-there case (suc k) w e .0)
+        omega (arith, h .before k (omega arith) l, q)
 
   -- all have gone past workshop w
   pub cursors-on : k ≡ n → Cursors table next n 0 (w + 1)

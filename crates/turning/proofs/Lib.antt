@@ -1,4 +1,5 @@
 pub mod Laws
+pub mod Next
 pub mod Due
 pub mod Visits
 pub mod Rounds

@@ -14,11 +14,12 @@ ghost use Rattle.format.specs.Layout.{rowAt, rowCount, entryAt, entryCount};
 ghost use Rattle.format.specs.Buffers.{flat};
 ghost use Rattle.format.specs.Engine.{marketIn, resultsIn};
 ghost use Rattle.model.specs.Model.{shutBy};
-ghost use Rattle.model.specs.Store.{comesAfter, nextIn, lastOf};
+ghost use Rattle.model.specs.Store.{nextIn, lastOf};
 ghost use Rattle.model.specs.Turn.{toldState, withMember, favouriteIn, RoundSoFar, dueAt, roundTo, putAt, nextRun, afterRound, afterSeating, openTier, applyTo, turnOf, beginRun};
 ghost use Rattle.model.specs.Ready.{Booked, Ready};
 ghost use Rattle.tables.specs.Table.{Tabled};
 ghost use Rattle.lookup.specs.Clean.{StudentAt, WorkshopAt, PairAt, Clean};
+ghost use Rattle.turning.specs.Next.{Ordered, FirstAfter};
 ghost use Rattle.turning.specs.Round.{SeatsAt, SeatedAll, roundOf, TierListed};
 use api::StudentState;
 use model::Run;
@@ -41,81 +42,36 @@ fn told_state(lost: usize, state: StudentState) -> StudentState
 
 // ---- the next student in the order of stages
 
-// Student t comes after student s, in rising stage and rising number inside a stage; everybody comes after 0.
-fn comes_after(case: &[u8], s: usize, t: usize) -> bool
-    requires { ⌜ (0 < s → StudentAt (now case) s) ⌝ }
-    requires { ⌜ StudentAt (now case) t ⌝ }
-    ensures { λ r. ⌜ r ≡ comesAfter (marketIn (now (case .entry)) .stage) s t ⌝ }
+// The first student of the first stage after `stage` that has one, or 0.
+fn first_after(table: &[u64], stage: usize) -> usize
+    requires { ⌜ (length (now table) ≡ 1089) × (stage ≤ 512) ⌝ }
+    ensures { λ r. ⌜ FirstAfter (now (table .entry)) stage r ⌝ }
 {
-    if s == 0 {
-        return true;
-    }
-    let a = lookup::stage_of(case, s);
-    let b = lookup::stage_of(case, t);
-    (a < b) | ((a == b) & (s < t))
-}
-
-// Student t has an earlier stage than student `first`; everybody comes before 0.
-fn is_earlier(case: &[u8], t: usize, first: usize) -> bool
-    requires { ⌜ StudentAt (now case) t ⌝ }
-    requires { ⌜ (0 < first → StudentAt (now case) first) ⌝ }
-    ensures { λ r. ⌜ r ≡ (eqb first 0 || ltb (marketIn (now (case .entry)) .stage t) (marketIn (now (case .entry)) .stage first)) ⌝ }
-{
-    if first == 0 {
-        return true;
-    }
-    lookup::stage_of(case, t) < lookup::stage_of(case, first)
-}
-
-// The first student after `last` who has the same stage, or 0 where there is none.
-fn next_in_stage(case: &[u8], students: usize, last: usize) -> usize
-    requires { ⌜ (students ≤ 512) × (1 ≤ last) × (last ≤ students) ⌝ }
-    requires { ⌜ ((t : ℕ) → 1 ≤ t → t ≤ students → StudentAt (now case) t) ⌝ }
-    ensures { λ r. ⌜ (0 < r → r ≡ nextIn (marketIn (now (case .entry)) .stage) last students) ⌝ }
-{
-    let stage = lookup::stage_of(case, last);
-    let mut t = last + 1;
-    while t <= students {
-        if lookup::stage_of(case, t) == stage {
-            return t;
+    let mut t = stage + 1;
+    while t <= 512 {
+        let s = tables::head_of(table, t);
+        if s > 0 {
+            return s;
         }
         t += 1;
     }
     0
 }
 
-// The first student after `last`, or 0, of all students.
-fn first_after(case: &[u8], students: usize, last: usize) -> usize
-    requires { ⌜ (students ≤ 512) × (last ≤ students) ⌝ }
-    requires { ⌜ ((t : ℕ) → 1 ≤ t → t ≤ students → StudentAt (now case) t) ⌝ }
-    ensures { λ r. ⌜ r ≡ nextIn (marketIn (now (case .entry)) .stage) last students ⌝ }
+// The first student after `last`, or 0, in rising stage and rising number inside a stage: the next one of her stage, where there is one.
+fn next_student(case: &[u8], table: &[u64], last: usize) -> usize
+    requires { ⌜ Ordered (now case) (now table) ⌝ }
+    requires { ⌜ last ≤ marketIn (now case) .students ⌝ }
+    ensures { λ r. ⌜ r ≡ nextIn (marketIn (now (case .entry)) .stage) last (marketIn (now (case .entry)) .students) ⌝ }
 {
-    let mut first = 0;
-    let mut t = 1;
-    while t <= students {
-        if comes_after(case, last, t) & is_earlier(case, t, first) {
-            first = t;
-            t += 1;
-        } else {
-            t += 1;
-        }
+    if last == 0 {
+        return first_after(table, 0);
     }
-    first
-}
-
-// The first student after `last`, or 0: the next one of her stage, where there is one.
-fn next_student(case: &[u8], students: usize, last: usize) -> usize
-    requires { ⌜ (students ≤ 512) × (last ≤ students) ⌝ }
-    requires { ⌜ ((t : ℕ) → 1 ≤ t → t ≤ students → StudentAt (now case) t) ⌝ }
-    ensures { λ r. ⌜ r ≡ nextIn (marketIn (now (case .entry)) .stage) last students ⌝ }
-{
-    if last > 0 {
-        let t = next_in_stage(case, students, last);
-        if t > 0 {
-            return t;
-        }
+    let t = tables::next_of(table, last);
+    if t > 0 {
+        return t;
     }
-    first_after(case, students, last)
+    first_after(table, lookup::stage_of(case, last) as usize)
 }
 
 // ---- the best of what is open
@@ -381,12 +337,12 @@ fn hold_round(
 // ---- the turn
 
 // The run after the student in hand is done: the next in the order of stages is in hand.
-fn next_run(case: &[u8], students: usize, run: Run) -> Run
-    requires { ⌜ (students ≡ marketIn (now case) .students) × (students ≤ 512) × (run .last ≤ students) ⌝ }
-    requires { ⌜ ((t : ℕ) → 1 ≤ t → t ≤ students → StudentAt (now case) t) ⌝ }
+fn next_run(case: &[u8], table: &[u64], run: Run) -> Run
+    requires { ⌜ Ordered (now case) (now table) ⌝ }
+    requires { ⌜ run .last ≤ marketIn (now case) .students ⌝ }
     ensures { λ r. ⌜ ((B : Results) → r ≡ nextRun (marketIn (now (case .entry))) B run) ⌝ }
 {
-    let hand = next_student(case, students, run.last);
+    let hand = next_student(case, table, run.last);
     Run {
         hand,
         last: hand,
@@ -398,12 +354,11 @@ fn next_run(case: &[u8], students: usize, run: Run) -> Run
 }
 
 // The beginning of a run: the first student of the first stage is in hand.
-pub fn begin_run(case: &[u8], students: usize) -> Run
-    requires { ⌜ (students ≡ marketIn (now case) .students) × (students ≤ 512) ⌝ }
-    requires { ⌜ ((t : ℕ) → 1 ≤ t → t ≤ students → StudentAt (now case) t) ⌝ }
+pub fn begin_run(case: &[u8], table: &[u64]) -> Run
+    requires { ⌜ Ordered (now case) (now table) ⌝ }
     ensures { λ r. ⌜ ((B : Results) → r ≡ beginRun (marketIn (now (case .entry))) B) ⌝ }
 {
-    let hand = next_student(case, students, 0);
+    let hand = next_student(case, table, 0);
     Run {
         hand,
         last: hand,
@@ -488,13 +443,13 @@ fn open_tier(
 }
 
 // The run after workshop c has taken the student in hand and has dropped x; 0: nobody.
-fn after_seating(case: &[u8], students: usize, run: Run, c: usize, x: usize) -> Run
-    requires { ⌜ (students ≡ marketIn (now case) .students) × (students ≤ 512) × (run .last ≤ students) ⌝ }
-    requires { ⌜ ((t : ℕ) → 1 ≤ t → t ≤ students → StudentAt (now case) t) ⌝ }
+fn after_seating(case: &[u8], table: &[u64], run: Run, c: usize, x: usize) -> Run
+    requires { ⌜ Ordered (now case) (now table) ⌝ }
+    requires { ⌜ run .last ≤ marketIn (now case) .students ⌝ }
     ensures { λ r. ⌜ ((B : Results) → r ≡ afterSeating (marketIn (now (case .entry))) B run c x) ⌝ }
 {
     if x == 0 {
-        return next_run(case, students, run);
+        return next_run(case, table, run);
     }
     Run {
         hand: x,
@@ -527,7 +482,7 @@ fn apply_to(
     ensures { λ r. ⌜ ((visits : List ℕ) → now (seats .exit) ≡ applyTo (marketIn (now (case .entry))) (resultsIn (now (book .entry))) visits (now (seats .entry)) state run c .seats) ⌝ }
 {
     if c == 0 {
-        let next = next_run(case, students, run);
+        let next = next_run(case, table, run);
         return Turned { state, run: next };
     }
     let hand = run.hand as u16;
@@ -542,7 +497,7 @@ fn apply_to(
         c,
         hand,
     ) as usize;
-    let next = after_seating(case, students, run, c, x);
+    let next = after_seating(case, table, run, c, x);
     let held = c as u32;
     let after = StudentState {
         reached: state.reached,

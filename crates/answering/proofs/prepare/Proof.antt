@@ -1,11 +1,12 @@
--- `answering::prepare` meets its contract: what the test of the input says, and the run's beginning.
+-- `answering::prepare` meets its contract: what the test of the input says, the links, and the run's beginning.
 use Prim.Native.Nat.{ℕ, _<_}
 use mathlib.Core.Path.{_≡_, refl, sym, ap}
 use native.Mathlib.Omega.{arith}
 use lib.ListN.{length}
 use Rattle.format.specs.Engine.{resultsIn}
 use Rattle.api.specs.Answered.{roomOf}
-use Rattle.answering.proofs.Preparing.{found-halted, found-started, clean}
+use Rattle.turning.proofs.Next.{ordered}
+use Rattle.answering.proofs.Preparing.{found-halted, found-started, made, stages, clean}
 use borrow.Author.Needs.{needs}
 use Rattle.answering.proofs.prepare.Statement.{statement}
 use Rattle.answering.proofs.prepare.Tie as tie
@@ -28,18 +29,35 @@ cast-t26 c = search needs
 enum-known-checked-2 : tie.Need-enum-known-checked-2
 enum-known-checked-2 c = search needs
 
-begin-run-requires : tie.Need-begin-run-requires
-begin-run-requires c κs =
-    let read = c .before .before .before .before .before .before .before in
+link-requires : tie.Need-link-requires
+link-requires c κs =
+    let read = c .before .before .before .before .before .before .before .before in
     let tested = read .check in
     let known = read .before .before .before .before .before .before .before .before .before .before .before in
     let start = known .before in
     let room = roomOf (start .args .places) (start .args .visits) (length (start .args .seats .now)) (length (start .args .index .now)) (start .args .states) in
     let byte = known .shared-slice-known .given in
-    let v = c .before .checked2 .given in
-    let k = clean (start .args .case .now) (start .args .book .now) (tested .last .1 .1 .1 .0) (tested .last .1 .1 .1 .1 .0) room (tested .result)
+    let v = c .before .before .checked2 .given in
+    let k = made (start .args .case .now) (start .args .book .now) (tested .last .1 .1 .1 .0) (tested .last .1 .1 .1 .1 .0) room (tested .result)
     (tested .ensures) (v .0 .0) (v .0 .1 .0) (v .0 .1 .1 .0) (v .1) (λ j. omega (arith, byte j)) in
-    ((sym (k .students), k .manyStudents), k .student)
+    let o = stages (start .args .case .now) (start .args .book .now) (tested .last .1 .1 .1 .0) (tested .last .1 .1 .1 .1 .0) room (tested .result)
+    (tested .ensures) (v .0 .0) (v .0 .1 .0) (v .0 .1 .1 .0) (v .1) (λ j. omega (arith, byte j)) in
+    (o, (k .tabled .sized, k .small))
+
+begin-run-requires : tie.Need-begin-run-requires
+begin-run-requires c κs =
+    let read = c .before .before .before .before .before .before .before .before .before .before .before .before in
+    let tested = read .check in
+    let known = read .before .before .before .before .before .before .before .before .before .before .before in
+    let start = known .before in
+    let room = roomOf (start .args .places) (start .args .visits) (length (start .args .seats .now)) (length (start .args .index .now)) (start .args .states) in
+    let byte = known .shared-slice-known .given in
+    let link = c .before .before .before .link in
+    let v = c .before .before .before .before .before .before .checked2 .given in
+    ordered _ _ _ _ _ _
+    (clean (start .args .case .now) (start .args .book .now) (tested .last .1 .1 .1 .0) (tested .last .1 .1 .1 .1 .0) room (tested .result)
+    (tested .ensures) (v .0 .0) (v .0 .1 .0) (v .0 .1 .1 .0) (v .1) (λ j. omega (arith, byte j)) (link .last .1 .1 .0)
+    (link .ensures .0) (link .ensures .1))
 
 same-length : tie.Need-same-length
 same-length c = search needs
@@ -77,18 +95,19 @@ same-length-6 c = search needs
 
 returns-2 : tie.Need-returns-2
 returns-2 c =
-    let read = c .before .before .before .before .before .before .before .before in
+    let read = c .before .before .before .before .before .before .before .before .before .before .before .before .before in
     let tested = read .check in
     let known = read .before .before .before .before .before .before .before .before .before .before .before in
     let start = known .before in
     let room = roomOf (start .args .places) (start .args .visits) (length (start .args .seats .now)) (length (start .args .index .now)) (start .args .states) in
     let byte = known .shared-slice-known .given in
-    let v = c .before .before .checked2 .given in
+    let link = c .before .before .before .before .link in
+    let v = c .before .before .before .before .before .before .before .checked2 .given in
     record {
       cleared = read .before .before .before .before .before .clear .ensures;
       found = found-started (start .args .case .now) (start .args .book .now) (tested .last .1 .1 .1 .0) (tested .last .1 .1 .1 .1 .0) room (tested .result)
-          (tested .ensures) (v .0 .0) (v .0 .1 .0) (v .0 .1 .1 .0) (v .1) (λ j. omega (arith, byte j)) _
-          (c .begin-run .ensures (resultsIn (start .args .book .now))) refl refl refl;
+          (tested .ensures) (v .0 .0) (v .0 .1 .0) (v .0 .1 .1 .0) (v .1) (λ j. omega (arith, byte j)) (link .last .1 .1 .0) (link .ensures .0)
+          (link .ensures .1) _ (c .begin-run .ensures (resultsIn (start .args .book .now))) refl refl refl;
       left = tested .ensures .left;
     }
 
@@ -102,6 +121,7 @@ prepare-spec =
     no-run-requires
     cast-t26
     enum-known-checked-2
+    link-requires
     begin-run-requires
     same-length
     same-length-2

@@ -92,7 +92,7 @@ check-book-requires c κs =
     let enough = room-index (a .case .now) (lengthsOf (a .room) (length (a .index .now))) (tested (lacks .before) ∙ lacks .if1 .left) in (
       tidy e,
       (
-        e .before .before .before .before .check-case .ensures .1 (answer e .0),
+        e .before .before .before .before .check-case .ensures .1 (answer e .0) .tabled,
         (p, omega (arith, p, enough, clear .kept .0), clear .ensures ∙ ap (λ k. replicate k 0) (sym (clear .kept .0))),
       ),
     )

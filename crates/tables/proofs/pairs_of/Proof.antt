@@ -25,8 +25,8 @@ shared-slice-read-count c = search needs
 count-requires : tie.Need-count-requires
 count-requires c κs = search needs
 
-cast-t14 : tie.Need-cast-t14
-cast-t14 c = search needs
+cast-t15 : tie.Need-cast-t15
+cast-t15 c = search needs
 
 returns : tie.Need-returns
 returns c =
@@ -44,5 +44,5 @@ pairs-of-spec =
     mul-count
     shared-slice-read-count
     count-requires
-    cast-t14
+    cast-t15
     returns)

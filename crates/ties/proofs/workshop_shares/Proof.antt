@@ -56,8 +56,7 @@ located d =
     let a = start .args in
     let here = d .before .before .before .loop in
     cursor-place (a .table .now) (here .next) (a .students) (here .k) (a .w) (here .inv .1) (omega arith) (few (d .before .before)) (start .pre .1 .1 .0 .0)
-    (a .case .now) (start .pre .1 .0) (rows-few (a .case .now) (a .book .now) (a .index .now) (a .from) (start .pre .0))
-    (sym (paired (d .before)) ∙ d .if1 .taken)
+    (a .case .now) (start .pre .1 .0) (sym (paired (d .before)) ∙ d .if1 .taken)
 
 stands : (d : tie.Then1 Inv-loop μ-loop) → (let a = entry (d .before .before) .args in let here = d .before .before .before .loop in
     StandsAt false (a .case .now) (a .w) (suc (here .k)) (getD (here .next) (here .k) 0))

@@ -11,11 +11,11 @@ next-run-requires c κs = search needs
 
 returns : tie.Need-returns
 unfolding afterSeating
-returns c = λ B. c .next-run .ensures B ∙ sym (rw (eq-eqb (c .before .before .before .args .x) 0 (c .before .if1 .taken)))
+returns c = λ B. c .next-run .ensures B ∙ sym (rw (eq-eqb (c .before .before .before .before .args .x) 0 (c .before .if1 .taken)))
 
 returns-2 : tie.Need-returns-2
 unfolding afterSeating
-returns-2 c = λ B. sym (rw (ne-eqb (c .before .before .args .x) 0 (c .if1 .left)))
+returns-2 c = λ B. sym (rw (ne-eqb (c .before .before .before .args .x) 0 (c .if1 .left)))
 
 pub after-seating-spec : {M : Type 1} → statement M
 after-seating-spec = tie.close (tie.spec next-run-requires returns returns-2)

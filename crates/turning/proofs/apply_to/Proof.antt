@@ -2,13 +2,16 @@
 use native.Mathlib.Omega.{arith}
 use Rattle.format.specs.Engine.{marketIn, resultsIn}
 use Rattle.seating.proofs.Laws.{positive}
+use Rattle.turning.proofs.Next.{ordered}
 use Rattle.turning.proofs.Turns.{apply-none, apply-some, long-to}
 use borrow.Author.Needs.{needs}
 use Rattle.turning.proofs.apply_to.Statement.{statement}
 use Rattle.turning.proofs.apply_to.Tie as tie
 
 next-run-requires : tie.Need-next-run-requires
-next-run-requires c κs = search needs
+next-run-requires c κs =
+    let start = c .before .before .before .before .before .before in
+    (ordered _ _ _ _ _ _ (start .pre .0), omega (arith, start .pre .1 .0, start .pre .0 .students))
 
 returns : tie.Need-returns
 returns c =
@@ -44,7 +47,9 @@ cast-x : tie.Need-cast-x
 cast-x c = search needs
 
 after-seating-requires : tie.Need-after-seating-requires
-after-seating-requires c κs = search needs
+after-seating-requires c κs =
+    let start = c .before .before .before .before .before .before .before .before .before .before .before in
+    (ordered _ _ _ _ _ _ (start .pre .0), omega (arith, start .pre .1 .0, start .pre .0 .students))
 
 cast-held : tie.Need-cast-held
 cast-held c = let start = c .before .before .before .before .before .before .before .before .before .before .before .before in let b = start .pre .1 .1 .0

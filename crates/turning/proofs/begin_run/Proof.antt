@@ -9,7 +9,7 @@ next-student-requires c κs = search needs
 
 returns : tie.Need-returns
 unfolding beginRun
-returns c = λ B. let start = c .before .before in rw (c .next-student .ensures, start .pre .0 .0)
+returns c = λ B. let start = c .before .before .before in rw (c .next-student .ensures)
 
 pub begin-run-spec : {M : Type 1} → statement M
 begin-run-spec = tie.close (tie.spec next-student-requires returns)

@@ -7,7 +7,7 @@ next-student-requires : tie.Need-next-student-requires
 next-student-requires c κs = search needs
 
 returns : tie.Need-returns
-returns c = λ B. let start = c .before .before in rw (c .next-student .ensures, start .pre .0 .0)
+returns c = λ B. let start = c .before .before .before in rw (c .next-student .ensures)
 
 pub next-run-spec : {M : Type 1} → statement M
 next-run-spec = tie.close (tie.spec next-student-requires returns)

@@ -6,6 +6,7 @@ use lib.ListN.{length-set}
 use Rattle.tables.specs.Table.{studentIn, workshopIn}
 use Rattle.case_tests.specs.Pairs.{Trail}
 use Rattle.case_tests.proofs.Noting.{Shelved, shelved-none, shelved-more}
+use Rattle.case_tests.proofs.Tabling.{heads-end}
 use Rattle.case_tests.proofs.Trails.{trail-first, trail-end}
 use Rattle.case_tests.proofs.pairs.note_pairs.Statement.{statement}
 use Rattle.case_tests.proofs.pairs.note_pairs.Tie as tie
@@ -65,7 +66,7 @@ loop-again c =
     let e : here .s + 1 ≡ suc (here .s) = omega arith in (
       omega arith,
       shelved-more _ _ (a .heads .at) (here .s) (here .i) (here .table) (here .inv .1) (omega (arith, start .pre .1 .0 .0))
-          (c .take-pile .result .set) (c .take-pile .result .end) (rw e at (c .take-pile .ensures .0)),
+          (omega (arith, heads-end (a .case .now) (a .heads) (start .pre .0), start .pre .1 .0)) (c .take-pile .result .set) (c .take-pile .result .end) (rw e at (c .take-pile .ensures .0)),
       c .take-pile .ensures .1 (a .heads .students) (omega arith) (here .inv .2),
     )
 
