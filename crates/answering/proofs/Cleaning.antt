@@ -28,7 +28,7 @@ use Rattle.format.proofs.Reading.{Passed, entry-found, entry-at, interview-says
 use Rattle.records.specs.Records.{pairPlace}
 use Rattle.lookup.specs.Clean.{Clean, StudentAt, WorkshopAt, PairAt, EntryAt, indexAt}
 use Rattle.case_tests.specs.Checked.{CleanCase, pairCount}
-use Rattle.case_tests.proofs.Cases.{clean, pairs-found}
+use Rattle.case_tests.proofs.Cases.{clean, few}
 use Rattle.book_tests.specs.Index.{fromOne, lentIndex}
 use Rattle.book_tests.proofs.Indexing.{Placed, placed-by, index-at, lent-length, any-number}
 use Rattle.tables.specs.Table.{Tabled, Linked, Staged}
@@ -126,15 +126,15 @@ module _ (case book : List ℕ) (c : CleanCase case (marketIn case .students) (m
 
   pub all-staged : Staged case n
   all-staged =
-      staged case (clean case n m c) (pairs-found case n m c bytes .manyStudents) (pairs-found case n m c bytes .manyWorkshops) (passed .range)
+      staged case (clean case n m c) (few case n m c .0 .1) (few case n m c .1 .1) (passed .range)
 
   pub all-clean : (table : List ℕ) → Tabled case table → Linked case table n → Clean case book index table n m
   all-clean table tabled linked =
       record {
         students = refl;
         workshops = refl;
-        manyStudents = pairs-found case n m c bytes .manyStudents;
-        manyWorkshops = pairs-found case n m c bytes .manyWorkshops;
+        manyStudents = few case n m c .0 .1;
+        manyWorkshops = few case n m c .1 .1;
         tabled = tabled;
         linked = linked;
         student = λ s a b. record {

@@ -58,7 +58,7 @@ fn no_run() -> Run
 }
 
 // Tests the input, cause by cause, and makes the scratch ready for the run: the seats are zero, and the index is that of the book's records, or zero on a refusal.
-// The table becomes that of the case, unless the input is refused.
+// The table becomes that of the case, with the links of the stages, unless the input is refused.
 pub fn prepare(
     case: &[u8],
     book: &[u8],

@@ -6,7 +6,7 @@ use mathlib.Core.Bool.{Bool, true, false}
 use mathlib.Core.Option.{Option, some, none}
 use native.Mathlib.Omega.{arith}
 use native.Mathlib.Numerals.{add-one}
-use Rattle.base.specs.Search.{firstBad, someIf, orElse, orEnd, NotFalling}
+use Rattle.base.specs.Search.{firstBad, someIf, orElse, orEnd}
 use Rattle.base.specs.Below.{anyBelow}
 use Rattle.base.proofs.Tests.{less?, is-false}
 use Rattle.base.proofs.Below.{any-found, any-none}
@@ -52,63 +52,6 @@ pub scan-same : (p q : ℕ → Bool) (n : ℕ) → ((k : ℕ) → k < n → p k 
 unfolding firstBad
 scan-same p q zero f = refl
 scan-same p q (suc n) f = rw (scan-same p q n (λ k l. f k (omega arith)), f n (omega arith))
-
--- ---- keys that do not fall, and a search by halving for the first key x among the first n
-pub climb : (key : ℕ → ℕ) (n : ℕ) → NotFalling key n → (i j : ℕ) → i ≤ j → j < n → key i ≤ key j
-climb key n r i zero l h = let e : i ≡ 0 = omega arith in rw e (omega arith)
-climb key n r i (suc j) l h =
-    ⊎-elim (λ (q : i < suc j). omega (arith, climb key n r i j (omega arith) (omega arith), r .step j h))
-    (λ (q : suc j ≤ i). let e : i ≡ suc j = omega arith in rw e (omega arith)) (less? i (suc j))
-
--- below lo every key is below x, and from hi on none is
-pub record Halved (key : ℕ → ℕ) (n x lo hi : ℕ) : Type 0 where
-  pub order : lo ≤ hi
-  pub bound : hi ≤ n
-  pub low : (k : ℕ) → k < lo → key k < x
-  pub high : (k : ℕ) → hi ≤ k → k < n → x ≤ key k
-
-module _ (key : ℕ → ℕ) (n x : ℕ) where
-  -- any two places with this property are in order
-  pub halve-near : (lo hi : ℕ) → lo ≤ n → hi ≤ n → ((k : ℕ) → k < lo → key k < x) → ((k : ℕ) → hi ≤ k → k < n → x ≤ key k) → Halved key n x lo hi
-  halve-near lo hi a b low high =
-      record {
-        order = ⊎-elim (λ (l : hi < lo). absurd (omega (arith, low hi l, high hi (omega arith) (omega arith)))) (λ (l : lo ≤ hi). l) (less? hi lo);
-        bound = b;
-        low = low;
-        high = high;
-      }
-
-  module _ (r : NotFalling key n) (lo hi mid : ℕ) (h : Halved key n x lo hi) (a : lo ≤ mid) (b : mid < hi) where
-    pub halve-up : key mid < x → Halved key n x (mid + 1) hi
-    halve-up q = record { order = omega arith; bound = omega arith; low = low′; high = h .high }
-      where
-        low′ : (k : ℕ) → k < mid + 1 → key k < x
-        low′ k l = omega (arith, climb key n r k mid (omega arith) (omega arith))
-
-    pub halve-down : x ≤ key mid → Halved key n x lo mid
-    halve-down q = record { order = omega arith; bound = omega arith; low = h .low; high = high′ }
-      where
-        high′ : (k : ℕ) → mid ≤ k → k < n → x ≤ key k
-        high′ k l m = omega (arith, climb key n r mid k l m)
-
-  abbrev pub is-key : ℕ → Bool
-  is-key k = eqb (key k) x
-
-  below-none : (lo hi : ℕ) → Halved key n x lo hi → firstBad is-key lo ≡ none
-  below-none lo hi h = scan-none is-key lo (λ k l. ne-eqb (key k) x (λ q. omega (arith, h .low k l)))
-
-  -- where the search ends: at lo, or nowhere
-  pub halve-found : (lo hi : ℕ) → Halved key n x lo hi → lo < n → key lo ≡ x → firstBad is-key n ≡ some lo
-  halve-found lo hi h l e = scan-found is-key lo n (below-none lo hi h) (eq-eqb (key lo) x e) l
-
-  pub halve-none : NotFalling key n → (lo hi : ℕ) → Halved key n x lo hi → hi ≤ lo → (lo < n → key lo ≡ x → ⊥) → firstBad is-key n ≡ none
-  halve-none r lo hi h s f = scan-none is-key n (λ k l. ne-eqb (key k) x (λ q. other k l q))
-    where
-      other : (k : ℕ) → k < n → key k ≡ x → ⊥
-      other k l q =
-          ⊎-elim (λ (m : k < lo). omega (arith, h .low k m))
-          (λ (m : lo ≤ k). f (omega arith) (omega (arith, climb key n r lo k m l, h .high lo (omega arith) (omega arith))))
-          (less? k lo)
 
 -- ---- from the code's number back to the option
 option-cases : (o : Option ℕ) → (o ≡ none) ⊎ ((i : ℕ) × (o ≡ some i))

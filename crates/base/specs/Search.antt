@@ -26,7 +26,3 @@ orEnd n (some i) = i
 -- each of the first n keys is above the one before it
 pub record Rising (key : ℕ → ℕ) (n : ℕ) : Type 0 where
   pub step : (i : ℕ) → suc i < n → key i < key (suc i)
-
--- none of the first n keys is below the one before it
-pub record NotFalling (key : ℕ → ℕ) (n : ℕ) : Type 0 where
-  pub step : (i : ℕ) → suc i < n → key i ≤ key (suc i)

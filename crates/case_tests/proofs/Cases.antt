@@ -18,9 +18,6 @@ use Rattle.format.specs.Causes.{Cause, finds, firstCause}
 use Rattle.format.specs.Engine.{marketIn}
 use Rattle.format.proofs.Positions.{clean-all, within, Sorted, places}
 use Rattle.format.proofs.Positions.{Clean as CleanTo}
-use Rattle.records.specs.Records.{PairsPlaced, PairsFound}
-use Rattle.records.proofs.Laws.{pairs-sorted}
-use Rattle.records.proofs.Places.{pairs-placed}
 use Rattle.case_tests.specs.Order.{Counted}
 use Rattle.case_tests.specs.Checked.{CleanCase, checkedOf, pairCount, caseRefusal}
 use Rattle.case_tests.specs.declared.Checked.the-variants.{Refused, Counts}
@@ -71,17 +68,9 @@ module _ (case : List ℕ) (n m : ℕ) (c : CleanCase case n m) where
   pub clean : CleanTo case (rowCount case)
   clean = clean-all case (c .form) (c .order)
 
-  -- where all pairs have a record, each stands in its place
-  pub placed : PairsPlaced case n m
-  placed = rw (c .students, c .workshops) (pairs-placed case clean)
-
   pub few : ((1 ≤ n) × (n ≤ 512)) × ((1 ≤ m) × (m ≤ 64))
   unfolding badCounts marketOf
   few = rw (c .students, c .workshops) (counts-within (marketIn case .students) (marketIn case .workshops) (c .counts))
-
-  -- and the lookup finds it, for bytes
-  pub pairs-found : ((k : ℕ) → getD case k 0 < 256) → PairsFound case n m
-  pairs-found bytes = record { manyStudents = few .0 .1; manyWorkshops = few .1 .1; sorted = pairs-sorted case bytes clean; placed = placed }
 
   -- the same by the market's counts
   pub sound : CleanCase case (marketIn case .students) (marketIn case .workshops)

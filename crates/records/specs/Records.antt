@@ -1,11 +1,8 @@
--- The code's records as the layout's, and the order in which a pair is looked up.
-use Prim.Native.Nat.{ℕ, suc, _+_, _-_, _*_, _≤_, _<_}
-use mathlib.Core.Path.{_≡_}
-use mathlib.Core.Bool.{Bool, true, cond, _&&_}
+-- The code's records as the layout's, and the place of a pair's record.
+use Prim.Native.Nat.{ℕ}
 use mathlib.Core.List.{List}
-use lib.Dec.{eqb, leb}
 use Rattle.base.specs.Words.{biased}
-use Rattle.base.specs.Search.{firstBad, orEnd, NotFalling}
+use Rattle.base.specs.Search.{firstBad, orEnd}
 use Rattle.format.specs.Layout.{rowAt, rowCount, isPair}
 use Rattle.format.specs.Layout.{Row as LayoutRow, Entry as LayoutEntry}
 use Rattle.records.specs.declared.Row.{Row}
@@ -36,29 +33,6 @@ entryOf e =
       workshopScore = biased (e .«workshop_score»);
     }
 
--- a pair by student and then workshop, and before every pair whatever is none
-unfoldable pub pairKey : LayoutRow → ℕ
-pairKey r = cond (eqb (r .kind) 3) (suc (r .first * 65536 + r .second)) 0
-
--- the records stand in that order: so it is where causes 2 and 3 find nothing
-abbrev pub PairsSorted : List ℕ → Type 0
-PairsSorted case = NotFalling (λ i. pairKey (rowAt case i)) (rowCount case)
-
 -- the place of the pair's record, or how many records there are
 abbrev pub pairPlace : List ℕ → ℕ → ℕ → ℕ
 pairPlace case s w = orEnd (rowCount case) (firstBad (λ i. isPair s w (rowAt case i)) (rowCount case))
-
--- among so many records all pairs of n students and m workshops have one, and s and w are among these
-abbrev pub isKnown : ℕ → ℕ → ℕ → ℕ → ℕ → Bool
-isKnown rows n m s w = eqb rows (n + m + n * m) && ((leb 1 s && leb s n) && (leb 1 w && leb w m))
-
--- then the place of the pair's record is known: so it is where causes 2 and 3 find nothing
-pub record PairsPlaced (case : List ℕ) (n m : ℕ) : Type 0 where
-  pub placed : (s w : ℕ) → isKnown (rowCount case) n m s w ≡ true → pairPlace case s w ≡ n + s * m + w - 1
-
--- what the lookup of a pair needs of a case of n students and m workshops
-pub record PairsFound (case : List ℕ) (n m : ℕ) : Type 0 where
-  pub manyStudents : n ≤ 512
-  pub manyWorkshops : m ≤ 64
-  pub sorted : PairsSorted case
-  pub placed : PairsPlaced case n m

@@ -1,14 +1,14 @@
-// Fields, records and scores of the case and the book, read from their bytes, and the lookup of a pair's record.
+// Fields, records and scores of the case and the book, read from their bytes.
 ghost use mathlib.Core.Path.{_≡_};
-ghost use mathlib.Core.Bool.{not, cond, _&&_};
-ghost use Prim.Native.Nat.{ℕ, _+_, _*_, _/_, _%_, _^_, _≤_, _<_};
+ghost use mathlib.Core.Bool.{not, cond};
+ghost use Prim.Native.Nat.{_+_, _*_, _/_, _%_, _≤_, _<_};
 ghost use lib.ListN.{length, replicate};
-ghost use lib.Dec.{ltb, leb, eqb};
+ghost use lib.Dec.{ltb};
 ghost use Rattle.base.specs.Lists.{one};
 ghost use Rattle.base.specs.Words.{word, signed, biased};
 ghost use Rattle.format.specs.Layout.{rowAt, entryAt, rowCount, entryCount, outsideScore};
 ghost use Rattle.format.specs.Refusals.{badScore};
-ghost use Rattle.records.specs.Records.{rowOf, entryOf, pairKey, PairsSorted, PairsFound, pairPlace};
+ghost use Rattle.records.specs.Records.{rowOf, entryOf};
 
 // A record of the case, as the layout has it.
 pub struct Row {
@@ -233,139 +233,6 @@ pub fn entry_at(book: &[u8], i: usize) -> Entry
         student_score: score_at(book, at + 4),
         workshop_score: score_at(book, at + 6),
     }
-}
-
-// ---- the lookup of a pair
-
-// A pair by student and then workshop, from 1.
-pub fn key_of(s: u16, w: u16) -> u64
-    ensures { λ r. ⌜ r ≡ s * 65536 + w + 1 ⌝ }
-{
-    s as u64 * 65536 + w as u64 + 1
-}
-
-// The key of record i, 0 where it is no pair.
-pub fn key_at(case: &[u8], i: usize) -> u64
-    requires { ⌜ i < rowCount (now case) ⌝ }
-    ensures { λ r. ⌜ r ≡ pairKey (rowAt (now (case .entry)) i) ⌝ }
-{
-    if kind_at(case, i) == 3 {
-        key_of(first_at(case, i), second_at(case, i))
-    } else {
-        0
-    }
-}
-
-// Not far behind where the pair's record stands if the missing pairs are spread evenly. Any number would do.
-fn likely(rows: usize, students: usize, workshops: usize, s: usize, w: usize) -> usize
-    requires { ⌜ (students ≤ 512) × (workshops ≤ 64) × (s < 65536) × (w < 65536) ⌝ }
-    ensures { λ r. ⌜ r ≤ 2 ^ 48 ⌝ }
-{
-    let all = students * workshops;
-    let from = students + workshops;
-    if rows < from {
-        return 0;
-    }
-    if 65535 < rows {
-        return 0;
-    }
-    if all < 1 {
-        return 0;
-    }
-    from + (rows - from) * (s * workshops + w) / all
-}
-
-// A record before which all keys are below x: 192 before the guess, or the first.
-fn low_near(case: &[u8], rows: usize, guess: usize, x: u64) -> usize
-    requires { ⌜ rows ≡ rowCount (now case) ⌝ }
-    requires { ⌜ PairsSorted (now case) ⌝ }
-    ensures { λ r. ⌜ (r ≤ rowCount (now (case .entry))) × ((k : ℕ) → k < r → pairKey (rowAt (now (case .entry)) k) < x) ⌝ }
-{
-    if guess < 192 {
-        return 0;
-    }
-    if rows <= guess {
-        return 0;
-    }
-    if key_at(case, guess - 192) < x {
-        return guess - 191;
-    }
-    0
-}
-
-// A record from which on no key is below x: 64 after the guess, or the end.
-fn high_near(case: &[u8], rows: usize, guess: usize, x: u64) -> usize
-    requires { ⌜ rows ≡ rowCount (now case) ⌝ }
-    requires { ⌜ PairsSorted (now case) ⌝ }
-    requires { ⌜ guess ≤ 2 ^ 48 ⌝ }
-    ensures { λ r. ⌜ (r ≤ rowCount (now (case .entry))) × ((k : ℕ) → r ≤ k → k < rowCount (now (case .entry)) → x ≤ pairKey (rowAt (now (case .entry)) k)) ⌝ }
-{
-    let end = guess + 64;
-    if rows <= end {
-        return rows;
-    }
-    if key_at(case, end) < x {
-        return rows;
-    }
-    end
-}
-
-// The number of the pair's record, or `rows` where there is none: by halving, what a search from the front finds.
-fn find_pair(case: &[u8], rows: usize, students: usize, workshops: usize, s: u16, w: u16) -> usize
-    requires { ⌜ rows ≡ rowCount (now case) ⌝ }
-    requires { ⌜ PairsSorted (now case) ⌝ }
-    requires { ⌜ (students ≤ 512) × (workshops ≤ 64) ⌝ }
-    ensures { λ r. ⌜ r ≡ pairPlace (now (case .entry)) s w ⌝ }
-{
-    let x = key_of(s, w);
-    let guess = likely(rows, students, workshops, s as usize, w as usize);
-    let mut lo = low_near(case, rows, guess, x);
-    let mut hi = high_near(case, rows, guess, x);
-    while lo < hi {
-        let mid = lo + (hi - lo) / 2;
-        if key_at(case, mid) < x {
-            lo = mid + 1;
-        } else {
-            hi = mid;
-        }
-    }
-    if lo < rows {
-        if key_at(case, lo) == x {
-            return lo;
-        }
-    }
-    rows
-}
-
-// Among `rows` records all pairs of the students and workshops have one.
-fn is_full(rows: usize, students: usize, workshops: usize) -> bool
-    requires { ⌜ (students ≤ 512) × (workshops ≤ 64) ⌝ }
-    ensures { λ r. ⌜ r ≡ eqb rows (students + workshops + students * workshops) ⌝ }
-{
-    rows == students + workshops + students * workshops
-}
-
-// s and w are among the students and workshops.
-fn is_named(students: usize, workshops: usize, s: usize, w: usize) -> bool
-    ensures { λ r. ⌜ r ≡ ((leb 1 s && leb s students) && (leb 1 w && leb w workshops)) ⌝ }
-{
-    ((1 <= s) & (s <= students)) & ((1 <= w) & (w <= workshops))
-}
-
-// The place of the pair's record, or how many records there are. Where all pairs have a record it is known; else it is searched.
-pub fn pair_of(case: &[u8], students: usize, workshops: usize, s: usize, w: usize) -> usize
-    requires { ⌜ (s < 65536) × (w < 65536) ⌝ }
-    requires { ⌜ PairsFound (now case) students workshops ⌝ }
-    ensures { λ r. ⌜ r ≡ pairPlace (now (case .entry)) s w ⌝ }
-{
-    let rows = row_count(case.len());
-    if is_full(rows, students, workshops) {
-        if is_named(students, workshops, s, w) {
-            return students + s * workshops + w - 1;
-        }
-        return find_pair(case, rows, students, workshops, s as u16, w as u16);
-    }
-    find_pair(case, rows, students, workshops, s as u16, w as u16)
 }
 
 // ---- numbers and slices
