@@ -20,7 +20,8 @@
  *   - Pointers are aligned as their type: 1 byte for case and book, 2 for uint16_t, 8 for the states.
  *   - What is written (places, visits, seats, index, states) overlaps nothing else that is lent. Case and book may overlap each other.
  *   - No other thread writes to what is lent, or reads what is written, before the call returns.
- * Calls are reentrant: nothing is kept from call to call, so threads with buffers of their own may call at the same time.
+ * Calls are reentrant: nothing is kept from call to call, so threads with buffers of their own may call at the same time. A call takes less than 16 KB
+ * of the stack.
  *
  * What is left in the buffers: a placement fills the first n places and the used head of the visits (student, workshop of each visit, in the order
  * visited); a next visit fills the head of the visits and leaves the places; a refusal leaves both. Entries past these stay as they were. Seats, index
