@@ -2,9 +2,7 @@ pub mod Tests
 pub mod Counting
 pub mod Members
 pub mod Search
-pub mod Keys
 pub mod Below
-pub mod Shift
 pub mod Signed
 pub mod Digits
 pub mod Grid

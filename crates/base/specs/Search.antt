@@ -22,7 +22,3 @@ firstBad bad (suc n) = orElse (firstBad bad n) (someIf (bad n) n)
 abbrev pub orEnd : ℕ → Option ℕ → ℕ
 orEnd n none = n
 orEnd n (some i) = i
-
--- each of the first n keys is above the one before it
-pub record Rising (key : ℕ → ℕ) (n : ℕ) : Type 0 where
-  pub step : (i : ℕ) → suc i < n → key i < key (suc i)

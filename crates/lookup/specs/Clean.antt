@@ -1,4 +1,5 @@
--- What the run's code needs of a case, a book, an index of the pairs and the table of the case. It is true where no cause refuses them (answering/proofs/Cleaning.antt).
+-- What the run's code needs of a case, a book, an index of the pairs and the table of the case.
+-- It is true where no cause refuses them (answering/proofs/Cleaning.antt).
 use Prim.Native.Nat.{ℕ, _+_, _-_, _≤_, _<_}
 use mathlib.Core.Path.{_≡_}
 use mathlib.Core.Bool.{true, false}

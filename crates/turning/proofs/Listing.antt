@@ -124,7 +124,8 @@ module _ (case table : List ℕ) (T : Tabled case table) (s t first many : ℕ) 
           )))
           (i .listed)
 
-      pub listing-more : (x : ℕ) → n < length pairs → x ≡ one (inTier (marketIn case) s t w) → Listing case s t first old (set pairs n (first + k)) (n + x) (k + 1)
+      pub listing-more : (x : ℕ) → n < length pairs → x ≡ one (inTier (marketIn case) s t w)
+          → Listing case s t first old (set pairs n (first + k)) (n + x) (k + 1)
       listing-more x room f =
           record {
             upTo = w;

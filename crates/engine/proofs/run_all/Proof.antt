@@ -1,5 +1,6 @@
 -- `engine::run_all` meets its contract: a walk of its MIR, by hand, with a loop in which all that is `&mut` is lent again to `take_turn`, and comes
--- back at the list that it says. Of the case, the book and the table, which are `&`, each turn passes a copy, with the tokens of their lifetimes, which come back.
+-- back at the list that it says. Of the case, the book and the table, which are `&`, each turn passes a copy,
+-- with the tokens of their lifetimes, which come back.
 -- The invariant of the loop is a list of items, `At t`, over the variant t, a record (`Here`) that has what changes from turn to turn, with what
 -- is known of it: it is what k turns leave (`same`).
 -- All that the proof knows of `take_turn` is that it meets its contract.

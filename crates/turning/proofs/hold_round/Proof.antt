@@ -122,7 +122,8 @@ entered c = let d = c .before .before .before .before .before .before .before in
     (c .before .entry-of .result) (comes d .pair) (c .before .entry-of .ensures)
 
 -- there is room for it in the visits
-room : (c : tie.Else1 Inv-loop μ-loop) → (let here = c .before .before .before .before .before .before .before .loop in 2 * here .count + 2 ≤ length (here .visits))
+room : (c : tie.Else1 Inv-loop μ-loop)
+    → (let here = c .before .before .before .before .before .before .before .loop in 2 * here .count + 2 ≤ length (here .visits))
 room c =
     let d = c .before .before .before .before .before in
     let start = entry (d .before) in

@@ -12,7 +12,8 @@ unfolding biased resultsOf
 returns c = sym (rw (c .if1 .taken))
 
 student-score-of-requires : tie.Need-student-score-of-requires
-student-score-of-requires c κs = let start = c .before .before .before .before .before in (start .pre .0, start .pre .1 (positive (start .args .w) (c .if1 .left)))
+student-score-of-requires c κs =
+    let start = c .before .before .before .before .before in (start .pre .0, start .pre .1 (positive (start .args .w) (c .if1 .left)))
 
 returns-2 : tie.Need-returns-2
 returns-2 c = search needs

@@ -66,7 +66,8 @@ loop-again c =
     let e : here .s + 1 ≡ suc (here .s) = omega arith in (
       omega arith,
       shelved-more _ _ (a .heads .at) (here .s) (here .i) (here .table) (here .inv .1) (omega (arith, start .pre .1 .0 .0))
-          (omega (arith, heads-end (a .case .now) (a .heads) (start .pre .0), start .pre .1 .0)) (c .take-pile .result .set) (c .take-pile .result .end) (rw e at (c .take-pile .ensures .0)),
+          (omega (arith, heads-end (a .case .now) (a .heads) (start .pre .0), start .pre .1 .0))
+          (c .take-pile .result .set) (c .take-pile .result .end) (rw e at (c .take-pile .ensures .0)),
       c .take-pile .ensures .1 (a .heads .students) (omega arith) (here .inv .2),
     )
 
