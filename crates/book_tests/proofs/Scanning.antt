@@ -2,27 +2,28 @@
 use Prim.Native.Nat.{ℕ, _+_, _-_, _≤_, _<_}
 use mathlib.Core.Path.{_≡_, refl, sym, ap, _∙_}
 use mathlib.Core.Logic.{inl, inr, ⊎-elim}
-use mathlib.Core.Bool.{Bool, true, false, cond, _||_}
+use mathlib.Core.Bool.{Bool, true, false, not, cond, _||_}
 use mathlib.Core.List.{List}
 use mathlib.Core.Option.{none}
 use native.Mathlib.Omega.{arith}
 use lib.ListN.{length, getD, set, replicate}
-use lib.Dec.{leb, ltb, eqb}
+use lib.Dec.{ltb, eqb}
+use borrow.Author.Tests.{not-false}
 use Rattle.base.specs.Words.{biased}
 use Rattle.base.specs.Search.{firstBad, orEnd}
 use Rattle.base.proofs.Tests.{never, or-false}
 use Rattle.base.proofs.Search.{scan-on, scan-found, none-fails}
-use Rattle.format.specs.Layout.{rows, rowCount, entries, entryAt, entryCount}
+use Rattle.format.specs.Layout.{rows, entries, entryAt, entryCount, marketOf}
 use Rattle.format.specs.Layout.{Entry as LayoutEntry}
+use Rattle.format.specs.Engine.{marketIn}
 use Rattle.format.specs.Refusals.{badPair, badScores, badScore, badRepeat}
 use Rattle.records.specs.declared.Entry.{Entry}
 use Rattle.records.specs.Records.{entryOf, pairPlace}
-use Rattle.records.proofs.Laws.{pair-any}
 use Rattle.case_tests.specs.Checked.{CleanCase, pairCount}
 use Rattle.book_tests.specs.declared.Scan.{Scan}
 use Rattle.book_tests.specs.Index.{badAny, pairsFrom, Filled}
 use Rattle.book_tests.specs.Scans.{badBy, failsBy, Fills, Scanned, Advanced, stoppedAt, movedOn}
-use Rattle.book_tests.proofs.Laws.{entry-is, leb-not}
+use Rattle.book_tests.proofs.Laws.{entry-is}
 use Rattle.book_tests.proofs.Indexing.{Placed, placed-of, pairs-few, fill-start, fill-length, fill-few, fill-repeat, fill-on}
 
 -- ---- the tests by their parts: x and y say whether the cause is 8 or 9
@@ -57,18 +58,19 @@ fills-any cause case book i f =
 
 -- ---- record i of the book, as it was read
 module _ (case book : List ℕ) (i : ℕ) (l : i < entryCount book) (e : Entry) (q : entryOf e ≡ entryAt book i) where
-  unpaired-is : (n p : ℕ) → n ≡ rowCount case → p ≡ pairPlace case (e .student) (e .workshop) → leb n p ≡ badPair (rows case) (entries book) i
-  unfolding badPair
-  unpaired-is n p a b = rw (entry-is book i l ∙ sym q, pair-any case (e .student) (e .workshop), ← b, ← a) (leb-not n p)
+  unpaired-is : not (marketIn case .paired (e .student) (e .workshop)) ≡ badPair (rows case) (entries book) i
+  unfolding badPair marketOf
+  unpaired-is = rw (entry-is book i l ∙ sym q)
 
   unscored-is : (badScore (biased (e .«student_score»)) || badScore (biased (e .«workshop_score»))) ≡ badScores (rows case) (entries book) i
   unfolding badScores
   unscored-is = rw (entry-is book i l ∙ sym q)
 
-  module _ (cause n p : ℕ) (a : n ≡ rowCount case) (b : p ≡ pairPlace case (e .student) (e .workshop)) (u f : Bool)
-      (c : u ≡ (badScore (biased (e .«student_score»)) || badScore (biased (e .«workshop_score»)))) (d : f ≡ failsBy cause (leb n p) u) where
+  module _ (cause : ℕ) (f : Bool)
+      (d : f ≡ failsBy cause (not (marketIn case .paired (e .student) (e .workshop)))
+      (badScore (biased (e .«student_score»)) || badScore (biased (e .«workshop_score»)))) where
     parts : f ≡ failsBy cause (badPair (rows case) (entries book) i) (badScores (rows case) (entries book) i)
-    parts = d ∙ rw (unpaired-is n p a b, c ∙ unscored-is)
+    parts = d ∙ rw (unpaired-is, unscored-is)
 
     pub bad-record : f ≡ true → badBy cause case book i ≡ true
     unfolding badBy badAny
@@ -81,9 +83,13 @@ module _ (case book : List ℕ) (i : ℕ) (l : i < entryCount book) (e : Entry) 
     pub good-parts : f ≡ false → Fills cause → (badPair (rows case) (entries book) i ≡ false) × (badScores (rows case) (entries book) i ≡ false)
     good-parts t g = passes-both (eqb cause 8) (eqb cause 9) (badPair (rows case) (entries book) i) (badScores (rows case) (entries book) i) g (sym parts ∙ t)
 
+    pub has-pair : f ≡ false → Fills cause → marketIn case .paired (e .student) (e .workshop) ≡ true
+    has-pair t g = not-false _ (unpaired-is ∙ good-parts t g .0)
+
     -- the place of its pair
-    pub located : {m k : ℕ} → CleanCase case m k → f ≡ false → Fills cause → Placed case (entryAt book i .student) (entryAt book i .workshop) p
-    located {m} {k} clean t g =
+    pub located : {m k : ℕ} → CleanCase case m k → f ≡ false → Fills cause → (p : ℕ) → p ≡ pairPlace case (e .student) (e .workshop)
+        → Placed case (entryAt book i .student) (entryAt book i .workshop) p
+    located {m} {k} clean t g p b =
         rw (b ∙ ap (λ (x : LayoutEntry). pairPlace case (x .student) (x .workshop)) q)
         (placed-of case m k clean book i l (good-parts t g .0))
 

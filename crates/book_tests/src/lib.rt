@@ -4,7 +4,7 @@ use case_tests::refused;
 use reader::BookReader;
 use records::Entry;
 ghost use mathlib.Core.Path.{_≡_};
-ghost use mathlib.Core.Bool.{cond, _||_};
+ghost use mathlib.Core.Bool.{not, _||_};
 ghost use mathlib.Core.Option.{some};
 ghost use mathlib.Core.List.{List};
 ghost use Prim.Native.Nat.{ℕ, _+_, _%_, _^_, _≤_, _<_};
@@ -13,21 +13,14 @@ ghost use Rattle.base.specs.Words.{biased};
 ghost use Rattle.base.specs.Search.{firstBad, orEnd};
 ghost use Rattle.format.specs.Layout.{rows, entries, entryAt, entryCount};
 ghost use Rattle.format.specs.Refusals.{badScore};
-ghost use Rattle.records.specs.Records.{entryOf, pairPlace};
+ghost use Rattle.format.specs.Engine.{marketIn};
+ghost use Rattle.records.specs.Records.{entryOf};
 ghost use Rattle.tables.specs.Table.{Tabled};
 ghost use Rattle.case_tests.specs.Checked.{checkedOf, pairCount};
 ghost use Rattle.book_tests.specs.Index.{Prepared, badAny, bookRefusal, indexAfter, lentIndex};
 ghost use Rattle.book_tests.specs.Scans.{badBy, failsBy, Fills, Scanned, ScanReady, RecordReady, Advanced, stoppedAt, movedOn};
 
 // ---- one record
-
-// The place of the record's pair, or how many records the case has, by the table.
-fn place_of(case: &[u8], table: &[u64], e: Entry) -> usize
-    requires { ⌜ Tabled (now case) (now table) ⌝ }
-    ensures { λ r. ⌜ r ≡ pairPlace (now (case .entry)) (e .student) (e .workshop) ⌝ }
-{
-    tables::pair_of(case, table, e.student as usize, e.workshop as usize)
-}
 
 // A score of the record is 0 or out of range.
 fn is_unscored(e: Entry) -> bool
@@ -39,20 +32,22 @@ fn is_unscored(e: Entry) -> bool
     true
 }
 
-fn only(pair: bool, unpaired: bool, unscored: bool) -> bool
-    ensures { λ v. ⌜ v ≡ cond pair unpaired unscored ⌝ }
-{
-    if pair { unpaired } else { unscored }
-}
-
 // What the cause tests by the record alone: 8 its pair, 9 its scores, and else both.
-fn fails(cause: u16, unpaired: bool, unscored: bool) -> bool
-    ensures { λ v. ⌜ v ≡ failsBy cause unpaired unscored ⌝ }
+fn fails(cause: u16, case: &[u8], table: &[u64], e: Entry) -> bool
+    requires { ⌜ Tabled (now case) (now table) ⌝ }
+    ensures { λ v. ⌜ v ≡ failsBy cause (not (marketIn (now (case .entry)) .paired (e .student) (e .workshop)))
+        (badScore (biased (e .«student_score»)) || badScore (biased (e .«workshop_score»))) ⌝ }
 {
-    if (cause == 8) | (cause == 9) {
-        return only(cause == 8, unpaired, unscored);
+    if cause == 9 {
+        return is_unscored(e);
     }
-    unpaired | unscored
+    if !tables::is_paired(case, table, e.student as usize, e.workshop as usize) {
+        return true;
+    }
+    if cause == 8 {
+        return false;
+    }
+    is_unscored(e)
 }
 
 // ---- a scan of the book
@@ -97,14 +92,13 @@ fn step(
         × ((book : List ℕ) → Scanned cause (now (case .entry)) book (length (now (index .entry))) s (now (index .entry)) → entryOf e ≡ entryAt book (s .next)
         → Scanned cause (now (case .entry)) book (length (now (index .entry))) r (now (index .exit))) ⌝ }
 {
-    let p = place_of(case, table, e);
-    let unpaired = records::row_count(case.len()) <= p;
-    if fails(cause, unpaired, is_unscored(e)) {
+    if fails(cause, case, table, e) {
         return stopped(s);
     }
     if (cause == 8) | (cause == 9) {
         return moved(s);
     }
+    let p = tables::pair_at(case, table, e.student as usize, e.workshop as usize);
     let k = p - from;
     if index[k] != 0 {
         return stopped(s);

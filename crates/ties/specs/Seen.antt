@@ -16,6 +16,6 @@ pub record Met (before after : List ℕ) (slot : ℕ) (r : Bool) : Type 0 where
   pub there : metIn after slot ≡ true
   pub kept : (k : ℕ) → metIn before k ≡ true → metIn after k ≡ true
 
--- a key's slot: one for each score in each of eight tiers
+-- a key's slot: one for each score in each of eight tiers; scores that are near each other have theirs in different numbers
 abbrev pub slotOf : ℕ → ℕ
-slotOf key = (key / 65536 * 2048 + key % 2048) % 16384
+slotOf key = key % 256 * 64 + (key / 65536 * 8 + key % 2048 / 256) % 64

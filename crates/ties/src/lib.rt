@@ -27,11 +27,13 @@ fn met(seen: &mut [u64], slot: usize) -> bool
     (word >> digit) % 2 == 1
 }
 
-// The slot of a key. Two keys may share one.
+// The slot of a key. Two keys may share one. Scores that are near each other have theirs in different numbers, so that a number is seldom written
+// just before it is read.
 fn slot_of(key: u32) -> usize
     ensures { λ r. ⌜ r ≡ slotOf key ⌝ }
 {
-    (key as usize / 65536 * 2048 + key as usize % 2048) % 16384
+    let digit = key as usize / 65536 * 8 + key as usize % 2048 / 256;
+    key as usize % 256 * 64 + digit % 64
 }
 
 fn later(a: u16, b: u16) -> usize

@@ -13,7 +13,7 @@ use Rattle.records.specs.Records.{entryOf}
 use Rattle.book_tests.specs.Index.{pairsFrom}
 use Rattle.book_tests.specs.Scans.{badBy, Scanned}
 use Rattle.book_tests.proofs.Indexing.{Placed}
-use Rattle.book_tests.proofs.Scanning.{bad-record, good-record, good-parts, comes, scan-stop, scan-move, stopped-on, moved-on, number-few}
+use Rattle.book_tests.proofs.Scanning.{bad-record, good-record, good-parts, has-pair, comes, scan-stop, scan-move, stopped-on, moved-on, number-few}
 use Rattle.book_tests.proofs.Scanning.{spot-inside, step-stop, step-fill}
 use Rattle.book_tests.proofs.Scanning.{located as located-by}
 use borrow.Author.Needs.{needs}
@@ -21,13 +21,7 @@ use Rattle.book_tests.proofs.step.Statement.{statement}
 use Rattle.book_tests.proofs.step.Tie as tie
 
 abbrev entry : tie.After-fails → tie.Start
-entry d = d .before .before .before .before .before .before .before
-
-abbrev rows-of : tie.After-fails → ℕ
-rows-of d = d .before .before .row-count .result
-
-abbrev place-at : tie.After-fails → ℕ
-place-at d = d .before .before .before .place-of .result
+entry d = d .before .before .before .before
 
 -- the record is that of the book which comes next
 abbrev Of : tie.After-fails → List ℕ → Type 0
@@ -40,17 +34,13 @@ bad : (d : tie.After-fails) (book : List ℕ) → Of d book → d .fails .result
     (entry d .args .s .next) ≡ true
 bad d book o =
     let a = entry d .args in
-    bad-record (a .case .now) book (a .s .next) (comes (o .0) (entry d .pre .more)) (a .e) (o .1) (a .cause) (rows-of d) (place-at d)
-    (d .before .before .row-count .ensures)
-    (d .before .before .before .place-of .ensures) (d .before .is-unscored .result) (d .fails .result) (d .before .is-unscored .ensures) (d .fails .ensures)
+    bad-record (a .case .now) book (a .s .next) (comes (o .0) (entry d .pre .more)) (a .e) (o .1) (a .cause) (d .fails .result) (d .fails .ensures)
 
 good : (d : tie.After-fails) (book : List ℕ) → Of d book → d .fails .result ≡ false → (eqb (entry d .args .cause) 8 || eqb (entry d .args .cause) 9) ≡ true
     → badBy (entry d .args .cause) (entry d .args .case .now) book (entry d .args .s .next) ≡ false
 good d book o =
     let a = entry d .args in
-    good-record (a .case .now) book (a .s .next) (comes (o .0) (entry d .pre .more)) (a .e) (o .1) (a .cause) (rows-of d) (place-at d)
-    (d .before .before .row-count .ensures)
-    (d .before .before .before .place-of .ensures) (d .before .is-unscored .result) (d .fails .result) (d .before .is-unscored .ensures) (d .fails .ensures)
+    good-record (a .case .now) book (a .s .next) (comes (o .0) (entry d .pre .more)) (a .e) (o .1) (a .cause) (d .fails .result) (d .fails .ensures)
 
 -- where the scan fills the index: the record's parts pass, and its pair has a place
 abbrev here : tie.Else2 → tie.After-fails
@@ -62,52 +52,43 @@ parts : (c : tie.Else2) (book : List ℕ) → Of (here c) book
 parts c book o =
     let d = here c in
     let a = entry d .args in
-    good-parts (a .case .now) book (a .s .next) (comes (o .0) (entry d .pre .more)) (a .e) (o .1) (a .cause) (rows-of d) (place-at d)
-    (d .before .before .row-count .ensures)
-    (d .before .before .before .place-of .ensures) (d .before .is-unscored .result) (d .fails .result) (d .before .is-unscored .ensures) (d .fails .ensures)
+    good-parts (a .case .now) book (a .s .next) (comes (o .0) (entry d .pre .more)) (a .e) (o .1) (a .cause) (d .fails .result) (d .fails .ensures)
     (c .before .if1 .left) (c .if2 .left)
 
-located : (c : tie.Else2) (book : List ℕ) → Of (here c) book
-    → Placed (entry (here c) .args .case .now) (entryAt book (entry (here c) .args .s .next) .student)
-    (entryAt book (entry (here c) .args .s .next) .workshop) (place-at (here c))
-located c book o =
+abbrev found : tie.After-pair-at → tie.Else2
+found k = k .before .before .before
+
+abbrev start-of : tie.After-pair-at → tie.Start
+start-of k = entry (here (found k))
+
+located : (k : tie.After-pair-at) (book : List ℕ) → Of (here (found k)) book
+    → Placed (start-of k .args .case .now) (entryAt book (start-of k .args .s .next) .student) (entryAt book (start-of k .args .s .next) .workshop)
+    (k .pair-at .result)
+located k book o =
+    let c = found k in
     let d = here c in
     let a = entry d .args in
-    located-by (a .case .now) book (a .s .next) (comes (o .0) (entry d .pre .more)) (a .e) (o .1) (a .cause) (rows-of d) (place-at d)
-    (d .before .before .row-count .ensures)
-    (d .before .before .before .place-of .ensures) (d .before .is-unscored .result) (d .fails .result) (d .before .is-unscored .ensures) (d .fails .ensures)
-    (entry d .pre .prepared .clean) (c .before .if1 .left) (c .if2 .left)
+    located-by (a .case .now) book (a .s .next) (comes (o .0) (entry d .pre .more)) (a .e) (o .1) (a .cause) (d .fails .result) (d .fails .ensures)
+    (entry d .pre .prepared .clean) (c .before .if1 .left) (c .if2 .left) (k .pair-at .result) (k .pair-at .ensures)
 
-first-pair : (c : tie.Else2) → entry (here c) .args .from ≡ pairsFrom (entry (here c) .args .case .now)
-first-pair c = entry (here c) .pre .prepared .from
+first-pair : (k : tie.After-pair-at) → start-of k .args .from ≡ pairsFrom (start-of k .args .case .now)
+first-pair k = start-of k .pre .prepared .from
 
-few-here : (c : tie.Else2) → entry (here c) .args .s .next ≤ 32768
-few-here c =
-    let start = entry (here c) in
-    let o = start .pre in
-    number-few (o .scanned) (start .pre .prepared .clean) (start .pre .room) (start .pre .more) (c .if2 .left) (place-at (here c))
-    (located c (o .book) (o .scanned, o .read))
+few-here : (k : tie.After-pair-at) → start-of k .args .s .next ≤ 32768
+few-here k =
+    let o = start-of k .pre in
+    number-few (o .scanned) (o .prepared .clean) (o .room) (o .more) (found k .if2 .left) (k .pair-at .result) (located k (o .book) (o .scanned, o .read))
 
-spot : (c : tie.Else2)
-    → (let a = entry (here c) .args in (a .from ≤ place-at (here c)) × (place-at (here c) - a .from < 32768)
-    × (place-at (here c) - a .from < length (a .index .now)))
-spot c =
-    let start = entry (here c) in
-    let o = start .pre in
-    spot-inside (o .scanned) (start .pre .prepared .clean) (start .pre .room) (start .pre .more) (c .if2 .left) (place-at (here c))
-    (located c (o .book) (o .scanned, o .read)) _ (first-pair c)
-
-place-of-requires : tie.Need-place-of-requires
-place-of-requires c κs = c .before .before .before .pre .prepared .tabled
-
-row-count-requires : tie.Need-row-count-requires
-row-count-requires c κs = search needs
-
-is-unscored-requires : tie.Need-is-unscored-requires
-is-unscored-requires c κs = search needs
+spot : (k : tie.After-pair-at)
+    → (let a = start-of k .args in (a .from ≤ k .pair-at .result) × (k .pair-at .result - a .from < 32768)
+    × (k .pair-at .result - a .from < length (a .index .now)))
+spot k =
+    let o = start-of k .pre in
+    spot-inside (o .scanned) (o .prepared .clean) (o .room) (o .more) (found k .if2 .left) (k .pair-at .result)
+    (located k (o .book) (o .scanned, o .read)) _ (first-pair k)
 
 fails-requires : tie.Need-fails-requires
-fails-requires c κs = search needs
+fails-requires c κs = c .before .before .before .pre .prepared .tabled
 
 stopped-requires : tie.Need-stopped-requires
 stopped-requires c κs = search needs
@@ -131,6 +112,23 @@ returns-2 c =
           (h .long) (λ f. never (c .before .if2 .taken) f)),
     )
 
+cast-pair-at : tie.Need-cast-pair-at
+cast-pair-at c = search needs
+
+cast-pair-at-2 : tie.Need-cast-pair-at-2
+cast-pair-at-2 c = search needs
+
+pair-at-requires : tie.Need-pair-at-requires
+pair-at-requires c κs =
+    let e = c .before .before in
+    let d = here e in
+    let a = entry d .args in
+    let o = entry d .pre in (
+      o .prepared .tabled,
+      has-pair (a .case .now) (o .book) (a .s .next) (comes (o .scanned) (o .more)) (a .e) (o .read) (a .cause) (d .fails .result) (d .fails .ensures)
+          (e .before .if1 .left) (e .if2 .left),
+    )
+
 sub-k : tie.Need-sub-k
 sub-k c = spot c .0
 
@@ -145,12 +143,12 @@ stopped-requires-2 c κs = search needs
 
 returns-3 : tie.Need-returns-3
 returns-3 c =
-    let d = c .before .before .before in
-    let start = entry (here d) in (
+    let k = c .before .before .before in
+    let start = start-of k in (
       rw (c .stopped2 .ensures) (stopped-on (start .pre .more)),
       λ book h q. rw (c .stopped2 .ensures)
-          (step-stop h (start .pre .prepared .clean) (start .pre .room) (start .pre .more) (d .if2 .left) (place-at (here d)) (located d book (h, q)) _
-          (first-pair d) (c .before .if3 .taken)),
+          (step-stop h (start .pre .prepared .clean) (start .pre .room) (start .pre .more) (found k .if2 .left) (k .pair-at .result) (located k book (h, q)) _
+          (first-pair k) (c .before .if3 .taken)),
     )
 
 add-index : tie.Need-add-index
@@ -173,26 +171,26 @@ same-length c = search needs
 
 returns-4 : tie.Need-returns-4
 returns-4 c =
-    let d = c .before .before .before .before in
-    let start = entry (here d) in (
+    let k = c .before .before .before .before in
+    let start = start-of k in (
       rw (c .moved2 .ensures) (moved-on (start .pre .more)),
       λ book h q. rw (c .moved2 .ensures)
-          (step-fill h (start .pre .prepared .clean) (start .pre .room) (start .pre .more) (d .if2 .left) (place-at (here d)) (located d book (h, q)) _
-          (first-pair d) (parts d book (h, q)) (c .before .before .if3 .left)),
+          (step-fill h (start .pre .prepared .clean) (start .pre .room) (start .pre .more) (found k .if2 .left) (k .pair-at .result) (located k book (h, q)) _
+          (first-pair k) (parts (found k) book (h, q)) (c .before .before .if3 .left)),
     )
 
 pub step-spec : {M : Type 1} → statement M
 step-spec =
     tie.close
     (tie.spec
-    place-of-requires
-    row-count-requires
-    is-unscored-requires
     fails-requires
     stopped-requires
     returns
     moved-requires
     returns-2
+    cast-pair-at
+    cast-pair-at-2
+    pair-at-requires
     sub-k
     mul-if3
     slice-read-if3
