@@ -7,6 +7,14 @@ ghost use lib.Bits.{bitOr, bitAnd};
 ghost use Rattle.base.specs.Lists.{count};
 ghost use Rattle.base.specs.Bits.{member, Low};
 
+// Workshop w is in the set.
+pub fn has_bit(bits: u64, w: usize) -> bool
+    requires { ⌜ (1 ≤ w) × (w ≤ 64) ⌝ }
+    ensures { λ r. ⌜ r ≡ member bits w ⌝ }
+{
+    (bits >> (w - 1)) % 2 == 1
+}
+
 // The set with workshop w.
 pub fn with_bit(bits: u64, w: usize) -> u64
     requires { ⌜ (1 ≤ w) × (w ≤ 64) ⌝ }

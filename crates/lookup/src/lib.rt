@@ -6,6 +6,7 @@ ghost use Rattle.base.specs.Words.{biased};
 ghost use Rattle.lgs.specs.Market.{studentOutside, workshopOutside};
 ghost use Rattle.format.specs.Layout.{rowAt, rowCount, entryAt, entryCount};
 ghost use Rattle.format.specs.Engine.{marketIn, resultsIn};
+ghost use Rattle.records.specs.Records.{pairPlace};
 ghost use Rattle.model.specs.Ready.{Booked};
 ghost use Rattle.lookup.specs.Clean.{StudentAt, WorkshopAt, Clean};
 
@@ -84,7 +85,26 @@ pub fn workshop_score(book: &[u8], e: usize) -> i16
     records::workshop_score_at(book, e - 1)
 }
 
-// The score that student s gave workshop w in their interview.
+// The score that student s gave workshop w in their interview; `pair` is the number of their pair's record.
+pub fn student_score_by(
+    case: &[u8],
+    book: &[u8],
+    index: &[u16],
+    table: &[u64],
+    students: usize,
+    workshops: usize,
+    s: usize,
+    w: usize,
+    pair: usize,
+) -> i16
+    requires { ⌜ Clean (now case) (now book) (now index) (now table) students workshops ⌝ }
+    requires { ⌜ Booked (marketIn (now case)) (resultsIn (now book)) s w × (pair ≡ pairPlace (now case) s w) ⌝ }
+    ensures { λ r. ⌜ biased r ≡ resultsIn (now (book .entry)) .studentScore s w ⌝ }
+{
+    student_score(book, entry_of(index, students + workshops, pair))
+}
+
+// The same, by the table.
 pub fn student_score_of(
     case: &[u8],
     book: &[u8],
@@ -100,7 +120,7 @@ pub fn student_score_of(
     ensures { λ r. ⌜ biased r ≡ resultsIn (now (book .entry)) .studentScore s w ⌝ }
 {
     let pair = tables::pair_at(case, table, s, w);
-    student_score(book, entry_of(index, students + workshops, pair))
+    student_score_by(case, book, index, table, students, workshops, s, w, pair)
 }
 
 // Where student s stands at workshop w: its tier for her, and the score that it gave her.

@@ -4,13 +4,14 @@ ghost use mathlib.Core.Path.{_≡_};
 ghost use mathlib.Core.Bool.{true};
 ghost use Prim.Native.Nat.{ℕ, _+_, _-_, _/_, _%_, _≤_, _<_};
 ghost use lib.ListN.{length};
+ghost use lib.Dec.{eqb};
 ghost use Rattle.base.specs.Lists.{count};
 ghost use Rattle.base.specs.Bits.{member};
 ghost use Rattle.lgs.specs.Market.{seatsBefore};
 ghost use Rattle.format.specs.Engine.{marketIn};
 ghost use Rattle.records.specs.Records.{pairPlace};
 ghost use Rattle.tables.specs.Table.{Tabled, Stretch, Standing, Started};
-ghost use Rattle.tables.specs.Table.{entryOf, nextOf, headOf, Staged, Linked, Holds, Kept};
+ghost use Rattle.tables.specs.Table.{setOf, allOf, entryOf, nextOf, headOf, Staged, Linked, Holds, Kept};
 
 // ---- the making
 
@@ -127,6 +128,24 @@ pub fn pairs_of(case: &[u8], table: &[u64], s: usize) -> Pairs
         first: (table[511 + s] % 65536) as usize,
         many: bits::count(table[s - 1]) as usize,
     }
+}
+
+// The workshops that student s has pairs with.
+pub fn set_of(case: &[u8], table: &[u64], s: usize) -> u64
+    requires { ⌜ Tabled (now case) (now table) ⌝ }
+    requires { ⌜ (1 ≤ s) × (s ≤ 512) ⌝ }
+    ensures { λ r. ⌜ r ≡ setOf (now (table .entry)) s ⌝ }
+    ensures { λ r. ⌜ ((w : ℕ) → member r w ≡ marketIn (now (case .entry)) .paired s w) ⌝ }
+{
+    table[s - 1]
+}
+
+// These are all workshops.
+pub fn has_all(table: &[u64], s: usize) -> bool
+    requires { ⌜ (length (now table) ≡ 1089) × (1 ≤ s) × (s ≤ 512) ⌝ }
+    ensures { λ r. ⌜ r ≡ eqb (setOf (now (table .entry)) s) (allOf (now (table .entry))) ⌝ }
+{
+    table[s - 1] == table[1088]
 }
 
 // Where the seats of workshop w start.

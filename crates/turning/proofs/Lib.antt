@@ -4,4 +4,5 @@ pub mod Due
 pub mod Visits
 pub mod Rounds
 pub mod Listing
+pub mod Along
 pub mod Turns

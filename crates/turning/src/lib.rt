@@ -1,6 +1,6 @@
 // One turn of the student in hand: she goes to her next tier and is interviewed there, or applies to the best of what is open to her.
 ghost use mathlib.Core.Path.{_≡_};
-ghost use mathlib.Core.Bool.{true, cond, _&&_, _||_};
+ghost use mathlib.Core.Bool.{true, not, cond, _&&_, _||_};
 ghost use mathlib.Core.List.{List, [], _∷_};
 ghost use Prim.Native.Nat.{ℕ, suc, _+_, _-_, _*_, _≤_, _<_};
 ghost use lib.ListN.{length};
@@ -17,7 +17,7 @@ ghost use Rattle.model.specs.Model.{shutBy};
 ghost use Rattle.model.specs.Store.{nextIn, lastOf};
 ghost use Rattle.model.specs.Turn.{toldState, withMember, favouriteIn, RoundSoFar, dueAt, roundTo, putAt, nextRun, afterRound, afterSeating, openTier, applyTo, turnOf, beginRun};
 ghost use Rattle.model.specs.Ready.{Booked, Ready};
-ghost use Rattle.tables.specs.Table.{Tabled};
+ghost use Rattle.tables.specs.Table.{Tabled, setOf, allOf};
 ghost use Rattle.lookup.specs.Clean.{StudentAt, WorkshopAt, PairAt, Clean};
 ghost use Rattle.turning.specs.Next.{Ordered, FirstAfter};
 ghost use Rattle.turning.specs.Round.{SeatsAt, SeatedAll, roundOf, TierListed};
@@ -129,6 +129,94 @@ fn best_from(
     best
 }
 
+// The same by her pairs, all of them, in order: the next one's record is the next.
+fn best_along(
+    case: &[u8],
+    book: &[u8],
+    index: &[u16],
+    table: &[u64],
+    students: usize,
+    workshops: usize,
+    s: usize,
+    start: usize,
+    set: u64,
+) -> usize
+    requires { ⌜ Clean (now case) (now book) (now index) (now table) students workshops ⌝ }
+    requires { ⌜ (1 ≤ s) × (s ≤ students) × (0 < start → Booked (marketIn (now case)) (resultsIn (now book)) s start) ⌝ }
+    requires { ⌜ ((w : ℕ) → member set w ≡ true → Booked (marketIn (now case)) (resultsIn (now book)) s w) ⌝ }
+    ensures { λ r. ⌜ r ≡ best (marketIn (now (case .entry))) (resultsIn (now (book .entry))) s start (members set) ⌝ }
+{
+    let own = tables::pairs_of(case, table, s);
+    let mut mine = tables::set_of(case, table, s);
+    let mut pair = own.first;
+    let mut best = start;
+    let mut top = score_of(case, book, index, table, students, workshops, s, start);
+    while mine > 0 {
+        let w = bits::lowest(mine);
+        mine = bits::without_lowest(mine);
+        if bits::has_bit(set, w) {
+            let given = lookup::student_score_by(
+                case,
+                book,
+                index,
+                table,
+                students,
+                workshops,
+                s,
+                w,
+                pair,
+            );
+            if records::above(given, top) {
+                best = w;
+                top = given;
+                pair += 1;
+            } else {
+                pair += 1;
+            }
+        } else {
+            pair += 1;
+        }
+    }
+    best
+}
+
+// Her pairs are gone over: she has not all workshops, so that looking up a record takes a count of ones, and more than half of hers are in the set.
+fn goes_along(case: &[u8], table: &[u64], s: usize, set: u64) -> bool
+    requires { ⌜ Tabled (now case) (now table) ⌝ }
+    requires { ⌜ (1 ≤ s) × (s ≤ 512) ⌝ }
+    ensures { λ r. ⌜ r ≡ (not (eqb (setOf (now (table .entry)) s) (allOf (now (table .entry))))
+        && ltb (count (member (setOf (now (table .entry)) s)) 64) (2 * count (member set) 64)) ⌝ }
+{
+    if tables::has_all(table, s) {
+        return false;
+    }
+    let mine = tables::set_of(case, table, s);
+    bits::count(mine) < 2 * bits::count(set)
+}
+
+// The best of `start` and the set, the faster way of the two.
+fn best_of(
+    case: &[u8],
+    book: &[u8],
+    index: &[u16],
+    table: &[u64],
+    students: usize,
+    workshops: usize,
+    s: usize,
+    start: usize,
+    set: u64,
+) -> usize
+    requires { ⌜ Clean (now case) (now book) (now index) (now table) students workshops ⌝ }
+    requires { ⌜ (1 ≤ s) × (s ≤ students) × (0 < start → Booked (marketIn (now case)) (resultsIn (now book)) s start) ⌝ }
+    requires { ⌜ ((w : ℕ) → member set w ≡ true → Booked (marketIn (now case)) (resultsIn (now book)) s w) ⌝ }
+    ensures { λ r. ⌜ r ≡ best (marketIn (now (case .entry))) (resultsIn (now (book .entry))) s start (members set) ⌝ }
+{
+    if goes_along(case, table, s, set) {
+        return best_along(case, book, index, table, students, workshops, s, start, set);
+    }
+    best_from(case, book, index, table, students, workshops, s, start, set)
+}
+
 // The best of the open set, and of the outside option if it is open; 0 also where nothing is open.
 fn favourite(
     case: &[u8],
@@ -142,18 +230,19 @@ fn favourite(
     set: u64,
 ) -> usize
     requires { ⌜ Clean (now case) (now book) (now index) (now table) students workshops ⌝ }
+    requires { ⌜ (1 ≤ s) × (s ≤ students) ⌝ }
     requires { ⌜ ((w : ℕ) → member set w ≡ true → Booked (marketIn (now case)) (resultsIn (now book)) s w) ⌝ }
     ensures { λ r. ⌜ r ≡ favouriteIn (marketIn (now (case .entry))) (resultsIn (now (book .entry))) s outside set ⌝ }
 {
     if outside {
-        return best_from(case, book, index, table, students, workshops, s, 0, set);
+        return best_of(case, book, index, table, students, workshops, s, 0, set);
     }
     if bits::count(set) == 0 {
         return 0;
     }
     let w = bits::lowest(set);
     let rest = bits::without_bit(set, w);
-    best_from(case, book, index, table, students, workshops, s, w, rest)
+    best_of(case, book, index, table, students, workshops, s, w, rest)
 }
 
 // ---- a round of interviews

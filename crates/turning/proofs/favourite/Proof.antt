@@ -11,11 +11,12 @@ use borrow.Author.Needs.{needs}
 use Rattle.turning.proofs.favourite.Statement.{statement}
 use Rattle.turning.proofs.favourite.Tie as tie
 
-best-from-requires : tie.Need-best-from-requires
-best-from-requires c κs = let start = c .before .before .before .before .before in (start .pre .0, ((λ l. absurd (omega arith)), start .pre .1))
+best-of-requires : tie.Need-best-of-requires
+best-of-requires c κs = let start = c .before .before .before .before .before in let h = start .pre .1 .0 in
+    (start .pre .0, ((h .0, h .1, λ l. absurd (omega arith)), start .pre .1 .1))
 
 returns : tie.Need-returns
-returns c = let a = c .before .before .before .before .before .before .args in c .best-from .ensures ∙ sym
+returns c = let a = c .before .before .before .before .before .before .args in c .best-of .ensures ∙ sym
     (with-outside (marketIn (a .case .now)) (resultsIn (a .book .now)) (a .s) (a .set) (a .outside) (c .before .if1 .taken))
 
 count-requires : tie.Need-count-requires
@@ -33,19 +34,19 @@ lowest-requires c κs = let a = c .before .before .before .before .before .befor
 without-bit-requires : tie.Need-without-bit-requires
 without-bit-requires c κs = search needs
 
-best-from-requires-2 : tie.Need-best-from-requires-2
-best-from-requires-2 c κs =
+best-of-requires-2 : tie.Need-best-of-requires-2
+best-of-requires-2 c κs =
     let start = c .before .before .before .before .before .before .before .before .before in
     let w = c .before .lowest in (
       start .pre .0,
       (
-        (λ l. start .pre .1 (w .result) (w .ensures .set)),
-        (λ x q. start .pre .1 x (and-left (member (start .args .set) x) _ (sym (c .without-bit .ensures .1 .0 x) ∙ q))),
+        (start .pre .1 .0 .0, start .pre .1 .0 .1, λ l. start .pre .1 .1 (w .result) (w .ensures .set)),
+        (λ x q. start .pre .1 .1 x (and-left (member (start .args .set) x) _ (sym (c .without-bit .ensures .1 .0 x) ∙ q))),
       ),
     )
 
 returns-3 : tie.Need-returns-3
-returns-3 c = let a = c .before .before .before .before .before .before .before .before .before .before .args in c .best-from2 .ensures ∙ sym
+returns-3 c = let a = c .before .before .before .before .before .before .before .before .before .before .args in c .best-of2 .ensures ∙ sym
     (some-open (marketIn (a .case .now)) (resultsIn (a .book .now)) (a .s) (a .set) (a .outside) (c .before .before .lowest .result)
     (c .before .without-bit .result) (c .before .before .before .before .before .if1 .left) (c .before .before .lowest .ensures)
     (c .before .without-bit .ensures .1 .0))
@@ -54,11 +55,11 @@ pub favourite-spec : {M : Type 1} → statement M
 favourite-spec =
     tie.close
     (tie.spec
-    best-from-requires
+    best-of-requires
     returns
     count-requires
     returns-2
     lowest-requires
     without-bit-requires
-    best-from-requires-2
+    best-of-requires-2
     returns-3)

@@ -116,8 +116,8 @@ favourite-requires c κs =
     let start = c .before .before .before .before .before .before .before .before .before .before .before in
     let a = start .args in
     let t = c .before .before .before .before .told-state in
-    let o = c .before .before .before .student-outside in
-    (start .pre .0, open-booked (start .pre .1) (t .result) (t .ensures))
+    let h = start .pre .1 .hand in
+    (start .pre .0, ((h .0, omega (arith, h .1, start .pre .0 .students)), open-booked (start .pre .1) (t .result) (t .ensures)))
 
 apply-to-requires : tie.Need-apply-to-requires
 apply-to-requires c κs =
