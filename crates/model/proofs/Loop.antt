@@ -8,22 +8,24 @@ use mathlib.Core.List.{List, [], _∷_, _++_}
 use mathlib.Core.List.{List·Memᴰ as Mem, List·Memᴰ·head as here}
 use native.Mathlib.Omega.{arith}
 use lib.Dec.{eqb}
-use lib.ListN.{length, length-append, length-map}
+use lib.ListN.{length, getD, length-append, length-map}
 use borrow.Author.Tests.{eqb-true}
 use Rattle.base.specs.Lists.{upto}
 use Rattle.lgs.specs.Market.{Market, Results, studentOutside, seatsOf}
-use Rattle.lgs.specs.Profiles.{Profile}
+use Rattle.lgs.specs.Profiles.{Profile, flip}
 use Rattle.lgs.specs.Rule.{State, going, stopped, finished, Interview, interviewed, due, close, step, fuel, start, lazyGaleShapley}
 use Rattle.lgs.specs.Promises.{NoRepeats, pairsIn}
-use Rattle.model.specs.Model.{Card, Machine, Turn, on, lacks, done, told, begin, dueNow, takeTurn, turns, machine, stepOf}
-use Rattle.model.specs.Ready.{Booked}
-use Rattle.base.proofs.Tests.{and-left, and-right}
+use Rattle.model.specs.Model.{Card, Machine, Turn, on, lacks, done, told, begin, before, dueNow, takeTurn, turns, machine, stepOf}
+use Rattle.model.specs.Ready.{Booked, InOrder}
+use Rattle.base.proofs.Tests.{bool-cases, and-left, and-right}
 use Rattle.base.proofs.Members.{keep-in, keep-distinct, upto-distinct}
-use Rattle.lgs.proofs.Invariant.{Setting, Seen, Inv}
+use Rattle.lgs.proofs.Sides.{Known}
+use Rattle.lgs.proofs.Invariant.{Setting, Seen, Inv, known-by}
 use Rattle.lgs.proofs.Interviews.{interviewsWith, interviewed-or, interviewed-of}
 use Rattle.lgs.proofs.Moves.{Move, interviews, leaves, sits, drops, moves}
 use Rattle.lgs.proofs.Start.{start-inv}
 use Rattle.lgs.proofs.Once.{append-distinct, interviews-distinct, listed-fits}
+use Rattle.model.proofs.Seats.{seat-in, ranked-at, not-before-rank}
 use Rattle.model.proofs.Evident.{Evident, start-evident}
 use Rattle.model.proofs.Tied.{Tied, due-same, bit-seen, holder-seen}
 use Rattle.model.proofs.Match.{nowAt, now-hand}
@@ -35,6 +37,7 @@ use Rattle.model.proofs.Refined.{next, begin-linked, begin-weight, lack
 pub record Safe (M : Market) (B : Results) (m : Machine) : Type 0 where
   pub seats : (c : ℕ) → 0 < c → length (m .seats c) ≤ seatsOf M c
   pub seated : (c h : ℕ) → 0 < c → Mem h (m .seats c) → Booked M B h c
+  pub ordered : (c : ℕ) → 0 < c → InOrder M B c (m .seats c)
   pub hand : (s : ℕ) (rest : List ℕ) → m .waiting ≡ s ∷ rest → (1 ≤ s) × (s ≤ M .students)
   pub reached : (s : ℕ) (rest : List ℕ) → m .waiting ≡ s ∷ rest → told (m .lost) (m .cards s) .reached ≤ studentOutside M s
   pub bits : (s : ℕ) (rest : List ℕ) → m .waiting ≡ s ∷ rest → (d : ℕ) → told (m .lost) (m .cards s) .bits d ≡ true → Booked M B s d
@@ -180,9 +183,26 @@ module _ (M : Market) (B : Results) (O : Profile) (E : Setting M B O (B .met)) w
     booked : (s d : ℕ) → Seen M (B .met) (D .state) s d → Booked M B s d
     booked s d v = record { student = E .wf .student s d (v .pair); workshop = E .wf .workshop s d (v .pair); pair = v .pair; met = v .seen }
 
+    seat-seen : (c h : ℕ) → 0 < c → Mem h (m .seats c) → Seen M (B .met) (D .state) h c
+    seat-seen c h pos k = holder-seen M B O E (D .state) (D .inv) _ (m .seats) (D .linked .tied) c h pos (D .linked .tied .sits c h pos k)
+
     seat-booked : (c h : ℕ) → 0 < c → Mem h (m .seats c) → Booked M B h c
-    seat-booked c h pos k =
-        booked h c (holder-seen M B O E (D .state) (D .inv) _ (m .seats) (D .linked .tied) c h pos (D .linked .tied .sits c h pos k))
+    seat-booked c h pos k = booked h c (seat-seen c h pos k)
+
+    seats-ordered : (c : ℕ) → 0 < c → InOrder M B c (m .seats c)
+    seats-ordered c pos i j l p =
+        let a : ℕ = getD (m .seats c) i 0 in
+        let b : ℕ = getD (m .seats c) j 0 in
+        let r : Mem a (m .seats c) × (O .workshopRank c a < O .workshopRank c b) = ranked-at (O .workshopRank c) (m .seats c) (D .linked .tied .ranked c pos)
+        i j l p in (
+          seat-booked c a pos (r .0) .student .0,
+          ⊎-elim (λ e. e)
+              (λ f. absurd (omega (arith, not-before-rank M B O (B .met) E c a b (knows a (r .0)) (knows b (seat-in (m .seats c) j p)) f)))
+              (bool-cases (before M B c a b)),
+        )
+      where
+        knows : (h : ℕ) → Mem h (m .seats c) → Known (flip (M .paired)) (flip (B .met)) c h
+        knows h k = known-by M B O (B .met) E (D .state) h c (seat-seen c h pos k)
 
     -- of the student in hand
     module _ (s : ℕ) (rest : List ℕ) (w : m .waiting ≡ s ∷ rest) where
@@ -211,4 +231,13 @@ module _ (M : Market) (B : Results) (O : Profile) (E : Setting M B O (B .met)) w
           same-due = ap (λ k. dueNow M B (m .seats) k s) (sym same-card) ∙ due-same M B O E (D .state) (D .inv) _ (m .seats) tied (D .evident) s
 
     pub sound-safe : Safe M B m
-    sound-safe = record { seats = seats-fit; seated = seat-booked; hand = hand-range; reached = reached-outside; bits = bit-booked; room = due-room }
+    sound-safe =
+        record {
+          seats = seats-fit;
+          seated = seat-booked;
+          ordered = seats-ordered;
+          hand = hand-range;
+          reached = reached-outside;
+          bits = bit-booked;
+          room = due-room;
+        }

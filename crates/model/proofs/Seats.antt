@@ -155,3 +155,13 @@ pub seat-in : (ys : List ℕ) (i : ℕ) → 0 < getD ys i 0 → Mem (getD ys i 0
 seat-in [] i p = absurd (omega arith)
 seat-in (y ∷ ys) zero p = here refl
 seat-in (y ∷ ys) (suc i) p = later (seat-in ys i p)
+
+-- of two entries of ranked seats, the front one has the lower rank
+pub ranked-at : (rank : ℕ → ℕ) (ys : List ℕ) → Ranked rank ys → (i j : ℕ) → i < j → 0 < getD ys j 0
+    → Mem (getD ys i 0) ys × (rank (getD ys i 0) < rank (getD ys j 0))
+ranked-at rank [] r i j l p = absurd (omega arith)
+ranked-at rank (y ∷ ys) r i zero l p = absurd (omega arith)
+ranked-at rank (y ∷ ys) r zero (suc j) l p = (here refl, r .0 (getD ys j 0) (seat-in ys j p))
+ranked-at rank (y ∷ ys) r (suc i) (suc j) l p =
+    let k : Mem (getD ys i 0) ys × (rank (getD ys i 0) < rank (getD ys j 0)) = ranked-at rank ys (r .1) i j (omega arith) p in
+    (later (k .0), k .1)

@@ -20,7 +20,7 @@ use Rattle.model.specs.Model.{Card, Machine, told, begin, dueNow, shutBy
 use Rattle.model.specs.Store.{part}
 use Rattle.model.specs.Turn.{toldState, putAt, dueAt, beginRun}
 use Rattle.api.specs.Answered.{zeroState}
-use Rattle.model.specs.Ready.{Booked, Ready}
+use Rattle.model.specs.Ready.{Booked, InOrder, Ready}
 use Rattle.base.proofs.Digits.{keep-same, keep-count, bit-zero}
 use Rattle.model.proofs.Seats.{seat-in}
 use Rattle.model.proofs.Loop.{Safe}
@@ -157,6 +157,7 @@ module _ (M : Market) (B : Results) (old : List ℕ) where
             opened = opening-booked;
             long = W .stored .long;
             seated = λ w l u i li p. seat-booked w l u i p;
+            ordered = seats-ordered;
             room = rw (W .visits) (omega (arith, due-room, head-length (flat (m .interviews)) old (omega (arith, due-room, flat-length (m .interviews)))));
           }
         where
@@ -170,11 +171,16 @@ module _ (M : Market) (B : Results) (old : List ℕ) where
               by-waits [] e (over z) = absurd (omega (arith, in-range))
               by-waits (h ∷ ws) e (holds p l c) = l
 
+          seat-at : (w : ℕ) → 1 ≤ w → w ≤ M .workshops → (i : ℕ) → getD (part M (x .seats) w) i 0 ≡ getD (m .seats w) i 0
+          seat-at w l u i = ap (λ z. getD z i 0) (W .stored .parts w l u) ∙ padded-at (seatsOf M w) (m .seats w) (S .seats w l) i
+
           seat-booked : (w : ℕ) → 1 ≤ w → w ≤ M .workshops → (i : ℕ) → 0 < getD (part M (x .seats) w) i 0 → Booked M B (getD (part M (x .seats) w) i 0) w
           seat-booked w l u i p =
-              let e : getD (part M (x .seats) w) i 0 ≡ getD (m .seats w) i 0 = ap (λ z. getD z i 0) (W .stored .parts w l u) ∙ padded-at (seatsOf M w)
-              (m .seats w) (S .seats w l) i in
+              let e : getD (part M (x .seats) w) i 0 ≡ getD (m .seats w) i 0 = seat-at w l u i in
               rw e (S .seated w (getD (m .seats w) i 0) l (seat-in (m .seats w) i (rw e at p)))
+
+          seats-ordered : (w : ℕ) → 1 ≤ w → w ≤ M .workshops → InOrder M B w (part M (x .seats) w)
+          seats-ordered w l u i j less p = rw (seat-at w l u i, seat-at w l u j) (S .ordered w l i j less (rw (seat-at w l u j) at p))
 
           due-room : 2 * (x .run .count + count (dueAt M B (x .seats) (x .run .hand) (suc (state .reached))) (M .workshops)) ≤ length old
           due-room =

@@ -9,6 +9,7 @@ use Rattle.base.specs.Bits.{member}
 use Rattle.lgs.specs.Market.{Market, Results, studentOutside, seatsOf, allSeats}
 use Rattle.api.specs.declared.StudentState.{StudentState}
 use Rattle.model.specs.declared.Run.{Run}
+use Rattle.model.specs.Model.{before}
 use Rattle.model.specs.Store.{part}
 use Rattle.model.specs.Turn.{toldState, dueAt}
 
@@ -19,6 +20,10 @@ pub record Booked (M : Market) (B : Results) (s w : ℕ) : Type 0 where
   pub pair : M .paired s w ≡ true
   pub met : B .met s w ≡ true
 
+-- seats of workshop w in order: best first, and the free ones last
+abbrev pub InOrder : Market → Results → ℕ → List ℕ → Type 0
+InOrder M B w l = (i j : ℕ) → i < j → 0 < getD l j 0 → (0 < getD l i 0) × (before M B w (getD l i 0) (getD l j 0) ≡ true)
+
 -- before a turn of the student in hand, whose state is k
 pub record Ready (M : Market) (B : Results) (visits seats : List ℕ) (k : StudentState) (r : Run) : Type 0 where
   pub hand : (1 ≤ r .hand) × (r .hand ≤ M .students)
@@ -28,8 +33,9 @@ pub record Ready (M : Market) (B : Results) (visits seats : List ℕ) (k : Stude
   pub openings : k .openings < 2 ^ 64
   -- each open workshop, after the one that has just dropped her is taken out
   pub opened : (w : ℕ) → member (toldState (r .lost) k .openings) w ≡ true → Booked M B (r .hand) w
-  -- all seats are there, and whoever has one
+  -- all seats are there, whoever has one is booked, and the seats of a workshop are in order
   pub long : allSeats M ≤ length seats
   pub seated : (w : ℕ) → 1 ≤ w → w ≤ M .workshops → (i : ℕ) → i < seatsOf M w → 0 < getD (part M seats w) i 0 → Booked M B (getD (part M seats w) i 0) w
+  pub ordered : (w : ℕ) → 1 ≤ w → w ≤ M .workshops → InOrder M B w (part M seats w)
   -- there is room for the interviews of her next tier
   pub room : 2 * (r .count + count (dueAt M B seats (r .hand) (suc (k .reached))) (M .workshops)) ≤ length visits

@@ -1,24 +1,27 @@
--- The walk through a workshop's part of the seats, and the part itself.
-use Prim.Native.Nat.{ℕ, suc, _+_, _-_, _≤_, _<_, min}
+-- How a student takes her place in a workshop's part of the seats, and the part itself.
+use Prim.Native.Nat.{ℕ, zero, suc, _+_, _-_, _≤_, _<_, min}
 use mathlib.Core.Path.{_≡_, refl, sym, ap, _∙_}
-use mathlib.Core.Logic.{⊎-elim}
-use mathlib.Core.Bool.{Bool, true, false, _&&_, _||_}
+use mathlib.Core.Logic.{_⊎_, inl, inr, ⊎-elim}
+use mathlib.Core.Bool.{Bool, true, false, not, _&&_, _||_}
 use mathlib.Core.List.{List, [], _∷_, _++_, append-nil}
 use native.Mathlib.Omega.{arith}
-use native.Mathlib.Numerals.{add-one}
-use lib.ListN.{length, getD, take, drop, set, length-set, length-take, drop-of-length-le}
-use lib.Seq.{drop-cons, drop-drop, take-suc, take-all, append-snoc, getD-drop, set-split, take-suc-set, drop-set-lt}
+use lib.ListN.{length, getD, take, drop, set, length-set, length-take, List·getD-eq-default}
+use lib.Seq.{drop-cons, take-length, drop-length, length-take-le, take-take, getD-take, set-split, take-set-le, drop-at}
 use lib.Dec.{eqb, ltb}
 use lib.IntN.{ℤ}
-use borrow.Author.Tests.{eq-eqb, ne-eqb}
+use borrow.Author.Tests.{eqb-true, ltb-true, eq-eqb, ne-eqb, lt-ltb, not-true, not-false}
 use Rattle.base.specs.Words.{biased}
-use Rattle.base.proofs.Tests.{less?}
+use Rattle.base.proofs.Tests.{never, is-false, and-left, and-right, and-make, or-true, or-left, or-right, eq?, less?}
 use Rattle.lgs.specs.Market.{Market, Results, outscored, seatsOf, seatsBefore}
 use Rattle.model.specs.Model.{before}
 use Rattle.model.specs.Store.{pushPadded, part, lastOf}
+use Rattle.model.specs.Ready.{InOrder}
 
 pub positive : (y : ℕ) → (y ≡ 0 → ⊥) → 0 < y
 positive y f = ⊎-elim (λ (l : 0 < y). l) (λ (l : y ≤ 0). absurd (f (omega arith))) (less? 0 y)
+
+zero-of : (y : ℕ) → (0 < y → ⊥) → y ≡ 0
+zero-of y f = ⊎-elim (λ (l : 0 < y). absurd (f l)) (λ (l : y ≤ 0). omega arith) (less? 0 y)
 
 -- student x stands in tier t at workshop w, with the score a
 pub record Stands (M : Market) (B : Results) (w x t : ℕ) (a : ℤ) : Type 0 where
@@ -30,83 +33,210 @@ pub before-by : (M : Market) (B : Results) (w x y t u : ℕ) (a b : ℤ) → Sta
 unfolding before outscored
 before-by M B w x y t u a b p q r e = sym (e ∙ rw (p .tier, p .score, q .tier, q .score))
 
--- x walks through the seats l: so far the part has become `part`, and after the first i seats `hand` is the one without a seat
-pub record Pushing (M : Market) (B : Results) (w x : ℕ) (l part : List ℕ) (i hand : ℕ) : Type 0 where
-  pub within : i ≤ length l
-  pub long : length part ≡ length l
-  pub rest : drop i part ≡ drop i l
-  pub list : pushPadded M B w x l .0 ≡ take i part ++ pushPadded M B w hand (drop i l) .0
-  pub out : pushPadded M B w x l .1 ≡ pushPadded M B w hand (drop i l) .1
+-- a pair's two parts
+pub two-parts : (r : List ℕ × ℕ) (p : List ℕ) (x : ℕ) → r ≡ (p, x) → (p ≡ r .0) × (x ≡ r .1)
+two-parts r p x e = rw e (refl, refl)
 
-module _ (M : Market) (B : Results) (w x : ℕ) (l : List ℕ) where
-  pub push-start : Pushing M B w x l l 0 x
-  push-start = record { within = omega arith; long = refl; rest = refl; list = refl; out = refl }
+-- the two have been compared: y is seated, and stays or not
+pub stays-by : (M : Market) (B : Results) (w x y : ℕ) (r : Bool) → (y ≡ 0 → ⊥) → before M B w x y ≡ r → not r ≡ (ltb 0 y && not (before M B w x y))
+stays-by M B w x y r ne e = rw (lt-ltb 0 y (positive y ne), e)
 
-  module _ (part : List ℕ) (i hand : ℕ) (p : Pushing M B w x l part i hand) where
-    module _ (b : i < length l) where
-      -- the seat that she comes to
-      pub seat-there : getD part i 0 ≡ getD l i 0
-      seat-there =
-          let e : getD part (i + 0) 0 ≡ getD l (i + 0) 0 = sym (getD-drop i part 0 0) ∙ ap (λ (m : List ℕ). getD m 0 0) (p .rest) ∙ getD-drop i l 0 0 in
-          let z : i + 0 ≡ i = omega arith in
-          rw z at e
+pub stays-free : (M : Market) (B : Results) (w x y : ℕ) → y ≡ 0 → false ≡ (ltb 0 y && not (before M B w x y))
+stays-free M B w x y e = rw e
 
-      rest-there : drop (suc i) part ≡ drop (suc i) l
-      rest-there =
-          let z : i + 1 ≡ suc i = omega arith in
-          let e : drop (i + 1) part ≡ drop (i + 1) l = sym (drop-drop 1 i part) ∙ ap (λ (m : List ℕ). drop 1 m) (p .rest) ∙ drop-drop 1 i l in
-          rw z at e
+-- what the answer says
+pub stays-true : (M : Market) (B : Results) (w x y : ℕ) (r : Bool) → r ≡ (ltb 0 y && not (before M B w x y)) → r ≡ true
+    → (0 < y) × (before M B w x y ≡ false)
+stays-true M B w x y r e t =
+    let f : (ltb 0 y && not (before M B w x y)) ≡ true = sym e ∙ t in
+    (ltb-true 0 y (and-left (ltb 0 y) _ f), not-true (before M B w x y) (and-right (ltb 0 y) _ f))
 
-      before-seat : pushPadded M B w hand (drop i l) ≡ pushPadded M B w hand (getD part i 0 ∷ drop (suc i) l)
-      before-seat = rw (drop-cons l i 0 b, seat-there)
+pub stays-false : (M : Market) (B : Results) (w x y : ℕ) (r : Bool) → r ≡ (ltb 0 y && not (before M B w x y)) → r ≡ false
+    → 0 < y → before M B w x y ≡ true
+stays-false M B w x y r e t pos =
+    let f : not (before M B w x y) ≡ false = rw (lt-ltb 0 y pos) at (sym e ∙ t) in
+    not-false (before M B w x y) f
 
-      in-part : i < length part
-      in-part = omega (arith, p .long)
+module _ (M : Market) (B : Results) (w : ℕ) where
+  -- `before` is by tier, then by score: so it carries on
+  abbrev Ahead : ℕ → ℕ → Type 0
+  Ahead x y = (M .workshopTier w x < M .workshopTier w y) ⊎
+      ((M .workshopTier w x ≡ M .workshopTier w y) × (B .workshopScore w y < B .workshopScore w x))
 
-      -- what is known of everybody seated is known of whoever has it
-      pub known-there : (P : ℕ → Type 0) → ((k : ℕ) → k < length l → 0 < getD l k 0 → P (getD l k 0)) → (getD part i 0 ≡ 0 → ⊥) → P (getD part i 0)
-      known-there P f z = rw seat-there (f i b (rw seat-there at (positive (getD part i 0) z)))
+  before-ahead : (x y : ℕ) → before M B w x y ≡ true → Ahead x y
+  unfolding before outscored
+  before-ahead x y e =
+      ⊎-elim (λ f. inl (ltb-true _ _ f))
+      (λ f. inr (eqb-true _ _ (and-left (eqb (M .workshopTier w x) _) _ f), ltb-true _ _ (and-right (eqb (M .workshopTier w x) _) _ f)))
+      (or-true (ltb (M .workshopTier w x) (M .workshopTier w y)) _ e)
 
-      -- it is free
-      pub push-free : getD part i 0 ≡ 0 → (set part i hand ≡ pushPadded M B w x l .0) × (0 ≡ pushPadded M B w x l .1)
-      unfolding pushPadded
-      push-free z =
-          let e : pushPadded M B w hand (drop i l) ≡ (hand ∷ drop (suc i) l, 0) = before-seat ∙ rw z in
-          (set-split part i hand in-part ∙ sym (p .list ∙ rw (e, rest-there)), sym (p .out ∙ rw e))
+  ahead-before : (x y : ℕ) → Ahead x y → before M B w x y ≡ true
+  unfolding before outscored
+  ahead-before x y c =
+      ⊎-elim (λ l. or-left (ltb (M .workshopTier w x) (M .workshopTier w y)) _ (lt-ltb _ _ l))
+      (λ l. or-right (ltb (M .workshopTier w x) (M .workshopTier w y)) _ (and-make (eq-eqb _ _ (l .0)) (lt-ltb _ _ (l .1))))
+      c
 
-      -- it is taken by somebody whom she ranks before, or not
-      pub push-before : (getD part i 0 ≡ 0 → ⊥) → before M B w hand (getD part i 0) ≡ true → Pushing M B w x l (set part i hand) (i + 1) (getD part i 0)
-      unfolding pushPadded
-      push-before z q =
-          rw add-one
-          (record {
-            within = omega arith;
-            long = length-set part i hand ∙ p .long;
-            rest = drop-set-lt (suc i) part i hand (omega arith) ∙ rest-there;
-            list = p .list ∙ rw (before-seat, ne-eqb (getD part i 0) 0 z, q, take-suc-set part i hand in-part)
-                (sym (append-snoc (take i part) hand (pushPadded M B w (getD part i 0) (drop (suc i) l) .0)));
-            out = p .out ∙ rw (before-seat, ne-eqb (getD part i 0) 0 z, q);
-          })
+  before-on : (x y z : ℕ) → before M B w x y ≡ true → before M B w y z ≡ true → before M B w x z ≡ true
+  before-on x y z e f = ahead-before x z (both (before-ahead x y e) (before-ahead y z f))
+    where
+      both : Ahead x y → Ahead y z → Ahead x z
+      both (inl a) (inl b) = inl (omega arith)
+      both (inl a) (inr b) = inl (omega arith)
+      both (inr a) (inl b) = inl (omega arith)
+      both (inr a) (inr b) = inr (omega arith, omega arith)
 
-      pub push-after : (getD part i 0 ≡ 0 → ⊥) → before M B w hand (getD part i 0) ≡ false → Pushing M B w x l part (i + 1) hand
-      unfolding pushPadded
-      push-after z q =
-          rw add-one
-          (record {
-            within = omega arith;
-            long = p .long;
-            rest = rest-there;
-            list = p .list ∙ rw (before-seat, ne-eqb (getD part i 0) 0 z, q, take-suc part i 0 in-part)
-                (sym (append-snoc (take i part) (getD part i 0) (pushPadded M B w hand (drop (suc i) l) .0)));
-            out = p .out ∙ rw (before-seat, ne-eqb (getD part i 0) 0 z, q);
-          })
+  -- z ranks before whoever has a seat from i on
+  abbrev pub Wins : ℕ → List ℕ → ℕ → Type 0
+  Wins z l i = (k : ℕ) → i ≤ k → 0 < getD l k 0 → before M B w z (getD l k 0) ≡ true
 
-    -- there is no seat left
-    pub push-end : length l ≤ i → (part ≡ pushPadded M B w x l .0) × (hand ≡ pushPadded M B w x l .1)
+  -- x takes her place in the seats l from the back, which have become `part`: seat i is free for her, and whoever was behind has moved on one seat
+  pub record Settling (x : ℕ) (l part : List ℕ) (i : ℕ) : Type 0 where
+    pub within : i < length l
+    pub long : length part ≡ length l
+    pub front : take i part ≡ take i l
+    pub wins : Wins x l i
+    pub moved : (z : ℕ) → Wins z l i → pushPadded M B w z (drop i l) ≡ (z ∷ drop (suc i) part, getD l (length l - 1) 0)
+
+  module _ (x : ℕ) (l part : List ℕ) (i : ℕ) (p : Settling x l part i) (b : 0 < i) where
+    -- the seat in front of it
+    seat-there : getD part (i - 1) 0 ≡ getD l (i - 1) 0
+    seat-there =
+        sym (getD-take i part (i - 1) 0 (omega arith))
+        ∙ ap (λ (m : List ℕ). getD m (i - 1) 0) (p .front)
+        ∙ getD-take i l (i - 1) 0 (omega arith)
+
+    -- what is known of everybody seated is known of whoever has it
+    pub known-there : (P : ℕ → Type 0) → ((k : ℕ) → k < length l → 0 < getD l k 0 → P (getD l k 0)) → 0 < getD part (i - 1) 0 → P (getD part (i - 1) 0)
+    known-there P f h = rw seat-there (f (i - 1) (omega (arith, p .within)) (rw seat-there at h))
+
+  -- one step of `pushPadded`
+  pub push-empty : (x : ℕ) (l : List ℕ) → length l ≡ 0 → pushPadded M B w x l ≡ (l, x)
+  unfolding pushPadded
+  push-empty x [] e = refl
+  push-empty x (y ∷ ys) e = absurd (omega arith)
+
+  push-free : (z y : ℕ) (ys : List ℕ) → y ≡ 0 → pushPadded M B w z (y ∷ ys) ≡ (z ∷ ys, 0)
+  unfolding pushPadded
+  push-free z y ys e = rw (eq-eqb y 0 e)
+
+  push-taken : (z y : ℕ) (ys : List ℕ) → (y ≡ 0 → ⊥) → before M B w z y ≡ true
+      → pushPadded M B w z (y ∷ ys) ≡ (z ∷ pushPadded M B w y ys .0, pushPadded M B w y ys .1)
+  unfolding pushPadded
+  push-taken z y ys ne h = rw (ne-eqb y 0 ne, h)
+
+  push-last : (z y : ℕ) → (0 < y → before M B w z y ≡ true) → pushPadded M B w z (y ∷ []) ≡ (z ∷ [], y)
+  unfolding pushPadded
+  push-last z y h =
+      ⊎-elim (λ (e : y ≡ 0). push-free z y [] e ∙ rw e) (λ (ne : y ≡ 0 → ⊥). push-taken z y [] ne (h (positive y ne))) (eq? y 0)
+
+  -- the first i seats stay as they are
+  abbrev Kept : ℕ → List ℕ → ℕ → Type 0
+  Kept x l i = pushPadded M B w x l ≡ (take i l ++ pushPadded M B w x (drop i l) .0, pushPadded M B w x (drop i l) .1)
+
+  -- x does not rank before the holder of seat i
+  push-stays : (x : ℕ) (l : List ℕ) → InOrder M B w l → (i : ℕ) → 0 < getD l i 0 → before M B w x (getD l i 0) ≡ false → Kept x l (suc i)
+  unfolding pushPadded
+  push-stays x [] o i pos f = absurd (omega arith)
+  push-stays x (y ∷ ys) o zero pos f = rw (ne-eqb y 0 (λ z. omega arith), f)
+  push-stays x (y ∷ ys) o (suc i) pos f =
+      let h : (0 < y) × (before M B w y (getD ys i 0) ≡ true) = o 0 (suc i) (omega arith) pos in
+      let g : before M B w x y ≡ false = is-false (before M B w x y) (λ t. never (before-on x y (getD ys i 0) t (h .1)) f) in
+      let e : Kept x ys (suc i) = push-stays x ys (λ j k l. o (suc j) (suc k) (omega arith)) i pos f in
+      rw (ne-eqb y 0 (λ z. omega arith), g, e)
+
+  module _ (l : List ℕ) (o : InOrder M B w l) where
+    -- nobody moves where the last holder stays
+    pub push-none : (x : ℕ) → 0 < getD l (length l - 1) 0 → before M B w x (getD l (length l - 1) 0) ≡ false → 0 < length l
+        → pushPadded M B w x l ≡ (l, x)
     unfolding pushPadded
-    push-end h =
-        let e : pushPadded M B w hand (drop i l) ≡ ([], hand) = rw (drop-of-length-le l {i = i} h) in
-        (sym (p .list ∙ rw (e, append-nil, take-all i part (omega (arith, p .long)))), sym (p .out ∙ rw e))
+    push-none x pos f long =
+        let n : suc (length l - 1) ≡ length l = omega arith in
+        push-stays x l o (length l - 1) pos f ∙ rw (n, take-length, drop-length, append-nil)
+
+    seated-in : (k : ℕ) → 0 < getD l k 0 → k < length l
+    seated-in k h = ⊎-elim (λ (a : k < length l). a) (λ (a : length l ≤ k). absurd (omega (arith, List·getD-eq-default l 0 {n = k} a))) (less? k (length l))
+
+    module _ (x : ℕ) where
+      pub settle-start : 0 < length l → (0 < getD l (length l - 1) 0 → before M B w x (getD l (length l - 1) 0) ≡ true) → Settling x l l (length l - 1)
+      settle-start pos f =
+          let n : suc (length l - 1) ≡ length l = omega arith in
+          record {
+            within = omega arith;
+            long = refl;
+            front = refl;
+            wins = λ k le h. let e : k ≡ length l - 1 = omega (arith, seated-in k h) in rw e (f (rw e at h));
+            moved = λ z h.
+                rw (drop-cons l (length l - 1) 0 (omega arith), n, drop-length) (push-last z (getD l (length l - 1) 0) (h (length l - 1) (omega arith)));
+          }
+
+      module _ (part : List ℕ) (i : ℕ) (p : Settling x l part i) where
+        -- seat i is hers
+        settled : Kept x l i → pushPadded M B w x l ≡ (set part i x, getD l (length l - 1) 0)
+        settled e =
+            let s : set part i x ≡ take i part ++ (x ∷ drop (suc i) part) = set-split part i x (omega (arith, p .within, p .long)) in
+            e ∙ rw (p .moved x (p .wins), s, p .front)
+
+        pub settle-first : i ≤ 0 → pushPadded M B w x l ≡ (set part 0 x, getD l (length l - 1) 0)
+        settle-first h = let z : i ≡ 0 = omega arith in rw z at (settled (rw z))
+
+        module _ (b : 0 < i) where
+          there : getD part (i - 1) 0 ≡ getD l (i - 1) 0
+          there = seat-there x l part i p b
+
+          pub settle-here : 0 < getD part (i - 1) 0 → before M B w x (getD part (i - 1) 0) ≡ false
+              → pushPadded M B w x l ≡ (set part i x, getD l (length l - 1) 0)
+          settle-here pos f =
+              let n : suc (i - 1) ≡ i = omega arith in
+              settled (rw n at (push-stays x l o (i - 1) (rw there at pos) (rw there at f)))
+
+          pub settle-on : (0 < getD part (i - 1) 0 → before M B w x (getD part (i - 1) 0) ≡ true) → Settling x l (set part i (getD part (i - 1) 0)) (i - 1)
+          settle-on f =
+              record {
+                within = omega (arith, p .within);
+                long = length-set part i y ∙ p .long;
+                front = take-set-le (i - 1) part i y (omega arith)
+                    ∙ sym (take-take (i - 1) i part (omega arith))
+                    ∙ ap (take (i - 1)) (p .front)
+                    ∙ take-take (i - 1) i l (omega arith);
+                wins = λ k le h.
+                    ⊎-elim (λ (e : k ≡ i - 1). rw (e, ← there) (f (rw (e, ← there) at h)))
+                    (λ (a : i ≤ k). p .wins k a h)
+                    (from k le);
+                moved = λ z h.
+                    rw (drop-cons l (i - 1) 0 (omega (arith, p .within)), suc-pred, behind, ← there)
+                    (⊎-elim (λ (e : y ≡ 0). free z e) (λ ne. taken z ne (rw there (h (i - 1) (omega arith) (rw there at (positive y ne))))) (eq? y 0));
+              }
+            where
+              y : ℕ
+              y = getD part (i - 1) 0
+
+              suc-pred : suc (i - 1) ≡ i
+              suc-pred = omega arith
+
+              from : (k : ℕ) → i - 1 ≤ k → (k ≡ i - 1) ⊎ (i ≤ k)
+              from k le = ⊎-elim (λ (a : i - 1 < k). inr (omega arith)) (λ (a : k ≤ i - 1). inl (omega arith)) (less? (i - 1) k)
+
+              behind : drop i (set part i y) ≡ y ∷ drop (suc i) part
+              behind =
+                  let a : i < length part = omega (arith, p .within, p .long) in
+                  ap (drop i) (set-split part i y a) ∙ drop-at (take i part) (y ∷ drop (suc i) part) i (length-take-le i part (omega arith))
+
+              -- the seat is free, and so are those behind it
+              free : (z : ℕ) → y ≡ 0 → pushPadded M B w z (y ∷ drop i l) ≡ (z ∷ (y ∷ drop (suc i) part), getD l (length l - 1) 0)
+              free z e =
+                  let none : (k : ℕ) → i ≤ k → 0 < getD l k 0 → ⊥ = λ k le h. omega (arith, o (i - 1) k (omega arith) h, there) in
+                  let m : pushPadded M B w 0 (drop i l) ≡ (0 ∷ drop (suc i) part, getD l (length l - 1) 0) =
+                  p .moved 0 (λ k le h. absurd (none k le h)) in
+                  let d : drop i l ≡ getD l i 0 ∷ drop (suc i) l = drop-cons l i 0 (p .within) in
+                  let q : getD l i 0 ≡ 0 = zero-of (getD l i 0) (none i (omega arith)) in
+                  push-free z y (drop i l) e ∙ rw (d, q, e) (ap (λ r. (z ∷ r .0, r .1)) (sym (push-free 0 0 (drop (suc i) l) refl) ∙ rw (d, q) at m))
+
+              taken : (z : ℕ) → (y ≡ 0 → ⊥) → before M B w z y ≡ true
+                  → pushPadded M B w z (y ∷ drop i l) ≡ (z ∷ (y ∷ drop (suc i) part), getD l (length l - 1) 0)
+              taken z ne h =
+                  push-taken z y (drop i l) ne h
+                  ∙ rw (p .moved y (λ k le r. rw there (o (i - 1) k (omega arith) r .1)))
 
 -- ---- a workshop's part of the seats
 module _ (M : Market) (seats : List ℕ) (w a b : ℕ) (e : a ≡ seatsBefore M w) (f : b ≡ a + seatsOf M w) where
@@ -124,6 +254,10 @@ module _ (M : Market) (seats : List ℕ) (w a b : ℕ) (e : a ≡ seatsBefore M 
   known-lent P g i l =
       let m : i < min (b - a) (length (drop a seats)) = rw length-take at l in
       rw part-lent (g i (omega arith))
+
+pub ordered-lent : (M : Market) (B : Results) (seats : List ℕ) (w a b : ℕ) → a ≡ seatsBefore M w → b ≡ a + seatsOf M w
+    → InOrder M B w (part M seats w) → InOrder M B w (take (b - a) (drop a seats))
+ordered-lent M B seats w a b e f o = rw (part-lent M seats w a b e f) o
 
 module _ (M : Market) (seats : List ℕ) (w a q : ℕ) (e : a ≡ seatsBefore M w) (f : q ≡ seatsOf M w) where
   -- who has the last seat

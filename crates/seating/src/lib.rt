@@ -1,14 +1,15 @@
 // A workshop's seats: who ranks before whom, who takes a seat and who loses it, and where the workshop's part of the seat slice lies.
 ghost use mathlib.Core.Path.{_≡_};
-ghost use mathlib.Core.Bool.{_&&_, _||_};
-ghost use Prim.Native.Nat.{ℕ, _+_, _*_, _≤_, _<_};
+ghost use mathlib.Core.Bool.{true, not, _&&_, _||_};
+ghost use Prim.Native.Nat.{ℕ, _+_, _-_, _≤_, _<_};
 ghost use lib.ListN.{length, getD};
 ghost use lib.Dec.{eqb, ltb};
 ghost use Rattle.base.specs.Words.{biased};
 ghost use Rattle.lgs.specs.Market.{Market, seatsOf, seatsBefore};
 ghost use Rattle.format.specs.Engine.{marketIn, resultsIn};
+ghost use Rattle.model.specs.Model.{before};
 ghost use Rattle.model.specs.Store.{pushPadded, part, putPart, lastOf};
-ghost use Rattle.model.specs.Ready.{Booked};
+ghost use Rattle.model.specs.Ready.{Booked, InOrder};
 ghost use Rattle.lookup.specs.Clean.{WorkshopAt, Clean};
 
 // Whoever stands in tier t with score a ranks before whoever stands in tier u with score b: by tier, and inside a tier by score.
@@ -16,6 +17,69 @@ fn ranks_before(t: u16, a: i16, u: u16, b: i16) -> bool
     ensures { λ r. ⌜ r ≡ (ltb t u || (eqb t u && ltb (biased b) (biased a))) ⌝ }
 {
     (t < u) | ((t == u) & records::above(a, b))
+}
+
+// The seat of y is not given to whoever stands in tier t with score a: it is taken (not 0), and she does not rank before y.
+fn stays(
+    case: &[u8],
+    book: &[u8],
+    index: &[u16],
+    table: &[u64],
+    students: usize,
+    workshops: usize,
+    w: usize,
+    y: u16,
+    t: u16,
+    a: i16,
+) -> bool
+    requires { ⌜ Clean (now case) (now book) (now index) (now table) students workshops ⌝ }
+    requires { ⌜ (0 < y → Booked (marketIn (now case)) (resultsIn (now book)) y w) ⌝ }
+    ensures { λ r. ⌜ ((x : ℕ) → t ≡ marketIn (now (case .entry)) .workshopTier w x → biased a ≡ resultsIn (now (book .entry)) .workshopScore w x
+        → r ≡ (ltb 0 y && not (before (marketIn (now (case .entry))) (resultsIn (now (book .entry))) w x y))) ⌝ }
+{
+    if y == 0 {
+        return false;
+    }
+    let other = lookup::standing_of(case, book, index, table, students, workshops, y as usize, w);
+    !ranks_before(t, a, other.tier, other.score)
+}
+
+// Student x, who stands in tier t with score a, takes her place, from the back: whoever is behind her moves on one seat, and the last holder has
+// none left. The last seat is free, or she ranks before its holder.
+fn settle(
+    part: &mut [u16],
+    case: &[u8],
+    book: &[u8],
+    index: &[u16],
+    table: &[u64],
+    students: usize,
+    workshops: usize,
+    w: usize,
+    x: u16,
+    t: u16,
+    a: i16,
+)
+    requires { ⌜ Clean (now case) (now book) (now index) (now table) students workshops ⌝ }
+    requires { ⌜ (t ≡ marketIn (now case) .workshopTier w x) × (biased a ≡ resultsIn (now book) .workshopScore w x) ⌝ }
+    requires { ⌜ ((i : ℕ) → i < length (now part) → 0 < getD (now part) i 0 → Booked (marketIn (now case)) (resultsIn (now book)) (getD (now part) i 0) w) ⌝ }
+    requires { ⌜ InOrder (marketIn (now case)) (resultsIn (now book)) w (now part) ⌝ }
+    requires { ⌜ 0 < length (now part) ⌝ }
+    requires { ⌜ (0 < getD (now part) (length (now part) - 1) 0
+        → before (marketIn (now case)) (resultsIn (now book)) w x (getD (now part) (length (now part) - 1) 0) ≡ true) ⌝ }
+    ensures { λ r. ⌜ pushPadded (marketIn (now (case .entry))) (resultsIn (now (book .entry))) w x (now (part .entry))
+        ≡ (now (part .exit), getD (now (part .entry)) (length (now (part .entry)) - 1) 0) ⌝ }
+{
+    let mut i = part.len() - 1;
+    while i > 0 {
+        let y = part[i - 1];
+        if stays(case, book, index, table, students, workshops, w, y, t, a) {
+            part[i] = x;
+            return;
+        }
+        part[i] = y;
+        i -= 1;
+    }
+    part[0] = x;
 }
 
 // Student x takes her place in workshop w's part of the seats, best first. Whoever has no seat left is handed back, or 0.
@@ -33,41 +97,35 @@ fn seat(
     requires { ⌜ Clean (now case) (now book) (now index) (now table) students workshops ⌝ }
     requires { ⌜ Booked (marketIn (now case)) (resultsIn (now book)) x w ⌝ }
     requires { ⌜ ((i : ℕ) → i < length (now part) → 0 < getD (now part) i 0 → Booked (marketIn (now case)) (resultsIn (now book)) (getD (now part) i 0) w) ⌝ }
+    requires { ⌜ InOrder (marketIn (now case)) (resultsIn (now book)) w (now part) ⌝ }
     ensures { λ r. ⌜ now (part .exit) ≡ pushPadded (marketIn (now (case .entry))) (resultsIn (now (book .entry))) w x (now (part .entry)) .0 ⌝ }
     ensures { λ r. ⌜ r ≡ pushPadded (marketIn (now (case .entry))) (resultsIn (now (book .entry))) w x (now (part .entry)) .1 ⌝ }
 {
-    let own = lookup::standing_of(case, book, index, table, students, workshops, x as usize, w);
-    let mut hand = x;
-    let mut tier = own.tier;
-    let mut score = own.score;
-    let mut i = 0;
-    while i < part.len() {
-        let y = part[i];
-        if y == 0 {
-            part[i] = hand;
-            return 0;
-        }
-        let other = lookup::standing_of(
-            case,
-            book,
-            index,
-            table,
-            students,
-            workshops,
-            y as usize,
-            w,
-        );
-        if ranks_before(tier, score, other.tier, other.score) {
-            part[i] = hand;
-            hand = y;
-            tier = other.tier;
-            score = other.score;
-            i += 1;
-        } else {
-            i += 1;
-        }
+    let n = part.len();
+    if n == 0 {
+        return x;
     }
-    hand
+    let own = lookup::standing_of(case, book, index, table, students, workshops, x as usize, w);
+    let t = own.tier;
+    let a = own.score;
+    let out = part[n - 1];
+    if stays(case, book, index, table, students, workshops, w, out, t, a) {
+        return x;
+    }
+    settle(
+        part,
+        case,
+        book,
+        index,
+        table,
+        students,
+        workshops,
+        w,
+        x,
+        t,
+        a,
+    );
+    out
 }
 
 // How many seats workshop w has: its quota.
@@ -107,6 +165,7 @@ pub fn seat_at(
     requires { ⌜ seatsBefore (marketIn (now case)) w + seatsOf (marketIn (now case)) w ≤ length (now seats) ⌝ }
     requires { ⌜ ((i : ℕ) → i < seatsOf (marketIn (now case)) w → 0 < getD (part (marketIn (now case)) (now seats) w) i 0
         → Booked (marketIn (now case)) (resultsIn (now book)) (getD (part (marketIn (now case)) (now seats) w) i 0) w) ⌝ }
+    requires { ⌜ InOrder (marketIn (now case)) (resultsIn (now book)) w (part (marketIn (now case)) (now seats) w) ⌝ }
     ensures { λ r. ⌜ now (seats .exit) ≡ putPart (marketIn (now (case .entry))) (now (seats .entry)) w
         (pushPadded (marketIn (now (case .entry))) (resultsIn (now (book .entry))) w x (part (marketIn (now (case .entry))) (now (seats .entry)) w) .0) ⌝ }
     ensures { λ r. ⌜ r ≡ pushPadded (marketIn (now (case .entry))) (resultsIn (now (book .entry))) w x (part (marketIn (now (case .entry))) (now (seats .entry)) w) .1 ⌝ }

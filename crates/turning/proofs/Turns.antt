@@ -70,7 +70,7 @@ told-reached lost k = ⊎-elim (λ (e : eqb lost 0 ≡ true). rw e) (λ (e : eqb
 -- what the turn needs has what its callees need
 module _ {M : Market} {B : Results} {visits seats : List ℕ} {k : StudentState} {r : Run} (a : Ready M B visits seats k r) where
   pub ready-seats : SeatedAll M B seats
-  ready-seats = record { long = a .long; seated = a .seated }
+  ready-seats = record { long = a .long; seated = a .seated; ordered = a .ordered }
 
   -- t is her state after she has been told
   module _ (t : StudentState) (e : t ≡ toldState (r .lost) k) where

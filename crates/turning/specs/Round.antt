@@ -11,7 +11,7 @@ use Rattle.format.specs.Engine.{marketIn}
 use Rattle.records.specs.Records.{pairPlace}
 use Rattle.model.specs.Store.{part, lastOf}
 use Rattle.model.specs.Turn.{RoundSoFar}
-use Rattle.model.specs.Ready.{Booked}
+use Rattle.model.specs.Ready.{Booked, InOrder}
 use Rattle.lookup.specs.Clean.{WorkshopAt, PairAt}
 use Rattle.turning.specs.declared.Round.{Round}
 
@@ -23,10 +23,11 @@ pub record SeatsAt (case seats : List ℕ) (n w : ℕ) : Type 0 where
   pub last : 0 < lastOf (marketIn case) seats w
       → (marketIn case .paired (lastOf (marketIn case) seats w) w ≡ true) × PairAt case (lastOf (marketIn case) seats w) w
 
--- all seats are there, and whoever has one has been interviewed
+-- all seats are there, whoever has one has been interviewed, and each workshop's are in order
 pub record SeatedAll (M : Market) (B : Results) (seats : List ℕ) : Type 0 where
   pub long : allSeats M ≤ length seats
   pub seated : (w : ℕ) → 1 ≤ w → w ≤ M .workshops → (i : ℕ) → i < seatsOf M w → 0 < getD (part M seats w) i 0 → Booked M B (getD (part M seats w) i 0) w
+  pub ordered : (w : ℕ) → 1 ≤ w → w ≤ M .workshops → InOrder M B w (part M seats w)
 
 -- the code's answer, where `count` interviews were held before
 abbrev pub roundOf : ℕ → RoundSoFar → Round

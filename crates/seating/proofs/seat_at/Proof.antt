@@ -7,7 +7,7 @@ use Rattle.lgs.specs.Market.{seatsOf}
 use Rattle.format.specs.Engine.{marketIn, resultsIn}
 use Rattle.model.specs.Ready.{Booked}
 use Rattle.model.specs.Store.{part, putPart}
-use Rattle.seating.proofs.Laws.{part-lent, known-lent}
+use Rattle.seating.proofs.Laws.{part-lent, known-lent, ordered-lent}
 use borrow.Author.Needs.{needs}
 use Rattle.seating.proofs.seat_at.Statement.{statement}
 use Rattle.seating.proofs.seat_at.Tie as tie
@@ -46,7 +46,10 @@ seat-requires c κs =
       start .pre .0,
       (
         start .pre .1 .0,
-        known-lent M (a .seats .now) (a .w) (s .result) _ (s .ensures) e (λ (y : ℕ). Booked M B y (a .w)) (start .pre .1 .1 .1),
+        (
+          known-lent M (a .seats .now) (a .w) (s .result) _ (s .ensures) e (λ (y : ℕ). Booked M B y (a .w)) (start .pre .1 .1 .1 .0),
+          ordered-lent M B (a .seats .now) (a .w) (s .result) _ (s .ensures) e (start .pre .1 .1 .1 .1),
+        ),
       ),
     )
 

@@ -37,8 +37,7 @@ seat-at-requires c κs =
         b,
         (
           long-to (marketIn (a .case .now)) (resultsIn (a .book .now)) (a .seats .now) s (a .c) (b .workshop .0) (b .workshop .1),
-          s
-              .seated (a .c) (b .workshop .0) (b .workshop .1),
+          (s .seated (a .c) (b .workshop .0) (b .workshop .1), s .ordered (a .c) (b .workshop .0) (b .workshop .1)),
         ),
       ),
     )
