@@ -179,6 +179,7 @@ module _ (case table : List ℕ) (T : Tabled case table) (s : ℕ) where
   pub stretch : 1 ≤ s → s ≤ 512 → Stretch case s (firstOf table s) (pairsUpTo table s 64)
   stretch f g =
       record {
+        small = omega arith;
         few = count-le (member (setOf table s)) 64;
         inside = λ k l. at k l .0;
         each = λ k l. (at k l .1, at k l .2);

@@ -74,6 +74,7 @@ pub record Made (case table : List ℕ) : Type 0 where
 
 -- The pairs of student s are the records from `first` on, as many as `many`.
 pub record Stretch (case : List ℕ) (s first many : ℕ) : Type 0 where
+  pub small : first < 65536
   pub few : many ≤ 64
   pub inside : (k : ℕ) → k < many → first + k < rowCount case
   pub each : (k : ℕ) → k < many → (rowAt case (first + k) .kind ≡ 3) × (rowAt case (first + k) .first ≡ s)

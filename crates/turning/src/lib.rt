@@ -344,7 +344,7 @@ fn opened(
 
 // How many of the student's pairs are of her tier `tier`; the record of each is written, in rising order. Every pair is written at the next free
 // place, and the place is kept where the pair is of the tier.
-fn list_tier(case: &[u8], table: &[u64], s: usize, tier: u16, pairs: &mut [usize]) -> usize
+fn list_tier(case: &[u8], table: &[u64], s: usize, tier: u16, pairs: &mut [u32]) -> usize
     requires { ⌜ Tabled (now case) (now table) ⌝ }
     requires { ⌜ (1 ≤ s) × (s ≤ 512) × (64 ≤ length (now pairs)) ⌝ }
     requires { ⌜ ((w : ℕ) → marketIn (now case) .paired s w ≡ true → PairAt (now case) s w) ⌝ }
@@ -358,7 +358,7 @@ fn list_tier(case: &[u8], table: &[u64], s: usize, tier: u16, pairs: &mut [usize
     let mut k = 0;
     while k < many {
         let pair = first + k;
-        pairs[n] = pair;
+        pairs[n] = pair as u32;
         n += records::one_if(lookup::student_tier(case, pair) == tier);
         k += 1;
     }
@@ -388,13 +388,13 @@ fn hold_round(
     ensures { λ r. ⌜ now (visits .exit) ≡ putAt (2 * held)
         (flat (roundTo (marketIn (now (case .entry))) (resultsIn (now (book .entry))) (now (seats .entry)) s tier set workshops .interviews)) (now (visits .entry)) ⌝ }
 {
-    let mut pairs = [0usize; 64];
+    let mut pairs = [0u32; 64];
     let n = list_tier(case, table, s, tier, &mut pairs);
     let mut count = held;
     let mut openings = set;
     let mut k = 0;
     while k < n {
-        let pair = pairs[k];
+        let pair = pairs[k] as usize;
         let w = records::second_at(case, pair) as usize;
         let from = tables::start_of(case, table, w);
         let many = seating::seats_of(case, students, w);

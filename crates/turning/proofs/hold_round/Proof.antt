@@ -157,6 +157,9 @@ mul-pair c = omega (arith, few c)
 array-read-pair : tie.Need-array-read-pair Inv-loop μ-loop
 array-read-pair c = few c
 
+cast-pair : tie.Need-cast-pair Inv-loop μ-loop
+cast-pair c = omega (arith, within c, entry c .good)
+
 second-at-requires : tie.Need-second-at-requires Inv-loop μ-loop
 second-at-requires c κs = omega (arith, within c)
 
@@ -338,6 +341,7 @@ hold-round-spec =
     loop-holds
     mul-pair
     array-read-pair
+    cast-pair
     second-at-requires
     cast-w
     start-of-requires

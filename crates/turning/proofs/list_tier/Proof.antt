@@ -33,6 +33,9 @@ add-pair c =
       c .before .before .before .before .before .before .good,
     )
 
+cast-pairs : tie.Need-cast-pairs Inv-loop μ-loop
+cast-pairs c = omega (arith, c .before .before .pairs-of .ensures .small, c .before .before .pairs-of .ensures .few)
+
 mul-pairs : tie.Need-mul-pairs Inv-loop μ-loop
 mul-pairs c = omega (arith, c .before .loop .inv .few, c .before .before .pairs-of .ensures .few)
 
@@ -90,6 +93,7 @@ list-tier-spec =
     pairs-of-requires
     loop-holds
     add-pair
+    cast-pairs
     mul-pairs
     slice-write-pairs
     student-tier-requires
