@@ -64,9 +64,10 @@ module _ (M : Market) (B : Results) (s set : ℕ) where
   unfolding favouriteIn
   with-outside o e = rw e
 
-  pub none-open : (o : Bool) → o ≡ false → set ≡ 0 → favouriteIn M B s o set ≡ 0
-  unfolding favouriteIn
-  none-open o e z = rw (e, z, members-empty)
+  pub none-open : (o : Bool) → set ≡ 0 → favouriteIn M B s o set ≡ 0
+  unfolding favouriteIn best pick
+  none-open true z = rw (z, members-empty)
+  none-open false z = rw (z, members-empty)
 
   pub some-open : (o : Bool) (w rest : ℕ)
       → o ≡ false

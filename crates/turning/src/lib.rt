@@ -1,13 +1,13 @@
 // One turn of the student in hand: she goes to her next tier and is interviewed there, or applies to the best of what is open to her.
 ghost use mathlib.Core.Path.{_≡_};
-ghost use mathlib.Core.Bool.{true, not, cond, _&&_, _||_};
+ghost use mathlib.Core.Bool.{true, false, not, cond, _&&_, _||_};
 ghost use mathlib.Core.List.{List, [], _∷_};
 ghost use Prim.Native.Nat.{ℕ, suc, _+_, _-_, _*_, _≤_, _<_};
 ghost use lib.ListN.{length};
 ghost use lib.Dec.{eqb, ltb};
 ghost use Rattle.base.specs.Lists.{count};
 ghost use Rattle.base.specs.Words.{biased};
-ghost use Rattle.base.specs.Bits.{member, members};
+ghost use Rattle.base.specs.Bits.{member, members, Low};
 ghost use Rattle.lgs.specs.Market.{Market, Results, seatsOf, seatsBefore};
 ghost use Rattle.lgs.specs.Rule.{unopened, best};
 ghost use Rattle.format.specs.Layout.{rowAt, rowCount, entryAt, entryCount};
@@ -217,6 +217,29 @@ fn best_of(
     best_from(case, book, index, table, students, workshops, s, start, set)
 }
 
+// What the others are compared with first: the outside option if it is open, and else the lowest of the open set.
+fn start_at(outside: bool, set: u64) -> usize
+    requires { ⌜ 0 < set ⌝ }
+    ensures { λ r. ⌜ (outside ≡ true → r ≡ 0) × (outside ≡ false → Low set r) ⌝ }
+{
+    if outside {
+        return 0;
+    }
+    bits::lowest(set)
+}
+
+// The others.
+fn rest_at(outside: bool, set: u64) -> u64
+    requires { ⌜ 0 < set ⌝ }
+    ensures { λ r. ⌜ (outside ≡ true → r ≡ set)
+        × (outside ≡ false → (w : ℕ) → Low set w → (x : ℕ) → member r x ≡ (member set x && not (eqb x w))) ⌝ }
+{
+    if outside {
+        return set;
+    }
+    bits::without_lowest(set)
+}
+
 // The best of the open set, and of the outside option if it is open; 0 also where nothing is open.
 fn favourite(
     case: &[u8],
@@ -234,15 +257,22 @@ fn favourite(
     requires { ⌜ ((w : ℕ) → member set w ≡ true → Booked (marketIn (now case)) (resultsIn (now book)) s w) ⌝ }
     ensures { λ r. ⌜ r ≡ favouriteIn (marketIn (now (case .entry))) (resultsIn (now (book .entry))) s outside set ⌝ }
 {
-    if outside {
-        return best_of(case, book, index, table, students, workshops, s, 0, set);
-    }
-    if bits::count(set) == 0 {
+    if set == 0 {
         return 0;
     }
-    let w = bits::lowest(set);
-    let rest = bits::without_bit(set, w);
-    best_of(case, book, index, table, students, workshops, s, w, rest)
+    let start = start_at(outside, set);
+    let rest = rest_at(outside, set);
+    best_of(
+        case,
+        book,
+        index,
+        table,
+        students,
+        workshops,
+        s,
+        start,
+        rest,
+    )
 }
 
 // ---- a round of interviews
