@@ -94,12 +94,11 @@ pub fn pair_at(case: &[u8], table: &[u64], s: usize, w: usize) -> usize
     requires { ⌜ marketIn (now case) .paired s w ≡ true ⌝ }
     ensures { λ r. ⌜ r ≡ pairPlace (now (case .entry)) s w ⌝ }
 {
-    let set = table[s - 1];
     let first = (table[511 + s] % 65536) as usize;
-    if set == table[1088] {
+    if has_all(table, s) {
         return first + (w - 1);
     }
-    first + members_below(set, w)
+    first + members_below(table[s - 1], w)
 }
 
 // The number of the pair's record, or how many records there are where it has none.

@@ -24,7 +24,8 @@ student-score-requires c κs =
 returns : tie.Need-returns
 returns c =
     let start = c .before .before .before .before .before .before in
-    let e = entry-known (start .pre .0) (start .pre .1 .0) (start .args .pair) (c .before .entry-of .result) (start .pre .1 .1) (c .before .entry-of .ensures) in
+    let e = entry-known (start .pre .0) (start .pre .1 .0) (start .args .pair) (c .before .entry-of .result) (start .pre .1 .1)
+    (c .before .entry-of .ensures) in
     rw (toZ-ofZ w16 (c .student-score .result) (record { sfits = c .student-score .ok })) (c .student-score .ensures ∙ sym (e .studentScore))
 
 pub student-score-by-spec : {M : Type 1} → statement M

@@ -50,7 +50,9 @@ returns-2 c =
     let B = resultsIn (a .book .now) in
     let first = c .before .before .start-at in
     let others = c .before .rest-at in
-    ⊎-elim (λ (e : a .outside ≡ true). rw (c .best-of .ensures, first .ensures .0 e, others .ensures .0 e) (sym (with-outside M B (a .s) (a .set) (a .outside) e)))
+    ⊎-elim
+    (λ (e : a .outside ≡ true).
+    rw (c .best-of .ensures, first .ensures .0 e, others .ensures .0 e) (sym (with-outside M B (a .s) (a .set) (a .outside) e)))
     (λ (e : a .outside ≡ false). c .best-of .ensures ∙ sym
     (some-open M B (a .s) (a .set) (a .outside) (first .result) (others .result) e (first .ensures .1 e)
     (others .ensures .1 e (first .result) (first .ensures .1 e))))
