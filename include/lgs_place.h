@@ -1,8 +1,9 @@
 /* The placing engine for programs in C, C++, Rust, Python and others: link target/staticlib/libengine.a (`rt staticlib engine`).
  *
  * lgs_place takes a case and a book of visit results (docs/FORMAT.md has both byte by byte) and answers with the next visit, with the
- * finished placement, or with a refusal. Whatever the bytes, the lengths and the contents at entry, it reads and writes only what is lent, and it
- * returns. include/example.c is a complete caller. Python and others that load a library at run time get one from the archive, which is position
+ * finished placement, or with a refusal. A mark of -1000 in the book, from either side and in any group, means that the two cannot be placed
+ * together. Whatever the bytes, the lengths and the contents at entry, lgs_place reads and writes only what is lent, and it returns.
+ * include/example.c is a complete caller. Python and others that load a library at run time get one from the archive, which is position
  * independent: gcc -shared -o liblgs.so -Wl,--whole-archive target/staticlib/libengine.a -Wl,--no-whole-archive
  *
  * The buffers, counted in entries. Shorter ones are refused (LGS_SHORT_BUFFER). The last column always suffices, whatever the case.
@@ -61,7 +62,7 @@ enum {
     LGS_BOOK_PAIR = 8,      /* a visit without its pair; place: the first such record of the book */
     LGS_BOOK_MARK = 9,      /* mark 0 or outside -1000 to 1000; place: as before */
     LGS_BOOK_REPEATED = 10, /* a pair that is in the book already; place: the first later record */
-    LGS_BOOK_TIE = 11       /* one person gave an equal mark earlier in the same group; place: the first later record */
+    LGS_BOOK_TIE = 11       /* one person gave an equal mark, other than -1000, earlier in the same group; place: the first later record */
 };
 
 /* kind LGS_PLACED: visits is the visit count.

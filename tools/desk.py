@@ -34,13 +34,15 @@ class Name:
 
 @dataclass
 class Number:
-    """A column with a whole number."""
+    """A column with a whole number. `word`, where there is one, stands for the lowest."""
     heading: str
     low: int
     high: int
     zero: bool = True
+    word: str = ""
 
 
+NEVER = -1000    # the mark which says that the two cannot be placed together
 STUDENTS, WORKSHOPS, PAIRS, VISITS = "students.csv", "workshops.csv", "pairs.csv", "visits.csv"
 
 # Each file's columns. Their order is that of the fields in the records of case.dat and book.dat (docs/FORMAT.md);
@@ -51,7 +53,8 @@ COLUMNS = {
     PAIRS: [Name("student", STUDENTS), Name("workshop", WORKSHOPS),
             Number("group from student", 1, 65), Number("group from workshop", 1, 513)],
     VISITS: [Name("student", STUDENTS), Name("workshop", WORKSHOPS),
-             Number("mark from student", -1000, 1000, zero=False), Number("mark from workshop", -1000, 1000, zero=False)],
+             Number("mark from student", NEVER, 1000, zero=False, word="never"),
+             Number("mark from workshop", NEVER, 1000, zero=False, word="never")],
 }
 MOST = {STUDENTS: 512, WORKSHOPS: 64}
 MOST_CASE_RECORDS = 4096    # case.dat has at most 65,536 bytes
@@ -199,15 +202,22 @@ def read_rows(file, problems):
 # ---------------------------------------------------------------- checking the rows
 
 
+def number_in(row, column):
+    """The number that the cell's text says, whether in range or not; None if it says none."""
+    digits = row.cells[column.heading].replace("\u2212", "-")    # a minus sign as some spreadsheets write it
+    if column.word and digits.lower() == column.word:
+        return column.low
+    return int(digits) if re.fullmatch(r"[+-]?[0-9]{1,9}", digits) else None
+
+
 def check_number(file, row, column, problems):
     """Turns the cell's text into its number."""
-    text = row.cells[column.heading]
-    digits = text.replace("\u2212", "-")    # a minus sign as some spreadsheets write it
-    number = int(digits) if re.fullmatch(r"[+-]?[0-9]{1,9}", digits) else None
+    text, number = row.cells[column.heading], number_in(row, column)
     if number is None or not column.low <= number <= column.high or (number == 0 and not column.zero):
-        never = "" if column.zero else ", and not 0"
+        but = "" if column.zero else ", and not 0"
+        word = f", or the word {column.word}" if column.word else ""
         what = f'"{text}" is there' if text else "the cell is empty"
-        problems.add(file, row.at, column.heading, f"{what}; it must be a whole number from {column.low} to {column.high}{never}.")
+        problems.add(file, row.at, column.heading, f"{what}; it must be a whole number from {column.low} to {column.high}{but}{word}.")
     row.cells[column.heading] = number
 
 
@@ -277,7 +287,9 @@ def is_held(row, problems):
     marks = [column for column in COLUMNS[VISITS] if isinstance(column, Number)]
     empty = [column for column in marks if not row.cells[column.heading]]
     if len(empty) == 1:
-        problems.add(VISITS, row.at, empty[0].heading, "this mark is missing and the other is there. Fill in both, or none while the visit is not held.")
+        never = " Beside never, this one may be never too." if NEVER in [number_in(row, column) for column in marks] else ""
+        problems.add(VISITS, row.at, empty[0].heading,
+                     f"this mark is missing and the other is there. Fill in both, or none while the visit is not held.{never}")
     return not empty
 
 
@@ -494,8 +506,10 @@ def tell_placement(year, answer):
 
 
 def tell_visits(year, answer):
-    """The visits that the rule called for, in that order."""
-    return ["", "The visits:"] + [f"  {year.student(s)} at {year.workshop(w)}" for s, w in answer.visits]
+    """The visits that the rule called for, in that order, and which of them ended in never."""
+    never = {couple_of(row) for row in year.visits if NEVER in row.cells.values()}
+    couples = [(year.student(s), year.workshop(w)) for s, w in answer.visits]
+    return ["", "The visits:"] + [f"  {s} at {w}" + (" (never)" if (s, w) in never else "") for s, w in couples]
 
 
 def disagreement(year, workshop):
@@ -540,14 +554,14 @@ def row_at(year, where, place):
 
 
 def equal_marks(year, row):
-    """The earlier visits in which the same person gave the same mark in the same group."""
+    """The earlier visits in which the same person gave the same mark, other than never, in the same group."""
     groups = {couple_of(pair): pair for pair in year.pairs}
     lines = []
     for who in ("student", "workshop"):
         group, mark = f"group from {who}", f"mark from {who}"
         for early in year.visits[:year.visits.index(row)]:
             same_group = groups[couple_of(early)].cells[group] == groups[couple_of(row)].cells[group]
-            if early.cells[who] == row.cells[who] and early.cells[mark] == row.cells[mark] and same_group:
+            if early.cells[who] == row.cells[who] and early.cells[mark] == row.cells[mark] != NEVER and same_group:
                 lines.append(f'  {row.cells[who]} gave {row.cells[mark]} in row {early.at} too, column "{mark}".')
     return lines
 

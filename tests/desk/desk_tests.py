@@ -1,4 +1,4 @@
-"""Tests of desk.py: example K to the byte, a year driven visit by visit, wrong inputs, a withdrawal.
+"""Tests of desk.py: example K to the byte, visits that end in never, years driven visit by visit, wrong inputs, a withdrawal.
 
     python3 desk_tests.py DESK.PY PLACE
 """
@@ -108,12 +108,17 @@ def add_visits(folder, visits):
     add(folder, "visits.csv", "".join(f"{s},{w},{a},{b}\r\n" for s, w, a, b in visits))
 
 
-def example_k(folder):
-    for done, (student, workshop, a, b) in enumerate(K_VISITS):
+def hold_visits(folder, name, visits):
+    """These visits are asked for, one after the other."""
+    for done, (student, workshop, a, b) in enumerate(visits):
         status, out, err = desk(folder)
-        check(f"K, {done} visits", status == 0 and out.startswith(f"Next visit: {student} goes to {workshop}.\n")
+        check(f"{name}, {done} visits", status == 0 and out.startswith(f"Next visit: {student} goes to {workshop}.\n")
               and out.endswith(f"Visits so far: {done}.\n"), out + err)
         add_visits(folder, [(student, workshop, a, b)])
+
+
+def example_k(folder):
+    hold_visits(folder, "K", K_VISITS)
     status, out, err = desk(folder)
     answers("K placed", (status, out, err), (0, K_PLACED, ""))
     check("K's case", read(folder, "case.dat") == bytes.fromhex(K_CASE), read(folder, "case.dat").hex(" "))
@@ -133,13 +138,95 @@ def guide(folder):
         write(folder, file, content)
         shows(text, desk(folder)[2])
         write(folder, file, before)
-    for shown in (NEW_SAYS, first, K_PLACED):
+    for shown in (NEW_SAYS, first, K_PLACED, NEVER_PLACED + NEVER_LIST):
         shows(text, shown)
+    for visits in (K_VISITS[1:], NEVER_VISITS):
+        check("the guide shows what is asked for", asked_after(visits) in text, asked_after(visits))
+
+
+def asked_after(visits):
+    """The guide's table of these visits, with what is said after each."""
+    said = [f"Next visit: {s} goes to {w}." for s, w, _, _ in visits[1:]] + ["The placement is finished."]
+    return "".join(f"\n| {s} | {w} | {a} | {b} | {then} |" for (s, w, a, b), then in zip(visits, said))
 
 
 def shows(text, printed):
     block = "\n".join("    " + line if line else "" for line in printed.rstrip("\n").split("\n"))
     check("the guide shows what is printed", f"\n\n{block}\n\n" in text, block)
+
+
+# ---------------------------------------------------------------- visits that end in never
+
+NEVER_VISITS = [("Anna Berg", "Dye house", 5, "never"), ("Anna Berg", "Weaving mill", 2, 4),
+                ("Ben Olsen", "Dye house", 3, 2), ("Carla Roth", "Dye house", 2, 5)]
+NEVER_BOOK = """
+01 00 01 00 05 00 18 fc
+01 00 02 00 02 00 04 00
+02 00 01 00 03 00 02 00
+03 00 01 00 02 00 05 00
+"""
+NEVER_PLACED = """The placement is finished.
+
+  Anna Berg   Weaving mill
+  Ben Olsen   no place
+  Carla Roth  Dye house
+
+Dye house, 1 of 1: Carla Roth
+Weaving mill, 1 of 1: Anna Berg
+
+Visits held for it: 4.
+"""
+NEVER_LIST = """
+The visits:
+  Anna Berg at Dye house (never)
+  Anna Berg at Weaving mill
+  Ben Olsen at Dye house
+  Carla Roth at Dye house
+"""
+
+# The two marks of a visit as they are written, their bytes in the book, and whether it ended in never.
+ENDS = [
+    ("never", "3", "18 fc 03 00", True),
+    ("5", "never", "05 00 18 fc", True),
+    (" Never ", "NEVER", "18 fc 18 fc", True),
+    ("-1000", "3", "18 fc 03 00", True),
+    ("5", "\u22121000", "05 00 18 fc", True),
+    ("-999", "3", "19 fc 03 00", False),
+    ("5", "-999", "05 00 19 fc", False),
+]
+
+
+def never(folder):
+    """The guide's example."""
+    hold_visits(folder, "never", NEVER_VISITS)
+    answers("never: placed", desk(folder, "--visits"), (0, NEVER_PLACED + NEVER_LIST, ""))
+    check("never: book", read(folder, "book.dat") == bytes.fromhex(NEVER_BOOK), read(folder, "book.dat").hex(" "))
+
+
+def ends_of_a_visit(folder):
+    """Anna's other workshop of that group is never too, so Ben's first visit tells whether she has the dye house."""
+    before = read(folder, "visits.csv")
+    for a, b, marks, ended in ENDS:
+        write(folder, "visits.csv", before)
+        add_visits(folder, [("Anna Berg", "Dye house", a, b), ("Anna Berg", "Weaving mill", "never", "never")])
+        status, out, err = desk(folder, "--visits")
+        workshop, said = ("Dye house", " (never)") if ended else ("Weaving mill", "")
+        check(f"marks {a} and {b}", status == 0 and out.startswith(f"Next visit: Ben Olsen goes to {workshop}.\n")
+              and out.endswith(f"\n  Anna Berg at Dye house{said}\n  Anna Berg at Weaving mill (never)\n"), out + err)
+        check(f"marks {a} and {b}: book", read(folder, "book.dat") == bytes.fromhex(f"01 00 01 00 {marks} 01 00 02 00 18 fc 18 fc"),
+              read(folder, "book.dat").hex(" "))
+
+
+def nevers_of_a_workshop(folder):
+    """The dye house takes none of the three, two of whom are in one group."""
+    add_visits(folder, [("Anna Berg", "Dye house", 5, "never"), ("Anna Berg", "Weaving mill", 2, 4),
+                        ("Ben Olsen", "Dye house", 3, "never"), ("Carla Roth", "Dye house", 2, "never")])
+    status, out, err = desk(folder)
+    check("nevers of a workshop", status == 0 and "\n\n  Anna Berg   Weaving mill\n  Ben Olsen   no place\n  Carla Roth  no place\n\n" in out
+          and "\nDye house, 0 of 1: nobody\n" in out and out.endswith("\nVisits held for it: 4.\n"), out + err)
+
+
+# ---------------------------------------------------------------- other ways to write the tables, other years
 
 
 def other_spellings(folder):
@@ -197,13 +284,16 @@ def withdrawal(folder):
     check("a workshop with quota 0", "  Anna Berg   Weaving mill\n  Carla Roth  no place\n" in out, out + err)
 
 
-# ---------------------------------------------------------------- a year of 100 students and 20 workshops
+# ---------------------------------------------------------------- years of 100 students and 20 workshops
+
+# Who says never, and how it is written.
+NEVER_MARKS = [("never", ""), ("", "never"), ("-1000", "Never")]
 
 
 class HiddenYear:
-    """Full orders that nobody sees but through groups and marks. `None` is no place."""
+    """Full orders that nobody sees but through groups and marks. `None` is no place. `share` is how many of the pairs are never."""
 
-    def __init__(self, seed, students=100, workshops=20):
+    def __init__(self, seed, share, students=100, workshops=20):
         draw = random.Random(seed)
         self.stage = {f'Berg, Åse "{n}"' if n % 7 == 0 else f"Student {n}": draw.randint(1, 3) for n in range(1, students + 1)}
         self.quota = {f"Werkstatt; {n}" if n % 5 == 0 else f"Workshop {n}": draw.randint(0, 7) for n in range(1, workshops + 1)}
@@ -215,6 +305,7 @@ class HiddenYear:
             self.rank(draw, w, [s for s in self.stage if (s, w) in self.couples], lambda s: self.stage[s], draw.randint(3, 4))
         self.couples = list(self.couples)
         draw.shuffle(self.couples)
+        self.never = {couple: draw.choice(NEVER_MARKS) for couple in self.couples if draw.random() < share}
 
     def rank(self, draw, who, options, group_of, line):
         """Groups for all options, and an order of them and None that keeps the groups."""
@@ -225,6 +316,10 @@ class HiddenYear:
         draw.shuffle(all_options)
         self.order[who] = sorted(all_options, key=lambda other: line if other is None else self.group[who, other])
 
+    def marks(self, s, w):
+        """What is written after their visit: each mark, or never instead."""
+        return [never or self.mark(*who) for never, who in zip(self.never.get((s, w), ("", "")), ((s, w), (w, s)))]
+
     def mark(self, who, other):
         """Higher is better; 0 is where None stands."""
         order = self.order[who]
@@ -233,32 +328,33 @@ class HiddenYear:
     def prefers(self, who, one, two):
         return self.order[who].index(one) < self.order[who].index(two)
 
+    def possible(self, s, w):
+        """Acceptable to both; a never pair is acceptable to neither."""
+        return (s, w) not in self.never and self.prefers(s, w, None) and self.prefers(w, s, None)
+
     def stable(self, place):
         """Nobody has too many, all are acceptable, and no two would rather have each other."""
         held = {w: [s for s in self.stage if place[s] == w] for w in self.quota}
         fits = all(len(held[w]) <= self.quota[w] for w in self.quota)
-        willing = all(place[s] is None or (self.prefers(s, place[s], None) and self.prefers(place[s], s, None)) for s in self.stage)
+        willing = all(place[s] is None or self.possible(s, place[s]) for s in self.stage)
         return fits and willing and not any(self.blocks(s, w, place, held) for s, w in self.couples)
 
     def blocks(self, s, w, place, held):
-        wants = self.prefers(s, w, place[s]) and self.prefers(w, s, None)
+        wants = self.prefers(s, w, place[s]) and self.possible(s, w)
         return wants and (len(held[w]) < self.quota[w] or any(self.prefers(w, s, other) for other in held[w]))
 
     def best_for_students(self):
-        """Students apply from the top of their orders, workshops keep the best."""
-        place, tried, hand = {s: None for s in self.stage}, {s: 0 for s in self.stage}, list(self.stage)
+        """Students apply where it is possible, from the top of their orders; workshops keep the best."""
+        place, left, hand = {s: None for s in self.stage}, {s: iter(self.order[s]) for s in self.stage}, list(self.stage)
         while hand:
             s = hand.pop()
-            w = self.order[s][tried[s]]
-            tried[s] += 1
+            w = place[s] = next(w for w in left[s] if w is None or self.possible(s, w))
             if w is None:
                 continue
-            place[s] = w
             held = sorted((t for t in self.stage if place[t] == w), key=self.order[w].index)
-            drop = [t for n, t in enumerate(held) if n >= self.quota[w] or not self.prefers(w, t, None)]
-            for t in drop:
+            for t in held[self.quota[w]:]:
                 place[t] = None
-            hand += drop
+                hand.append(t)
         return place
 
 
@@ -303,12 +399,11 @@ def drive(desk_once, folder, year):
         if couple is None or couple in held:
             return out + err, None
         held.add(couple)
-        s, w = couple
-        add(folder, "visits.csv", csv_text([(s, w, year.mark(s, w), year.mark(w, s))]))
+        add(folder, "visits.csv", csv_text([(*couple, *year.marks(*couple))]))
 
 
-def whole_year(seed):
-    year = HiddenYear(seed)
+def whole_year(seed, share):
+    year = HiddenYear(seed, share)
     with tempfile.TemporaryDirectory() as folder:
         write_year(folder, year)
         out, held = drive(InProcess().run, folder, year)
@@ -322,7 +417,13 @@ def whole_year(seed):
         check(f"year {seed}: the stages agree", "Note" not in out, out)
         status, again, err = desk(folder)
         check(f"year {seed} as a command", (status, again, err) == (0, out, ""), again + err)
-        print(f"year {seed}: {len(held)} of {len(year.couples)} pairs visited, {sum(w is not None for w in place.values())} of {len(place)} placed")
+        ended = [f"  {s} at {w} (never)" for s, w in held if (s, w) in year.never]
+        listed = [line for line in desk(folder, "--visits")[1].split("\n") if "never" in line]
+        check(f"year {seed} tells what ended in never", sorted(listed) == sorted(ended), str(listed))
+        met = {year.never[couple] for couple in held if couple in year.never}
+        check(f"year {seed} meets all kinds of never", len(met) == (len(NEVER_MARKS) if share else 0), str(met))
+        print(f"year {seed}: {len(held)} of {len(year.couples)} pairs visited, {len(ended)} ended in never, "
+              f"{sum(w is not None for w in place.values())} of {len(place)} placed")
 
 
 class InProcess:
@@ -350,6 +451,8 @@ class InProcess:
 END = "\nNothing was written. Correct this and run desk.py again.\n"
 VISIT_HEAD = "student,workshop,mark from student,mark from workshop\n"
 RANGE = "it must be a whole number from"
+MISSING = "this mark is missing and the other is there. Fill in both, or none while the visit is not held."
+MARK = f"{RANGE} -1000 to 1000, and not 0, or the word never."
 
 
 def students(rows):
@@ -411,12 +514,27 @@ WRONG = [
     ("a visit without its pair", "pairs.csv", pairs("Anna Berg,Dye house,1,1\n"),
      f"visits.csv, row 3: Anna Berg and Weaving mill have no row in pairs.csv.{END}"),
     ("one mark missing", "visits.csv", VISIT_HEAD + "Anna Berg,Dye house,5,\n",
-     'visits.csv, row 2, column "mark from workshop": this mark is missing and the other is there. '
-     f"Fill in both, or none while the visit is not held.{END}"),
+     f'visits.csv, row 2, column "mark from workshop": {MISSING}{END}'),
     ("a mark of 0", "visits.csv", VISIT_HEAD + "Anna Berg,Dye house,0,3\n",
-     f'visits.csv, row 2, column "mark from student": "0" is there; {RANGE} -1000 to 1000, and not 0.{END}'),
+     f'visits.csv, row 2, column "mark from student": "0" is there; {MARK}{END}'),
     ("a mark of 1001", "visits.csv", VISIT_HEAD + "Anna Berg,Dye house,5,1001\n",
-     f'visits.csv, row 2, column "mark from workshop": "1001" is there; {RANGE} -1000 to 1000, and not 0.{END}'),
+     f'visits.csv, row 2, column "mark from workshop": "1001" is there; {MARK}{END}'),
+    ("a mark of -1001", "visits.csv", VISIT_HEAD + "Anna Berg,Dye house,-1001,never\n",
+     f'visits.csv, row 2, column "mark from student": "-1001" is there; {MARK}{END}'),
+    ("never with a slip", "visits.csv", VISIT_HEAD + "Anna Berg,Dye house,nevr,3\nAnna Berg,Weaving mill,5,never!\n",
+     f'visits.csv, row 2, column "mark from student": "nevr" is there; {MARK}\n'
+     f'visits.csv, row 3, column "mark from workshop": "never!" is there; {MARK}{END}'),
+    ("never as a stage and a line group", "students.csv", students("Anna Berg,never,never\n"),
+     f'students.csv, row 2, column "stage": "never" is there; {RANGE} 1 to 512.\n'
+     f'students.csv, row 2, column "line group": "never" is there; {RANGE} 1 to 65.{END}'),
+    ("never as a quota", "workshops.csv", "workshop,quota,line group\nDye house,never,3\n",
+     f'workshops.csv, row 2, column "quota": "never" is there; {RANGE} 0 to 512.{END}'),
+    ("never as a group", "pairs.csv", pairs("Anna Berg,Dye house,never,1\nAnna Berg,Weaving mill,1,Never\n"),
+     f'pairs.csv, row 2, column "group from student": "never" is there; {RANGE} 1 to 65.\n'
+     f'pairs.csv, row 3, column "group from workshop": "Never" is there; {RANGE} 1 to 513.{END}'),
+    ("one mark missing beside never", "visits.csv", VISIT_HEAD + "Anna Berg,Dye house,Never,\nAnna Berg,Weaving mill,,-1000\n",
+     f'visits.csv, row 2, column "mark from workshop": {MISSING} Beside never, this one may be never too.\n'
+     f'visits.csv, row 3, column "mark from student": {MISSING} Beside never, this one may be never too.{END}'),
     ("a visit twice", "visits.csv", VISIT_HEAD + "Anna Berg,Dye house,5,3\n\nAnna Berg,Dye house,,\n",
      f"visits.csv, row 4: Anna Berg and Dye house stand in row 2 already.{END}"),
 ]
@@ -432,6 +550,16 @@ REFUSED = [
     ("a workshop's mark twice", VISIT_HEAD + "Carla Roth,Dye house,5,3\n\nBen Olsen,Dye house,1,3\n",
      "visits.csv, row 4: one person gave the same mark twice in one group. Ask which of the two is better, and change one mark.\n"
      '  Dye house gave 3 in row 2 too, column "mark from workshop".\n'),
+    ("an equal mark where the earlier visit ended in never", VISIT_HEAD + "Ben Olsen,Dye house,never,3\nCarla Roth,Dye house,5,3\n",
+     "visits.csv, row 3: one person gave the same mark twice in one group. Ask which of the two is better, and change one mark.\n"
+     '  Dye house gave 3 in row 2 too, column "mark from workshop".\n'),
+    ("an equal mark beside a second never",
+     VISIT_HEAD + "Ben Olsen,Dye house,never,4\nCarla Roth,Weaving mill,2,1\nBen Olsen,Weaving mill,never,1\n",
+     "visits.csv, row 4: one person gave the same mark twice in one group. Ask which of the two is better, and change one mark.\n"
+     '  Weaving mill gave 1 in row 3 too, column "mark from workshop".\n'),
+    ("-999 twice", VISIT_HEAD + "Anna Berg,Dye house,-999,3\nAnna Berg,Weaving mill,-999,4\n",
+     "visits.csv, row 3: one person gave the same mark twice in one group. Ask which of the two is better, and change one mark.\n"
+     '  Anna Berg gave -999 in row 2 too, column "mark from student".\n'),
 ]
 
 # What a program that is not `place` prints, and the message.
@@ -539,10 +667,12 @@ def other_folders(folder):
 
 def main():
     NEW_FILES.update(new_files())
-    for test in (example_k, guide, other_spellings, accents, planned_row, unused_visit, stages_note, withdrawal, too_many_pairs, refusals, other_programs, finding_place, other_folders):
+    for test in (example_k, guide, never, ends_of_a_visit, nevers_of_a_workshop, other_spellings, accents, planned_row, unused_visit, stages_note,
+                 withdrawal, too_many_pairs, refusals, other_programs, finding_place, other_folders):
         in_new_folder(test)
     wrong_inputs()
-    whole_year(1)
+    whole_year(1, share=0)
+    whole_year(2, share=0.3)
     print(f"{tally['passed']} passed, {tally['failed']} failed")
     return 1 if tally["failed"] else 0
 

@@ -16,7 +16,7 @@ use Rattle.base.proofs.Tests.{never, or-false, is-false}
 use Rattle.base.proofs.Below.{any-below}
 use Rattle.base.proofs.Search.{first-below, first-passes, scan-none}
 use Rattle.lgs.specs.Market.{allSeats}
-use Rattle.format.specs.Layout.{rows, rowCount, rowAt, ofKind, entries, entryCount, entryAt, isInterview, isPair, marketOf, resultsOf}
+use Rattle.format.specs.Layout.{rows, rowCount, rowAt, ofKind, entries, entryCount, entryAt, isInterview, isPair, marketOf, resultsOf, endsInNever}
 use Rattle.format.specs.Refusals.{Room, needed, badForm, badOrder, badCounts, badRange, badRoom, badPair, caseCauses, causes}
 use Rattle.format.specs.Causes.{whole}
 use Rattle.format.specs.Promises.{Valid}
@@ -93,13 +93,14 @@ module _ (case book : List ℕ) (c : CleanCase case (marketIn case .students) (m
 
   scores-at : (s w i : ℕ) → i < entryCount book → isInterview s w (entryAt book i) ≡ true
       → (resultsIn book .studentScore s w ≡ entryAt book i .studentScore) × (resultsIn book .workshopScore w s ≡ entryAt book i .workshopScore)
+      × (resultsIn book .never s w ≡ endsInNever (entryAt book i))
   unfolding resultsOf
   scores-at zero zero i l e = absurd (omega (arith, named-at 0 0 (entry-pair 0 0 i l e) .0 .0))
   scores-at zero (suc w) i l e = absurd (omega (arith, named-at 0 (suc w) (entry-pair 0 (suc w) i l e) .0 .0))
   scores-at (suc s) zero i l e = absurd (omega (arith, named-at (suc s) 0 (entry-pair (suc s) 0 i l e) .1 .0))
   scores-at (suc s) (suc w) i l e =
       let f = entry-found case book passed (suc s) (suc w) i l e in
-      (ap (λ r. r .studentScore) f, ap (λ r. r .workshopScore) f)
+      (ap (λ r. r .studentScore) f, ap (λ r. r .workshopScore) f, ap endsInNever f)
 
   -- the record that the index names is the interview's
   entry-named : (s w : ℕ) (o : Option ℕ) → number s w ≡ o → resultsIn book .met s w ≡ true → EntryAt book s w (fromOne o)
@@ -111,6 +112,7 @@ module _ (case book : List ℕ) (c : CleanCase case (marketIn case .students) (m
       record {
         from = omega arith;
         to = omega arith;
+        never = scores .2 ∙ ap (λ (k : ℕ). endsInNever (entryAt book k)) same;
         studentScore = scores .0 ∙ ap (λ (k : ℕ). entryAt book k .studentScore) same;
         workshopScore = scores .1 ∙ ap (λ (k : ℕ). entryAt book k .workshopScore) same;
       }

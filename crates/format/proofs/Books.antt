@@ -10,14 +10,15 @@ use Rattle.base.proofs.Below.{any-at, tabulate-in, in-tabulate}
 use Rattle.lgs.specs.Rule.{Interview, interviewed}
 use Rattle.lgs.specs.Promises.{Extends}
 use Rattle.lgs.proofs.Agreement.{AgreeOn}
-use Rattle.format.specs.Layout.{Entry, entryAt, entryCount, entries, noEntry, isInterview, resultsOf}
+use Rattle.format.specs.Layout.{Entry, entryAt, entryCount, entries, noEntry, isInterview, endsInNever, resultsOf}
 use Rattle.format.specs.Engine.{resultsIn}
 use Rattle.format.specs.Promises.{ExtendsBook, SameListed}
 use Rattle.format.proofs.Reading.{Passed, EntryAt, entry-record, interview-is, entry-found}
 
--- the results have the interview, with the scores of the others
+-- the results have the interview, with never and the scores of the others
 record Same (B B′ : List ℕ) (s w : ℕ) : Type 0 where
   met : resultsIn B′ .met s w ≡ true
+  never : resultsIn B′ .never s w ≡ resultsIn B .never s w
   student : resultsIn B′ .studentScore s w ≡ resultsIn B .studentScore s w
   workshop : resultsIn B′ .workshopScore w s ≡ resultsIn B .workshopScore w s
 
@@ -49,13 +50,14 @@ module _ (case book book′ : List ℕ) (t : Passed case book′) where
 
       same : resultsIn book′ .met s w ≡ true → find (isInterview s w) noEntry (entries book′) ≡ find (isInterview s w) noEntry (entries book)
           → Same book book′ s w
-      same m e = record { met = m; student = student w e; workshop = workshop s e }
+      same m e = record { met = m; never = ap endsInNever e; student = student w e; workshop = workshop s e }
 
   pub extends : ExtendsBook book book′ → Extends (resultsIn book) (resultsIn book′)
   unfolding resultsOf
   extends more =
       record {
         met = λ s w m. all s w m .met;
+        never = λ s w m. all s w m .never;
         student = λ s w m. all s w m .student;
         workshop = λ s w m. all s w m .workshop;
         studentOutside = λ s. refl;
@@ -73,6 +75,7 @@ module _ (case book book′ : List ℕ) (t : Passed case book′) where
   agree-listed vs answered same =
       record {
         met = λ s w v. all s w v .met;
+        never = λ s w v. all s w v .never;
         student = λ s w v. all s w v .student;
         workshop = λ s w v. all s w v .workshop;
         studentOutside = λ s. refl;

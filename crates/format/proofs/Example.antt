@@ -16,7 +16,7 @@ use Rattle.lgs.specs.Rule.{interviewed}
 use Rattle.format.specs.Layout.{Row, isPair, ofKind, rowAt, rows, marketOf}
 use Rattle.format.specs.Promises.{Example}
 use Rattle.format.specs.Encoding.{words, rowBytes, caseBytes}
-use Rattle.format.specs.Table.{caseOf, studentsK, workshopsK, pairsK, caseWith, K, bookK, visitsK, answerK, exact, TablesHold}
+use Rattle.format.specs.Table.{caseOf, studentsK, workshopsK, pairsK, caseWith, K, bookK, visitsK, answerK, neverK, answerNeverK, exact, TablesHold}
 use Rattle.format.proofs.Positions.{pair-says}
 use Rattle.format.proofs.Table.{computed}
 
@@ -112,6 +112,18 @@ example-k =
       listedUnplaced = (1, 2, refl, λ e. omega arith);
     }
 
+-- the same with two visits that ended in never, both listed
+pub example-never-k : Example K neverK exact
+unfolding answerNeverK visitsK interviewed any
+example-never-k =
+    record {
+      places = 1 ∷ 0 ∷ 0 ∷ [];
+      interviews = visitsK;
+      answer = computed .exactlyNever;
+      consistent = stages-agree (rows K) agrees-k;
+      listedUnplaced = (2, 2, refl, λ e. omega arith);
+    }
+
 -- ---- the tables of proved cases
 pub tables-hold : TablesHold
-tables-hold = record { computed = computed; agreeing = example-k }
+tables-hold = record { computed = computed; agreeing = example-k; agreeingNever = example-never-k }

@@ -13,6 +13,7 @@ use Rattle.lgs.specs.Profiles.{Profile, StudentOptimal, Fits}
 use Rattle.lgs.specs.Rule.{Interview, Step, going, stopped, finished, interviewed}
 use Rattle.lgs.specs.Promises.{Listed, Placed, NextInterview, interviewsIn}
 use Rattle.lgs.proofs.Minimal.{revealed-fits}
+use Rattle.lgs.proofs.Undetermined.{reveals-itself}
 use Rattle.lgs.proofs.Agreement.{unlisted-finished, unlisted-stopped}
 use Rattle.lgs.proofs.Optimal.{optimal-unique}
 use Rattle.lgs.proofs.OptimalExists.{optimal-exists as optimal-for}
@@ -57,13 +58,7 @@ fits-listed : (case book : List ℕ) (O : Profile) (vs : List Interview)
     → FitsBook case book O
     → Fits (marketIn case) (resultsIn book) (interviewed vs) O
 fits-listed case book O vs met F =
-    revealed-fits (marketIn case) (resultsIn book) O O (interviewed vs) met F
-    (record {
-      strict = F .strict;
-      tiers = F .tiers;
-      students = record { same = λ p x y ox oy mx my l. l };
-      workshops = record { same = λ p x y ox oy mx my l. l };
-    })
+    revealed-fits (marketIn case) (resultsIn book) O O (interviewed vs) met F (reveals-itself (marketIn case) O (interviewed vs) (F .strict) (F .tiers))
 
 -- the interviews that an answer lists are those of the run
 lists : (n : ℕ) (x : Step) → interviewsOf (outcomeOf n x) ≡ interviewsIn x

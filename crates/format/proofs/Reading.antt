@@ -3,7 +3,7 @@
 use Prim.Native.Nat.{ℕ, zero, suc, _≤_, _<_}
 use mathlib.Core.Path.{_≡_, refl, sym, ap, _∙_}
 use mathlib.Core.Logic.{⊎-elim}
-use mathlib.Core.Bool.{Bool, true, false, _||_}
+use mathlib.Core.Bool.{Bool, true, false, not, _||_}
 use mathlib.Core.List.{List}
 use native.Mathlib.Omega.{arith}
 use native.Mathlib.Nat.{eq-or-lt-of-le}
@@ -14,8 +14,8 @@ use Rattle.base.specs.Lists.{any, find}
 use Rattle.base.proofs.Tests.{never, and-left, and-right, and-make, or-false, is-false, less?}
 use Rattle.base.proofs.Below.{tabulate-at, any-before, any-fails, find-first, find-at}
 use Rattle.lgs.specs.Profiles.{outsideOr, flip}
-use Rattle.lgs.proofs.Valid.{WellFormed, DistinctScores, Distinct}
-use Rattle.format.specs.Layout.{Entry, rowAt, rowCount, rows, entryAt, entryCount, entries, noEntry, isInterview, marketOf, resultsOf, outsideScore}
+use Rattle.lgs.proofs.Valid.{WellFormed, Possible, DistinctScores, Distinct}
+use Rattle.format.specs.Layout.{Entry, rowAt, rowCount, rows, entryAt, entryCount, entries, noEntry, isInterview, marketOf, resultsOf, outsideScore, saysNever}
 use Rattle.format.specs.Refusals.{notWithin, badForm, badOrder, badCounts, badRange, badStudent, badWorkshop, badTiers, badScore, badPair}
 use Rattle.format.specs.Refusals.{badScores, badRepeat}
 use Rattle.format.specs.Refusals.{studentTies, workshopTies, badTie}
@@ -107,12 +107,13 @@ pub record EntryAt (book : List ℕ) (s w i : ℕ) : Type 0 where
   pub workshop : entryAt book i .workshop ≡ w
   pub found : find (isInterview s w) noEntry (entries book) ≡ entryAt book i
 
--- record i is that of p, who gave x this score
-record Gave (book : List ℕ) (self other value : Entry → ℕ) (given p x i : ℕ) : Type 0 where
+-- record i is that of p, who gave x this score; it is not -1000 unless the interview ended in never
+record Gave (book : List ℕ) (self other value : Entry → ℕ) (given : ℕ) (ended : Bool) (p x i : ℕ) : Type 0 where
   inside : i < entryCount book
   giver : self (entryAt book i) ≡ p
   receiver : other (entryAt book i) ≡ x
   score : given ≡ value (entryAt book i)
+  spared : ended ≡ false → saysNever (value (entryAt book i)) ≡ false
 
 pub interview-says : (s w : ℕ) (e : Entry) → isInterview s w e ≡ true → (e .student ≡ s) × (e .workshop ≡ w)
 interview-says s w e q = (eqb-true _ _ (and-left (eqb (e .student) s) _ q), eqb-true _ _ (and-right (eqb (e .student) s) _ q))
@@ -139,37 +140,39 @@ module _ (book : List ℕ) where
   none-before p i j l u e = any-fails (λ k. p (entryAt book k)) j (sym (any-before (entryAt book) p (entryCount book) j (omega arith)) ∙ e) i l
 
 -- one side: `self` gave the score `value` to `other`, and no later entry ties with an earlier one
-module _ (book : List ℕ) (self other value : Entry → ℕ) (option met : ℕ → ℕ → Bool) (tier score : ℕ → ℕ → ℕ)
+module _ (book : List ℕ) (self other value : Entry → ℕ) (option met ended : ℕ → ℕ → Bool) (tier score : ℕ → ℕ → ℕ)
     (untied : (i j : ℕ) → i < j → j < entryCount book → self (entryAt book i) ≡ self (entryAt book j)
     → tier (self (entryAt book j)) (other (entryAt book i)) ≡ tier (self (entryAt book j)) (other (entryAt book j))
-    → value (entryAt book i) ≡ value (entryAt book j) → ⊥)
+    → value (entryAt book i) ≡ value (entryAt book j) → saysNever (value (entryAt book j)) ≡ false → ⊥)
     (nonzero : (i : ℕ) → i < entryCount book → value (entryAt book i) ≡ outsideScore → ⊥)
     (of-outside : (p : ℕ) → score p 0 ≡ outsideScore)
-    (located : (p x : ℕ) → met p (suc x) ≡ true → (i : ℕ) × Gave book self other value (score p (suc x)) p (suc x) i) where
-  side-distinct : DistinctScores option met tier score
-  side-distinct = record { apart = λ p x y ox oy mx my g m. go p x y mx my g m }
+    (located : (p x : ℕ) → met p (suc x) ≡ true → (i : ℕ) × Gave book self other value (score p (suc x)) (ended p (suc x)) p (suc x) i) where
+  side-distinct : DistinctScores option met ended tier score
+  side-distinct = record { apart = λ p x y ox oy mx my ok g m. go p x y mx my ok g m }
     where
       zero-free : (p x : ℕ) → met p (suc x) ≡ true → score p (suc x) ≡ outsideScore → ⊥
       zero-free p x m e =
-          let f : (i : ℕ) × Gave book self other value (score p (suc x)) p (suc x) i = located p x m in
+          let f : (i : ℕ) × Gave book self other value (score p (suc x)) (ended p (suc x)) p (suc x) i = located p x m in
           nonzero (f .0) (f .1 .inside) (sym (f .1 .score) ∙ e)
 
-      clash : (p x y i j : ℕ) → i < j → Gave book self other value (score p x) p x i → Gave book self other value (score p y) p y j
-          → tier p x ≡ tier p y → score p x ≡ score p y → ⊥
+      clash : (p x y i j : ℕ) → i < j → Gave book self other value (score p x) (ended p x) p x i → Gave book self other value (score p y) (ended p y) p y j
+          → tier p x ≡ tier p y → score p x ≡ score p y → saysNever (value (entryAt book j)) ≡ false → ⊥
       clash p x y i j l f h g m =
           untied i j l (h .inside) (f .giver ∙ sym (h .giver)) (rw (h .giver, f .receiver, h .receiver) g) (sym (f .score) ∙ m ∙ h .score)
 
-      go : (p x y : ℕ) → outsideOr (met p) x ≡ true → outsideOr (met p) y ≡ true → tier p x ≡ tier p y → score p x ≡ score p y → x ≡ y
-      go p zero zero mx my g m = refl
-      go p zero (suc y) mx my g m = absurd (zero-free p y my (sym m ∙ of-outside p))
-      go p (suc x) zero mx my g m = absurd (zero-free p x mx (m ∙ of-outside p))
-      go p (suc x) (suc y) mx my g m =
-          let f : (i : ℕ) × Gave book self other value (score p (suc x)) p (suc x) i = located p x mx in
-          let h : (i : ℕ) × Gave book self other value (score p (suc y)) p (suc y) i = located p y my in
-          ⊎-elim (λ l. absurd (clash p (suc x) (suc y) (f .0) (h .0) l (f .1) (h .1) g m))
+      go : (p x y : ℕ) → outsideOr (met p) x ≡ true → outsideOr (met p) y ≡ true → Possible ended p x → tier p x ≡ tier p y → score p x ≡ score p y → x ≡ y
+      go p zero zero mx my ok g m = refl
+      go p zero (suc y) mx my ok g m = absurd (zero-free p y my (sym m ∙ of-outside p))
+      go p (suc x) zero mx my ok g m = absurd (zero-free p x mx (m ∙ of-outside p))
+      go p (suc x) (suc y) mx my ok g m =
+          let f : (i : ℕ) × Gave book self other value (score p (suc x)) (ended p (suc x)) p (suc x) i = located p x mx in
+          let h : (i : ℕ) × Gave book self other value (score p (suc y)) (ended p (suc y)) p (suc y) i = located p y my in
+          let n : saysNever (value (entryAt book (f .0))) ≡ false = f .1 .spared (ok (omega arith)) in
+          let same : value (entryAt book (h .0)) ≡ value (entryAt book (f .0)) = sym (h .1 .score) ∙ (sym m ∙ f .1 .score) in
+          ⊎-elim (λ l. absurd (clash p (suc x) (suc y) (f .0) (h .0) l (f .1) (h .1) g m (ap saysNever same ∙ n)))
           (λ le.
           ⊎-elim (λ q. sym (f .1 .receiver) ∙ ap (λ i. other (entryAt book i)) (sym q) ∙ h .1 .receiver)
-          (λ l. absurd (clash p (suc y) (suc x) (h .0) (f .0) l (h .1) (f .1) (sym g) (sym m)))
+          (λ l. absurd (clash p (suc y) (suc x) (h .0) (f .0) l (h .1) (f .1) (sym g) (sym m) n))
           (eq-or-lt-of-le le))
           (less? (f .0) (h .0))
 
@@ -200,19 +203,35 @@ module _ (case book : List ℕ) (t : Passed case book) where
   results-distinct =
       record {
         students = side-distinct book (λ e. e .student) (λ e. e .workshop) (λ e. e .studentScore)
-            (marketIn case .paired) (resultsIn book .met) (marketIn case .studentTier) (resultsIn book .studentScore)
-            (λ i j l u s g v. never (and-make (eq-eqb _ _ s) (and-make (eq-eqb _ _ g) (eq-eqb _ _ v))) (untied i j l u .0))
+            (marketIn case .paired) (resultsIn book .met) (resultsIn book .never) (marketIn case .studentTier) (resultsIn book .studentScore)
+            (λ i j l u s g v n. never (and-make (eq-eqb _ _ s) (and-make (eq-eqb _ _ g) (and-make (eq-eqb _ _ v) (ap not n)))) (untied i j l u .0))
             (λ i l. nonzero i l .0)
             (λ p. refl)
-            (λ p x m. let k : (i : ℕ) × EntryAt book p (suc x) i = entry-record book p (suc x) m in
-            (k .0, record { inside = k .1 .inside; giver = k .1 .student; receiver = k .1 .workshop; score = ap (λ e. e .studentScore) (k .1 .found) }));
+            (λ p x m. let k : (i : ℕ) × EntryAt book p (suc x) i = entry-record book p (suc x) m in (
+              k .0,
+              record {
+                inside = k .1 .inside;
+                giver = k .1 .student;
+                receiver = k .1 .workshop;
+                score = ap (λ e. e .studentScore) (k .1 .found);
+                spared = λ n. or-false (saysNever (entryAt book (k .0) .studentScore)) _ (rw (k .1 .found) at n) .0;
+              },
+            ));
         workshops = side-distinct book (λ e. e .workshop) (λ e. e .student) (λ e. e .workshopScore)
-            (flip (marketIn case .paired)) (flip (resultsIn book .met)) (marketIn case .workshopTier) (resultsIn book .workshopScore)
-            (λ i j l u s g v. never (and-make (eq-eqb _ _ s) (and-make (eq-eqb _ _ g) (eq-eqb _ _ v))) (untied i j l u .1))
+            (flip (marketIn case .paired)) (flip (resultsIn book .met)) (flip (resultsIn book .never)) (marketIn case .workshopTier) (resultsIn book .workshopScore)
+            (λ i j l u s g v n. never (and-make (eq-eqb _ _ s) (and-make (eq-eqb _ _ g) (and-make (eq-eqb _ _ v) (ap not n)))) (untied i j l u .1))
             (λ i l. nonzero i l .1)
             (λ p. refl)
-            (λ p x m. let k : (i : ℕ) × EntryAt book (suc x) p i = entry-record book (suc x) p m in
-            (k .0, record { inside = k .1 .inside; giver = k .1 .workshop; receiver = k .1 .student; score = ap (λ e. e .workshopScore) (k .1 .found) }));
+            (λ p x m. let k : (i : ℕ) × EntryAt book (suc x) p i = entry-record book (suc x) p m in (
+              k .0,
+              record {
+                inside = k .1 .inside;
+                giver = k .1 .workshop;
+                receiver = k .1 .student;
+                score = ap (λ e. e .workshopScore) (k .1 .found);
+                spared = λ n. or-false (saysNever (entryAt book (k .0) .studentScore)) _ (rw (k .1 .found) at n) .1;
+              },
+            ));
       }
 
   -- no later entry is of the same pair

@@ -18,14 +18,15 @@ use Rattle.format.specs.Engine.{engine, outcomeOf, ruleOutcome, outcomeU
 use Rattle.format.specs.Printed.{digitsWithin, decimal, numbers, placeLines, visitLines, visitsText, printed, unread}
 use Rattle.format.specs.Table.{Computed, caseOf, bookOf, studentsK, workshopsK, pairsK, caseWith, bookWith, K, bookK, visitsK, answerK, table}
 use Rattle.format.specs.Table.{ownTable, ample, exact, shortRooms, people, countsRefused, buffersAfter, buffersExpected, texts, textsExpected}
-use Rattle.format.specs.Table.{given, expected}
+use Rattle.format.specs.Table.{neverTable, neverK, answerNeverK, given, expected}
 
 pub computed : Computed
-unfolding given expected table ownTable ample exact shortRooms people countsRefused buffersAfter buffersExpected flat placesAfter visitsAfter values
+unfolding given expected table ownTable neverTable neverK answerNeverK ample exact shortRooms people countsRefused buffersAfter buffersExpected flat placesAfter visitsAfter values
     texts textsExpected unread words rowBytes caseBytes flatMap caseOf bookOf studentsK workshopsK pairsK caseWith bookWith K bookK visitsK answerK
     engine outcomeUnless ruleOutcome outcomeOf refusal causes caseCauses roomCauses bookCauses badTie workshopTies studentTies badRepeat badScores
     badPair badRoom needed allSeats seatsOf badRange badTiers badWorkshop badStudent badCounts badOrder namesNobody notRising badNumber kindFalls
     badForm resultsOf entries entryAt unnamed marketOf rows rowAt signed word firstBad update pick find tally any keep tabulate upto total count
     lazyGaleShapley fuel run step turn apply settle close interviewAll best lowestOf below holders due choices open? unopened declined outscored start
     byStage insert interviewed printed visitsText visitLines placeLines numbers decimal digitsWithin
-computed = record { answers = refl; own = refl; counts = refl; exactly = refl; shortly = refl; buffers = refl; text = refl }
+computed =
+    record { answers = refl; own = refl; nevers = refl; counts = refl; exactly = refl; exactlyNever = refl; shortly = refl; buffers = refl; text = refl }

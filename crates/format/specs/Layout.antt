@@ -1,6 +1,6 @@
 -- The case and the book as lists of bytes, numbers below 256, and the market and the results that they hold (document 01, "The case and the book").
 use Prim.Native.Nat.{ℕ, zero, suc, _+_, _*_, _/_}
-use mathlib.Core.Bool.{Bool, cond, _&&_}
+use mathlib.Core.Bool.{Bool, cond, _&&_, _||_}
 use mathlib.Core.List.{List, [], _∷_}
 use lib.ListN.{length, getD}
 use lib.Dec.{eqb}
@@ -130,11 +130,20 @@ noEntry = record { student = 0; workshop = 0; studentScore = 0; workshopScore = 
 abbrev pub isInterview : ℕ → ℕ → Entry → Bool
 isInterview s w e = eqb (e .student) s && eqb (e .workshop) w
 
+-- "a mark of -1000" (document 02, Paper 1; 31768, as scores are kept)
+abbrev pub saysNever : ℕ → Bool
+saysNever x = eqb x 31768
+
+-- such a mark, "from either side and in any group, now means that the two cannot be placed together"
+abbrev pub endsInNever : Entry → Bool
+endsInNever e = saysNever (e .studentScore) || saysNever (e .workshopScore)
+
 -- The results: each interview by its first record.
 unfoldable pub resultsOf : List Entry → Results
 resultsOf es =
     record {
       met = λ s w. any (isInterview s w) es;
+      never = λ s w. endsInNever (find (isInterview s w) noEntry es);
       studentScore = λ s. outsideElse outsideScore (λ w. find (isInterview s w) noEntry es .studentScore);
       workshopScore = λ w. outsideElse outsideScore (λ s. find (isInterview s w) noEntry es .workshopScore);
     }

@@ -8,7 +8,7 @@ use lib.Dec.{ltb, eqb}
 use Rattle.base.specs.Lists.{any, tally}
 use Rattle.lgs.specs.Market.{Market, allSeats}
 use Rattle.format.specs.Layout.{Row, Entry, noRow, noEntry, rows, entries, rowCount, entryCount, ofKind, unnamed, isStudent, isWorkshop}
-use Rattle.format.specs.Layout.{isPair, isInterview, marketOf, outsideScore}
+use Rattle.format.specs.Layout.{isPair, isInterview, marketOf, outsideScore, saysNever}
 use Rattle.format.specs.Causes.{Cause, whole, each, firstCause}
 
 -- the number is not from low to high
@@ -18,6 +18,10 @@ notWithin low high x = ltb x low || ltb high x
 -- the score is 0 or outside -1000 to 1000 (31768 to 33768, as scores are kept)
 abbrev pub badScore : ℕ → Bool
 badScore x = eqb x outsideScore || notWithin 31768 33768 x
+
+-- "an equal mark"; -1000 ties with nothing: "several such marks in one group are fine, so number 11 passes over them" (document 02, Paper 1)
+abbrev pub tiedScores : ℕ → ℕ → Bool
+tiedScores x y = eqb x y && not (saysNever y)
 
 -- the lengths of the lent buffers, in entries
 pub record Room : Type 0 where
@@ -120,14 +124,14 @@ module _ (rs : List Row) where
     studentTies e f =
         let tier = marketOf rs .studentTier (e .student) in
         eqb (f .student) (e .student)
-        && (eqb (tier (f .workshop)) (tier (e .workshop)) && eqb (f .studentScore) (e .studentScore))
+        && (eqb (tier (f .workshop)) (tier (e .workshop)) && tiedScores (f .studentScore) (e .studentScore))
 
     -- 11: or the workshop of both records
     unfoldable pub workshopTies : Entry → Entry → Bool
     workshopTies e f =
         let tier = marketOf rs .workshopTier (e .workshop) in
         eqb (f .workshop) (e .workshop)
-        && (eqb (tier (f .student)) (tier (e .student)) && eqb (f .workshopScore) (e .workshopScore))
+        && (eqb (tier (f .student)) (tier (e .student)) && tiedScores (f .workshopScore) (e .workshopScore))
 
     unfoldable pub badTie : ℕ → Bool
     badTie i = any (λ f. studentTies (entry i) f || workshopTies (entry i) f) (take i es)

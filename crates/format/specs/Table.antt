@@ -1,4 +1,4 @@
--- The table of proved cases (document 01), and a list of our own for the slips that it does not catch. proofs/Table.antt has the one proof that
+-- The table of proved cases (document 01), and lists of our own for the slips that it does not catch. proofs/Table.antt has the one proof that
 -- the definitions give them.
 use Prim.Native.Nat.{ℕ, _-_}
 use mathlib.Core.Path.{_≡_}
@@ -197,6 +197,72 @@ ownTable =
     ∷ sample K (bookOf (f4 1 1 0 3 ∷ f4 1 9 2 2 ∷ [])) (refused 8 1)
     ∷ []
 
+-- ---- our own of visits that ended in never
+
+-- the mark -1000
+abbrev pub out : ℕ
+out = neg 1000
+
+-- student 1 prefers workshop 1 to none, and it her, by group; their marks
+abbrev pub wanted : ℕ → ℕ → Outcome → Sample
+wanted m w answer = sample (oneEach (f3 1 1 2) (f3 1 1 2) (f4 1 1 1 1 ∷ [])) (bookOf (f4 1 1 m w ∷ [])) answer
+
+-- the same, but that she is in the workshop's line group, or it in hers
+abbrev pub doubted : ℕ → ℕ → Outcome → Sample
+doubted m w answer = sample (oneEach (f3 1 1 2) (f3 1 1 1) (f4 1 1 1 1 ∷ [])) (bookOf (f4 1 1 m w ∷ [])) answer
+
+abbrev pub doubtful : ℕ → ℕ → Outcome → Sample
+doubtful m w answer = sample (oneEach (f3 1 1 1) (f3 1 1 2) (f4 1 1 1 1 ∷ [])) (bookOf (f4 1 1 m w ∷ [])) answer
+
+-- student 1, with this line group, has three workshops in group 1; her marks
+abbrev pub threeMarks : ℕ → ℕ → ℕ → ℕ → Outcome → Sample
+threeMarks line a b c answer =
+    sample (caseOf (f3 1 1 line ∷ []) (f3 1 1 2 ∷ f3 2 1 2 ∷ f3 3 1 2 ∷ []) (f4 1 1 1 1 ∷ f4 1 2 1 1 ∷ f4 1 3 1 1 ∷ []))
+    (bookOf (f4 1 1 a 1 ∷ f4 1 2 b 1 ∷ f4 1 3 c 1 ∷ []))
+    answer
+
+-- K's book with two of workshop 2 in one group
+unfoldable pub neverK : List ℕ
+neverK = bookWith 5 4 out 4 out
+
+unfoldable pub answerNeverK : Outcome
+answerNeverK = placed (1 ∷ 0 ∷ 0 ∷ []) visitsK
+
+unfoldable pub neverTable : List Sample
+neverTable =
+    -- from the student's side, from the workshop's, from both; -999 is a mark like others
+    wanted out 1 (placed (0 ∷ []) ((1, 1) ∷ []))
+    ∷ wanted 1 out (placed (0 ∷ []) ((1, 1) ∷ []))
+    ∷ wanted out out (placed (0 ∷ []) ((1, 1) ∷ []))
+    ∷ wanted (neg 999) (neg 999) (placed (1 ∷ []) ((1, 1) ∷ []))
+    -- from the one whose line group it is not, though the other's mark is above 0 in the line group
+    ∷ doubted out 1 (placed (0 ∷ []) ((1, 1) ∷ []))
+    ∷ doubtful 1 out (placed (0 ∷ []) ((1, 1) ∷ []))
+    -- K with (1,1) never, from either side: student 1 has workshop 2, and workshop 1 is free for student 2
+    ∷ sample K (bookWith out 4 1 4 6) (next 2 1 ((1, 1) ∷ (1, 2) ∷ []))
+    ∷ sample K (bookOf (f4 1 1 5 out ∷ f4 1 2 2 4 ∷ f4 2 2 (neg 1) 1 ∷ f4 3 2 4 6 ∷ [])) (next 2 1 ((1, 1) ∷ (1, 2) ∷ []))
+    -- two of one workshop in one group, two of one student in one group: not refused
+    ∷ sample K neverK answerNeverK
+    ∷ threeMarks 2 out 7 out (placed (2 ∷ []) ((1, 1) ∷ (1, 2) ∷ (1, 3) ∷ []))
+    ∷ threeMarks 1 out 7 out (placed (2 ∷ []) ((1, 1) ∷ (1, 2) ∷ (1, 3) ∷ []))
+    -- equal ordinary marks beside one: refused; so is 1000 twice
+    ∷ threeMarks 2 out 7 7 (refused 11 2)
+    ∷ threeMarks 2 1000 7 1000 (refused 11 2)
+    -- the other mark of such a record is tested, in the earlier record and in the later one
+    ∷ sample K (bookOf (f4 1 1 5 3 ∷ f4 1 2 2 4 ∷ f4 2 2 out 6 ∷ f4 3 2 4 6 ∷ [])) (refused 11 3)
+    ∷ sample K (bookOf (f4 1 1 5 out ∷ f4 1 2 5 4 ∷ [])) (refused 11 1)
+    ∷ sample K (bookOf (f4 3 2 4 6 ∷ f4 2 2 out 6 ∷ [])) (refused 11 1)
+    ∷ sample K (bookOf (f4 1 2 5 4 ∷ f4 1 1 5 out ∷ [])) (refused 11 1)
+    -- nothing open after a never: on to the next group
+    ∷ sample (caseOf (f3 1 1 3 ∷ []) (f3 1 1 2 ∷ f3 2 1 2 ∷ []) (f4 1 1 1 1 ∷ f4 1 2 2 1 ∷ [])) (bookOf (f4 1 1 out 1 ∷ f4 1 2 1 1 ∷ []))
+    (placed (2 ∷ []) ((1, 1) ∷ (1, 2) ∷ []))
+    -- a never takes no seat: the workshop is deleted for nobody
+    ∷ sample (caseOf (f3 1 1 2 ∷ f3 2 2 2 ∷ []) (f3 1 1 3 ∷ []) (f4 1 1 1 1 ∷ f4 2 1 1 2 ∷ [])) (bookOf (f4 1 1 1 out ∷ f4 2 1 1 1 ∷ []))
+    (placed (0 ∷ 1 ∷ []) ((1, 1) ∷ (2, 1) ∷ []))
+    -- a visit that ended in never does not end the group: the next of it is called for
+    ∷ sample K (bookOf (f4 1 1 out 3 ∷ [])) (next 1 2 ((1, 1) ∷ []))
+    ∷ []
+
 -- room enough for each of these
 unfoldable pub ample : Room
 ample = record { places = 3; visits = 12; seats = 512; index = 6; states = 3 }
@@ -286,13 +352,16 @@ expected ls = map (λ (l : Sample). l .answer) ls
 pub record Computed : Type 0 where
   pub answers : given table ≡ expected table
   pub own : given ownTable ≡ expected ownTable
+  pub nevers : given neverTable ≡ expected neverTable
   pub counts : countsRefused ≡ true ∷ true ∷ false ∷ true ∷ true ∷ []
   pub exactly : engine K bookK exact ≡ answerK
+  pub exactlyNever : engine K neverK exact ≡ answerNeverK
   pub shortly : map (λ (room : Room). engine K (0 ∷ []) room) shortRooms ≡ map (λ (room : Room). refused 6 0) shortRooms
   pub buffers : buffersAfter ≡ buffersExpected
   pub text : texts ≡ textsExpected
 
--- and K is a run with agreeing stages
+-- and K is a run with agreeing stages, also where two of the listed visits ended in never
 pub record TablesHold : Type 0 where
   pub computed : Computed
   pub agreeing : Example K bookK exact
+  pub agreeingNever : Example K neverK exact

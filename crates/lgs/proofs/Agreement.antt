@@ -82,6 +82,7 @@ module _ (M : Market) (B : Results) where
 -- B′ has the interviews Vs, with the results that B has of them
 pub record AgreeOn (Vs : ℕ → ℕ → Bool) (B B′ : Results) : Type 0 where
   pub met : (s w : ℕ) → Vs s w ≡ true → B′ .met s w ≡ true
+  pub never : (s w : ℕ) → Vs s w ≡ true → B′ .never s w ≡ B .never s w
   pub student : (s w : ℕ) → Vs s w ≡ true → B′ .studentScore s w ≡ B .studentScore s w
   pub workshop : (s w : ℕ) → Vs s w ≡ true → B′ .workshopScore w s ≡ B .workshopScore w s
   pub studentOutside : (s : ℕ) → B′ .studentScore s 0 ≡ B .studentScore s 0
@@ -144,7 +145,7 @@ module _ (M : Market) (B B′ : Results) (Vs : ℕ → ℕ → Bool) (A : AgreeO
   open-same : (σ : State) → Inside σ → (s w : ℕ) → open? M B′ σ s w ≡ open? M B σ s w
   unfolding open? unopened declined
   open-same σ i s w =
-      ⊎-elim (λ (v : interviewed (σ .interviews) s w ≡ true). rw (A .workshop s w (i s w v), A .workshopOutside w))
+      ⊎-elim (λ (v : interviewed (σ .interviews) s w ≡ true). rw (A .never s w (i s w v), A .workshop s w (i s w v), A .workshopOutside w))
       (λ (v : interviewed (σ .interviews) s w ≡ false). rw v)
       (bool-cases (interviewed (σ .interviews) s w))
 

@@ -66,7 +66,7 @@ module _ (M : Market) (B : Results) (O : Profile) (Vs : ℕ → ℕ → Bool) (E
 
     -- the lowest of those that the workshop now holds
     pub lowest-joined : Lowest M B O Vs E σ joinedState c (λ y v. I .seen y c v) (lowestOf M B joinedState c (holders M B joinedState c))
-    lowest-joined = lowest M B O Vs E σ joinedState c (λ y v. I .seen y c v) (λ h q. choosers₁ h q .real pos .0) (omega (arith, one-more))
+    lowest-joined = lowest M B O Vs E σ joinedState c (λ y v. I .seen y c v) (λ h q. choosers₁ h q .real pos) (omega (arith, one-more))
 
     chosen₁ : (t : ℕ) → 0 < joined t → Chosen M B O Vs σ t (joined t)
     chosen₁ t l =

@@ -15,7 +15,8 @@ use Rattle.lgs.specs.Market.{Market, Results, studentOutside}
 use Rattle.lgs.specs.Profiles.{Profile}
 use Rattle.lgs.specs.Rule.{State, open?, choices, best}
 use Rattle.lgs.proofs.Sides.{Known}
-use Rattle.lgs.proofs.Invariant.{Setting, Open, open-parts, Seen, Chosen, Inv, student-by-score, knows}
+use Rattle.lgs.proofs.Valid.{Possible}
+use Rattle.lgs.proofs.Invariant.{Setting, Open, open-parts, unopened-possible, Seen, Chosen, Inv, student-by-score, knows}
 
 module _ (M : Market) (B : Results) (O : Profile) (Vs : ℕ → ℕ → Bool) (E : Setting M B O Vs) (σ : State) (I : Inv M B O Vs σ) (s : ℕ) where
   record Choice (y : ℕ) : Type 0 where
@@ -49,14 +50,17 @@ module _ (M : Market) (B : Results) (O : Profile) (Vs : ℕ → ℕ → Bool) (E
   unfolding choices
   none-in e = in-front (eqb (studentOutside M s) (σ .reached s)) 0 0 _ e refl
 
+  possible : (y : ℕ) → Choice y → Possible (B .never) s y
+  possible y k l = unopened-possible M B s y (open-parts M B σ s y (k .real l) .welcome)
+
   module _ (x : ℕ) (xs : List ℕ) (some : choices M B σ s ≡ x ∷ xs) where
     best-picked : Picked (λ y z. O .studentRank s y ≤ O .studentRank s z) Choice x xs (best M B s x xs)
     unfolding best
     best-picked =
         picked (λ y z. ltb (B .studentScore s z) (B .studentScore s y)) (λ y z. O .studentRank s y ≤ O .studentRank s z) Choice
         (λ y. omega arith) (λ a b c l r. omega arith)
-        (λ a b ka kb e. student-by-score M B O Vs E s b a (kb .known) (ka .known) (kb .tier ∙ sym (ka .tier)) (omega (arith, ltb-true)))
-        (λ a b ka kb e. student-by-score M B O Vs E s a b (ka .known) (kb .known) (ka .tier ∙ sym (kb .tier)) (ltb-false _ _ e))
+        (λ a b ka kb e. student-by-score M B O Vs E s b a (kb .known) (ka .known) (possible b kb) (kb .tier ∙ sym (ka .tier)) (omega (arith, ltb-true)))
+        (λ a b ka kb e. student-by-score M B O Vs E s a b (ka .known) (kb .known) (possible a ka) (ka .tier ∙ sym (kb .tier)) (ltb-false _ _ e))
         x xs (choice-in x (rw some (here refl))) (λ y m. choice-in y (rw some (later m)))
 
     pub best-chosen : Chosen M B O Vs σ s (best M B s x xs)

@@ -13,7 +13,7 @@ use Rattle.base.proofs.Counting.{count-same}
 use Rattle.base.proofs.Members.{NoDup}
 use Rattle.lgs.specs.Market.{Market, Results}
 use Rattle.lgs.specs.Profiles.{Profile, seated}
-use Rattle.lgs.specs.Rule.{State, interviewed, open?, below, holders, lowestOf, close, handOn}
+use Rattle.lgs.specs.Rule.{State, interviewed, unopened, open?, below, holders, lowestOf, close, handOn}
 use Rattle.lgs.proofs.Optimal.{Unattainable, below-holders}
 use Rattle.lgs.proofs.Invariant.{Setting, Open, open-parts, open-make, Seen, Chosen, Gone, seatless, beyond, taken, Inv, chosen-acceptable}
 use Rattle.lgs.proofs.Invariant.{better-lost}
@@ -82,8 +82,8 @@ module _ (M : Market) (B : Results) (O : Profile) (Vs : ℕ → ℕ → Bool) (E
   abbrev pub closed : State
   closed = close M B seatedState c
 
-  came : (h : ℕ) → held′ h ≡ c → interviewed (σ .interviews) h c ≡ true
-  came h e = S .choosers h e .real pos .0
+  came : (h : ℕ) → held′ h ≡ c → (interviewed (σ .interviews) h c ≡ true) × (unopened M B h c ≡ false)
+  came h e = S .choosers h e .real pos
 
   pub lowest-holder : 1 ≤ seated M held′ c
       → Lowest M B O Vs E σ seatedState c (λ x v. I .seen x c v) (lowestOf M B seatedState c (holders M B seatedState c))
@@ -100,7 +100,7 @@ module _ (M : Market) (B : Results) (O : Profile) (Vs : ℕ → ℕ → Bool) (E
         arith,
         l .low h e,
         below-rank M B O Vs E σ seatedState c (λ x v. I .seen x c v) t (lowestOf M B seatedState c (holders M B seatedState c)) p
-            (I .seen _ c (came _ (l .holder)) .pair) b,
+            (I .seen _ c (came _ (l .holder) .0) .pair) b,
       )
 
   newly-lost : (t : ℕ) → M .paired t c ≡ true → seated M held′ c ≡ M .quota c

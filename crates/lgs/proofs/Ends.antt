@@ -20,7 +20,7 @@ use Rattle.lgs.specs.Rule.{State, Step, going, stopped, finished, Interv
 use Rattle.lgs.specs.Rule.{lowestOf, insert, byStage, start, close, handOn, step, run, fuel, lazyGaleShapley}
 use Rattle.lgs.proofs.Interviews.{interviewsWith, withInterviews}
 use Rattle.lgs.proofs.Sides.{real}
-use Rattle.lgs.proofs.Invariant.{Setting, open-parts, Seen, Chosen, Gone, seatless, beyond, taken, Inv}
+use Rattle.lgs.proofs.Invariant.{Setting, open-parts, unopened-possible, Seen, Chosen, Gone, seatless, beyond, taken, Inv}
 use Rattle.lgs.proofs.Advance.{before-outside}
 use Rattle.lgs.proofs.Choose.{best-chosen, best-open}
 use Rattle.lgs.proofs.Lowest.{Lowest, not-below-rank}
@@ -78,6 +78,9 @@ module _ (M : Market) (B : Results) where
       pub x-came : interviewed (σ .interviews) x c ≡ true
       x-came = choosers₁ M B O (B .met) E σ I s rest wait c pos k x (low .holder) .real pos .0
 
+      x-possible : B .never x c ≡ false
+      x-possible = unopened-possible M B x c (choosers₁ M B O (B .met) E σ I s rest wait c pos k x (low .holder) .real pos .1)
+
       pub before-kept : σ .deleted x c ≡ false
       before-kept =
           ⊎-elim (λ (e : x ≡ s). rw e (open-parts M B σ s c open-c .kept))
@@ -99,7 +102,7 @@ module _ (M : Market) (B : Results) where
               (λ t.
               absurd (lx (E .full .workshops .strict c l x (real (flip (M .paired) c) l (I .seen l c lv .pair))
               (real (flip (M .paired) c) x (I .seen x c x-came .pair))
-              (le-antisymm (low .low l lj) (not-below-rank M B O (B .met) E σ after c (λ y v. I .seen y c v) x l x-came lv t)))))
+              (le-antisymm (low .low l lj) (not-below-rank M B O (B .met) E σ after c (λ y v. I .seen y c v) x l x-came lv x-possible t)))))
               (bool-cases (below M B after c x l))
 
       drop-work : work (close M B after c) x < work σ x

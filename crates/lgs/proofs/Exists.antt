@@ -1,7 +1,7 @@
 -- Some profile fits the tiers and the results: it ranks by tier, then by the higher score, then by the lower number. The three are packed into one
 -- rank.
 use Prim.Native.Nat.{ℕ, zero, suc, _+_, _*_, _-_, _≤_, _<_}
-use mathlib.Core.Path.{_≡_, sym, subst, ap, _∙_}
+use mathlib.Core.Path.{_≡_, refl, sym, subst, ap, _∙_}
 use mathlib.Core.Logic.{⊎-elim}
 use mathlib.Core.Bool.{Bool, true}
 use native.Mathlib.Omega.{arith}
@@ -87,6 +87,7 @@ module _ (M : Market) (wf : WellFormed M) (B : Results) where
       record {
         studentRank = rankBy (M .studentTier) (B .studentScore) (M .workshops);
         workshopRank = rankBy (M .workshopTier) (B .workshopScore) (M .students);
+        never = B .never;
       }
 
   score-refines : Refining M scoreProfile
@@ -107,4 +108,5 @@ module _ (M : Market) (wf : WellFormed M) (B : Results) where
           students = rank-scores (M .studentTier) (B .studentScore) (M .workshops) (M .paired) (wf .workshop) Vs;
           workshops = rank-scores (M .workshopTier) (B .workshopScore) (M .students) (flip (M .paired)) (λ w s q. wf .student s w q) (flip Vs);
         };
+        never = record { same = λ s w p v. refl };
       }

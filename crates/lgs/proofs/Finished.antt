@@ -14,7 +14,7 @@ use Rattle.lgs.specs.Market.{Market, Results}
 use Rattle.lgs.specs.Profiles.{Profile, Acceptable, Blocks, Stable, StudentOptimal, flip, seated}
 use Rattle.lgs.specs.Rule.{State, start, finished, Interview, interviewed, open?, lazyGaleShapley}
 use Rattle.lgs.proofs.Sides.{real}
-use Rattle.lgs.proofs.Invariant.{Setting, Chosen, Gone, seatless, beyond, taken, Inv, unopened-below, chosen-acceptable, closed-why}
+use Rattle.lgs.proofs.Invariant.{Setting, Chosen, Gone, seatless, beyond, taken, Inv, unopened-out, chosen-acceptable, closed-why}
 use Rattle.lgs.proofs.Invariant.{better-lost, student-no-worse}
 use Rattle.lgs.proofs.Moves.{finished-not-going}
 use Rattle.lgs.proofs.Trace.{Reaches, Last, lgs-last, last-met, Finishes, step-finished}
@@ -40,7 +40,7 @@ module _ (M : Market) (B : Results) (O : Profile) (Vs : ℕ → ℕ → Bool) (E
   closed-unblocked : (s c : ℕ) → 0 < c → interviewed (σ .interviews) s c ≡ true → open? M B σ s c ≡ false → Blocks M O (σ .held) s c → ⊥
   closed-unblocked s c pos v o b =
       ⊎-elim (λ f. gone-unblocked s c pos (I .gone s c (b .acceptable .pair) f) (b .acceptable) (b .room))
-      (λ f. omega (arith, unopened-below M B O Vs E σ s c (I .seen s c v) f, b .acceptable .workshop))
+      (λ f. unopened-out M B O Vs E σ s c (I .seen s c v) f (b .acceptable))
       (closed-why M B O Vs E σ I s c v o)
 
   module _ (all : (s : ℕ) → 1 ≤ s → s ≤ M .students → Chosen M B O Vs σ s (σ .held s)) where

@@ -1,7 +1,7 @@
 -- What holds of every state of the staged rule (`Inv`), under a profile that fits the tiers and the results of the interviews Vs, and what
 -- follows at once: what a student has chosen is acceptable, and nothing better can be had.
 use Prim.Native.Nat.{ℕ, _≤_, _<_}
-use mathlib.Core.Path.{_≡_, refl, sym}
+use mathlib.Core.Path.{_≡_, refl, sym, subst, _∙_}
 use mathlib.Core.Logic.{_⊎_, inl, inr, ⊎-elim}
 use mathlib.Core.Bool.{Bool, true, false, not, _&&_}
 use mathlib.Core.List.{List·Memᴰ as Mem}
@@ -9,12 +9,12 @@ use native.Mathlib.Omega.{arith}
 use native.Mathlib.Nat.{eq-or-lt-of-le}
 use lib.Dec.{eqb}
 use borrow.Author.Tests.{eqb-true, eqb-false, eq-eqb, ltb-true, ltb-false, not-true}
-use Rattle.base.proofs.Tests.{bool-cases, never, and-left, and-right, and-false, less?}
+use Rattle.base.proofs.Tests.{bool-cases, never, and-left, and-right, and-false, or-true, or-false, less?}
 use Rattle.base.proofs.Members.{NoDup}
 use Rattle.lgs.specs.Market.{Market, Results, studentOutside, workshopOutside}
-use Rattle.lgs.specs.Profiles.{Profile, Fits, RespectsScores, Acceptable, Stable, outsideOr, flip, seated}
+use Rattle.lgs.specs.Profiles.{Profile, Fits, RespectsScores, SameNever, Acceptable, Stable, outsideOr, flip, seated}
 use Rattle.lgs.specs.Rule.{State, start, interviewed, unopened, declined, open?}
-use Rattle.lgs.proofs.Valid.{WellFormed, Refining, Distinct, refining}
+use Rattle.lgs.proofs.Valid.{WellFormed, Refining, Possible, Distinct, refining}
 use Rattle.lgs.proofs.Sides.{Known, real, by-score, no-worse}
 use Rattle.lgs.proofs.Optimal.{Unattainable}
 
@@ -24,12 +24,13 @@ pub record Setting (M : Market) (B : Results) (O : Profile) (Vs : ℕ → ℕ �
   pub distinct : Distinct M B
   pub full : Refining M O
   pub results : RespectsScores M B Vs O
+  pub never : SameNever (M .paired) Vs (B .never) (O .never)
   pub known : (s w : ℕ) → Vs s w ≡ true → B .met s w ≡ true
 
 pub fits-setting : (M : Market) (B : Results) (O : Profile) (Vs : ℕ → ℕ → Bool) → WellFormed M → Distinct M B
     → ((s w : ℕ) → Vs s w ≡ true → B .met s w ≡ true) → Fits M B Vs O → Setting M B O Vs
 fits-setting M B O Vs wf distinct known F =
-    record { wf = wf; distinct = distinct; full = refining M O (F .strict) (F .tiers); results = F .scores; known = known }
+    record { wf = wf; distinct = distinct; full = refining M O (F .strict) (F .tiers); results = F .scores; never = F .never; known = known }
 
 module _ (M : Market) (B : Results) where
   -- what it is to be open, in its parts
@@ -55,6 +56,11 @@ module _ (M : Market) (B : Results) where
   pub open-make : (σ : State) (s w : ℕ) → Open σ s w → open? M B σ s w ≡ true
   unfolding open?
   open-make σ s w k = rw (k .interview, eq-eqb _ _ (k .tier), k .kept, k .welcome)
+
+  -- what an interview opened did not end in never
+  pub unopened-possible : (s w : ℕ) → unopened M B s w ≡ false → B .never s w ≡ false
+  unfolding unopened
+  unopened-possible s w e = or-false (B .never s w) _ e .0
 
 module _ (M : Market) (Vs : ℕ → ℕ → Bool) where
   -- an interview that was held
@@ -105,29 +111,29 @@ module _ (M : Market) (B : Results) (O : Profile) (Vs : ℕ → ℕ → Bool) wh
 
 module _ (M : Market) (B : Results) (O : Profile) (Vs : ℕ → ℕ → Bool) (E : Setting M B O Vs) where
   -- both sides' comparison by results
-  pub student-by-score : (s x y : ℕ) → Known (M .paired) Vs s x → Known (M .paired) Vs s y → M .studentTier s x ≡ M .studentTier s y
-      → B .studentScore s y ≤ B .studentScore s x → O .studentRank s x ≤ O .studentRank s y
+  pub student-by-score : (s x y : ℕ) → Known (M .paired) Vs s x → Known (M .paired) Vs s y → Possible (B .never) s x
+      → M .studentTier s x ≡ M .studentTier s y → B .studentScore s y ≤ B .studentScore s x → O .studentRank s x ≤ O .studentRank s y
   student-by-score =
-      by-score (M .paired) Vs (B .met) (M .studentTier) (B .studentScore) (O .studentRank) (E .full .students) (E .results .students)
+      by-score (M .paired) Vs (B .met) (B .never) (M .studentTier) (B .studentScore) (O .studentRank) (E .full .students) (E .results .students)
       (E .distinct .students) (E .known)
 
   pub workshop-by-score : (w x y : ℕ) → Known (flip (M .paired)) (flip Vs) w x → Known (flip (M .paired)) (flip Vs) w y
-      → M .workshopTier w x ≡ M .workshopTier w y → B .workshopScore w y ≤ B .workshopScore w x → O .workshopRank w x ≤ O .workshopRank w y
+      → Possible (flip (B .never)) w x → M .workshopTier w x ≡ M .workshopTier w y → B .workshopScore w y ≤ B .workshopScore w x → O .workshopRank w x ≤ O .workshopRank w y
   workshop-by-score =
-      by-score (flip (M .paired)) (flip Vs) (flip (B .met)) (M .workshopTier) (B .workshopScore) (O .workshopRank) (E .full .workshops) (E .results .workshops)
+      by-score (flip (M .paired)) (flip Vs) (flip (B .met)) (flip (B .never)) (M .workshopTier) (B .workshopScore) (O .workshopRank) (E .full .workshops) (E .results .workshops)
       (E .distinct .workshops) (λ w s. E .known s w)
 
   pub student-no-worse : (s x y : ℕ) → outsideOr (M .paired s) x ≡ true → outsideOr (M .paired s) y ≡ true → O .studentRank s x ≤ O .studentRank s y
       → M .studentTier s x ≤ M .studentTier s y
   student-no-worse =
-      no-worse (M .paired) Vs (B .met) (M .studentTier) (B .studentScore) (O .studentRank) (E .full .students) (E .results .students)
+      no-worse (M .paired) Vs (B .met) (B .never) (M .studentTier) (B .studentScore) (O .studentRank) (E .full .students) (E .results .students)
       (E .distinct .students) (E .known)
 
   pub workshop-no-worse : (w x y : ℕ) → outsideOr (flip (M .paired) w) x ≡ true → outsideOr (flip (M .paired) w) y ≡ true
       → O .workshopRank w x ≤ O .workshopRank w y
       → M .workshopTier w x ≤ M .workshopTier w y
   workshop-no-worse =
-      no-worse (flip (M .paired)) (flip Vs) (flip (B .met)) (M .workshopTier) (B .workshopScore) (O .workshopRank) (E .full .workshops) (E .results .workshops)
+      no-worse (flip (M .paired)) (flip Vs) (flip (B .met)) (flip (B .never)) (M .workshopTier) (B .workshopScore) (O .workshopRank) (E .full .workshops) (E .results .workshops)
       (E .distinct .workshops) (λ w s. E .known s w)
 
   pub knows : (σ : State) (s w : ℕ) → Seen M Vs σ s w → Known (M .paired) Vs s w
@@ -139,18 +145,33 @@ module _ (M : Market) (B : Results) (O : Profile) (Vs : ℕ → ℕ → Bool) (E
   abbrev none-known : (r : ℕ → ℕ → Bool) (vs : ℕ → ℕ → Bool) (p : ℕ) → Known r vs p 0
   none-known r vs p = record { option = refl; seen = refl }
 
-  -- whoever the workshop has declined is below its outside option, and whoever else it has interviewed is above
-  pub unopened-below : (σ : State) (s w : ℕ) → Seen M Vs σ s w → unopened M B s w ≡ true → O .workshopRank w 0 < O .workshopRank w s
-  unfolding unopened declined
-  unopened-below σ s w k t =
+  -- the profile says never of an interviewed pair where the results do
+  pub told-never : (σ : State) (s w : ℕ) → Seen M Vs σ s w → O .never s w ≡ B .never s w
+  told-never σ s w k = E .never .same s w (k .pair) (k .seen)
+
+  -- whoever the workshop has declined is below its outside option
+  declined-below : (σ : State) (s w : ℕ) → Seen M Vs σ s w → declined M B s w ≡ true → O .workshopRank w 0 < O .workshopRank w s
+  unfolding declined
+  declined-below σ s w k t =
       E .results .workshops .higher w 0 s refl (known-by σ s w k .option) refl (known-by σ s w k .seen)
       (sym (eqb-true _ _ (and-left (eqb (M .workshopTier w s) (workshopOutside M w)) _ t)))
       (ltb-true _ _ (and-right (eqb (M .workshopTier w s) (workshopOutside M w)) _ t))
 
+  -- a pair whose interview opened nothing is not acceptable
+  pub unopened-out : (σ : State) (s w : ℕ) → Seen M Vs σ s w → unopened M B s w ≡ true → Acceptable M O s w → ⊥
+  unfolding unopened
+  unopened-out σ s w k t a =
+      ⊎-elim (λ n. absurd (never (told-never σ s w k ∙ n) (a .possible))) (λ d. omega (arith, declined-below σ s w k d, a .workshop))
+      (or-true (B .never s w) _ t)
+
+  -- and whoever else the workshop has interviewed is above its outside option
   pub taken-in : (σ : State) (s w : ℕ) → Seen M Vs σ s w → unopened M B s w ≡ false → O .workshopRank w s < O .workshopRank w 0
   unfolding unopened declined
-  taken-in σ s w k t = ⊎-elim better same (less? (M .workshopTier w s) (workshopOutside M w))
+  taken-in σ s w k u = ⊎-elim better same (less? (M .workshopTier w s) (workshopOutside M w))
     where
+      t : declined M B s w ≡ false
+      t = or-false (B .never s w) _ u .1
+
       better : M .workshopTier w s < workshopOutside M w → O .workshopRank w s < O .workshopRank w 0
       better l = E .full .workshops .keeps w s 0 (known-by σ s w k .option) refl l
 
@@ -165,7 +186,8 @@ module _ (M : Market) (B : Results) (O : Profile) (Vs : ℕ → ℕ → Bool) (E
       same le =
           let g : M .workshopTier w s ≡ workshopOutside M w = omega (arith, k .outside) in
           ⊎-elim (λ f. absurd (eqb-false _ _ f g))
-          (λ f. apart (workshop-by-score w s 0 (known-by σ s w k) (none-known (flip (M .paired)) (flip Vs) w) g (ltb-false _ _ f)))
+          (λ f. apart (workshop-by-score w s 0 (known-by σ s w k) (none-known (flip (M .paired)) (flip Vs) w)
+          (λ l. unopened-possible M B s w u) g (ltb-false _ _ f)))
           (and-false (eqb (M .workshopTier w s) (workshopOutside M w)) _ t)
 
   -- what the student holds is acceptable to both
@@ -174,6 +196,7 @@ module _ (M : Market) (B : Results) (O : Profile) (Vs : ℕ → ℕ → Bool) (E
       let v : Seen M Vs σ s x = I .seen s x (k .real pos .0) in
       record {
         pair = v .pair;
+        possible = told-never σ s x v ∙ unopened-possible M B s x (k .real pos .1);
         student = ⊎-elim (λ e. let z : x ≡ 0 = E .full .students .strict s x 0 (k .known .option) refl e in absurd (omega arith)) (λ l. l)
             (eq-or-lt-of-le (k .none));
         workshop = taken-in σ s x v (k .real pos .1);
@@ -196,11 +219,11 @@ module _ (M : Market) (B : Results) (O : Profile) (Vs : ℕ → ℕ → Bool) (E
   pub closed-lost : (σ : State) → Inv M B O Vs σ → (s d : ℕ) → interviewed (σ .interviews) s d ≡ true → open? M B σ s d ≡ false → Unattainable M O s d
   closed-lost σ I s d v o =
       ⊎-elim (λ f. I .lost s d (I .seen s d v .pair) f)
-      (λ f ν st e. omega (arith, unopened-below σ s d (I .seen s d v) f, acceptable-at ν st e))
+      (λ f ν st e. unopened-out σ s d (I .seen s d v) f (acceptable-at ν st e))
       (closed-why σ I s d v o)
     where
-      acceptable-at : (ν : ℕ → ℕ) → Stable M O ν → ν s ≡ d → O .workshopRank d s < O .workshopRank d 0
-      acceptable-at ν st e = rw e at (st .matching .acceptable s (rw e (E .wf .workshop s d (I .seen s d v .pair) .0)) .workshop)
+      acceptable-at : (ν : ℕ → ℕ) → Stable M O ν → ν s ≡ d → Acceptable M O s d
+      acceptable-at ν st e = subst (λ z. Acceptable M O s z) e (st .matching .acceptable s (rw e (E .wf .workshop s d (I .seen s d v .pair) .0)))
 
   -- nothing better than the choice can be had
   pub better-lost : (σ : State) → Inv M B O Vs σ → (s x d : ℕ) → Chosen M B O Vs σ s x → 0 < d → O .studentRank s d < O .studentRank s x

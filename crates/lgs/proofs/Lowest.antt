@@ -15,10 +15,10 @@ use Rattle.base.proofs.Counting.{somebody}
 use Rattle.base.proofs.Members.{in-upto, in-keep, keep-in, Picked, picked}
 use Rattle.lgs.specs.Market.{Market, Results, outscored}
 use Rattle.lgs.specs.Profiles.{Profile, flip, seated}
-use Rattle.lgs.specs.Rule.{State, interviewed, below, holders, lowestOf}
+use Rattle.lgs.specs.Rule.{State, interviewed, unopened, below, holders, lowestOf}
 use Rattle.lgs.proofs.Sides.{Known, real}
 use Rattle.lgs.proofs.Valid.{outscored-less, outscored-not}
-use Rattle.lgs.proofs.Invariant.{Setting, Seen, workshop-by-score, known-by}
+use Rattle.lgs.proofs.Invariant.{Setting, Seen, unopened-possible, workshop-by-score, known-by}
 
 module _ (M : Market) (B : Results) (O : Profile) (Vs : ℕ → ℕ → Bool) (E : Setting M B O Vs) (σ τ : State) (c : ℕ)
     (seen : (x : ℕ) → interviewed (τ .interviews) x c ≡ true → Seen M Vs σ x c) where
@@ -45,11 +45,11 @@ module _ (M : Market) (B : Results) (O : Profile) (Vs : ℕ → ℕ → Bool) (E
           (sym (eqb-true _ _ (and-left (eqb (M .workshopTier c x) (M .workshopTier c y)) _ a)))
           (outscored-less B c x y (and-right (interviewed (τ .interviews) y c) _ a₂))
 
-  -- of two interviewed, one that is not strictly below is above or the same
-  pub not-below-rank : (x y : ℕ) → interviewed (τ .interviews) x c ≡ true → interviewed (τ .interviews) y c ≡ true
+  -- of two interviewed, one that is not never and not strictly below is above or the same
+  pub not-below-rank : (x y : ℕ) → interviewed (τ .interviews) x c ≡ true → interviewed (τ .interviews) y c ≡ true → B .never x c ≡ false
       → below M B τ c x y ≡ false → O .workshopRank c x ≤ O .workshopRank c y
   unfolding below
-  not-below-rank x y vx vy e = ⊎-elim better same (less? (M .workshopTier c x) (M .workshopTier c y))
+  not-below-rank x y vx vy ok e = ⊎-elim better same (less? (M .workshopTier c x) (M .workshopTier c y))
     where
       kx : Known (flip (M .paired)) (flip Vs) c x
       kx = known-by M B O Vs E σ x c (seen x vx)
@@ -67,18 +67,18 @@ module _ (M : Market) (B : Results) (O : Profile) (Vs : ℕ → ℕ → Bool) (E
       same : M .workshopTier c y ≤ M .workshopTier c x → O .workshopRank c x ≤ O .workshopRank c y
       same le =
           let g : M .workshopTier c x ≡ M .workshopTier c y = omega (arith, ltb-false (M .workshopTier c y) (M .workshopTier c x) (parts .0)) in
-          workshop-by-score M B O Vs E c x y kx ky g (outscored-not B c x y (rw (eq-eqb _ _ g, vx, vy) at (parts .1)))
+          workshop-by-score M B O Vs E c x y kx ky (λ l. ok) g (outscored-not B c x y (rw (eq-eqb _ _ g, vx, vy) at (parts .1)))
 
   -- the holder that no holder is below
   pub record Lowest (l : ℕ) : Type 0 where
     pub holder : τ .held l ≡ c
     pub low : (h : ℕ) → τ .held h ≡ c → O .workshopRank c h ≤ O .workshopRank c l
 
-  module _ (came : (h : ℕ) → τ .held h ≡ c → interviewed (τ .interviews) h c ≡ true) where
+  module _ (came : (h : ℕ) → τ .held h ≡ c → (interviewed (τ .interviews) h c ≡ true) × (unopened M B h c ≡ false)) where
     holder-in : (h : ℕ) → τ .held h ≡ c → Mem h (holders M B τ c)
     unfolding holders
     holder-in h e =
-        let r : (1 ≤ h) × (h ≤ M .students) = E .wf .student h c (seen h (came h e) .pair) in
+        let r : (1 ≤ h) × (h ≤ M .students) = E .wf .student h c (seen h (came h e .0) .pair) in
         in-keep (λ t. eqb (τ .held t) c) (upto (M .students)) h (eq-eqb _ _ e) (in-upto (M .students) h (r .0) (r .1))
 
     in-holder : (h : ℕ) → Mem h (holders M B τ c) → τ .held h ≡ c
@@ -91,9 +91,9 @@ module _ (M : Market) (B : Results) (O : Profile) (Vs : ℕ → ℕ → Bool) (E
     lowest-of (x ∷ xs) e k m =
         let p : Picked (λ a b. O .workshopRank c b ≤ O .workshopRank c a) (λ h. τ .held h ≡ c) x xs (pick (below M B τ c) x xs) =
         picked (below M B τ c) (λ a b. O .workshopRank c b ≤ O .workshopRank c a) (λ h. τ .held h ≡ c) (λ a. omega arith) (λ a b d l r. omega arith)
-        (λ a b ha hb t. let l : O .workshopRank c a < O .workshopRank c b = below-rank b a (seen b (came b hb) .pair)
-        (seen a (came a ha) .pair) t in omega arith)
-        (λ a b ha hb t. not-below-rank b a (came b hb) (came a ha) t)
+        (λ a b ha hb t. let l : O .workshopRank c a < O .workshopRank c b = below-rank b a (seen b (came b hb .0) .pair)
+        (seen a (came a ha .0) .pair) t in omega arith)
+        (λ a b ha hb t. not-below-rank b a (came b hb .0) (came a ha .0) (unopened-possible M B b c (came b hb .1)) t)
         x xs (in-holder x (rw e (here refl))) (λ y m′. in-holder y (rw e (later m′))) in
         record { holder = p .chosen; low = λ h q. ⊎-elim (λ (z : h ≡ x). rw z (p .first)) (p .others h) (cases-cons (rw e at (holder-in h q))) }
 

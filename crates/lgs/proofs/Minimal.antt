@@ -1,7 +1,7 @@
 -- The list of a finished run is smallest: its holder is sure of the matching, and with consistent stages every set that makes its holder sure,
 -- and has the placed pairs, has the whole list. For each interview of it is `Needed`, and what is needed is not left out (`Undetermined`).
 use Prim.Native.Nat.{ℕ, zero, suc, _≤_, _<_}
-use mathlib.Core.Path.{_≡_, sym, subst, ap}
+use mathlib.Core.Path.{_≡_, sym, subst, ap, _∙_}
 use mathlib.Core.Logic.{⊎-elim}
 use mathlib.Core.Bool.{Bool, true, false}
 use mathlib.Core.List.{List}
@@ -46,6 +46,7 @@ module _ (M : Market) (B : Results) (O O′ : Profile) (Vs : ℕ → ℕ → Boo
                 (wider (flip Vs w) (flip (B .met) w) (λ s. known s w) y my) g m);
           };
         };
+        never = record { same = λ s w p v. F .never .same s w p v ∙ fits .never .same s w p (known s w v) };
       }
 
 module _ (M : Market) (wf : WellFormed M) (B : Results) (distinct : Distinct M B) (p : ℕ → ℕ) (vs : List Interview)

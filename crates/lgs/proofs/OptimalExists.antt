@@ -27,6 +27,7 @@ module _ (M : Market) (wf : WellFormed M) (O : Profile) (strict : StrictProfile 
   told =
       record {
         met = λ s w. true;
+        never = O .never;
         studentScore = λ s x. highest (O .studentRank) (M .workshops) s - O .studentRank s x;
         workshopScore = λ w x. highest (O .workshopRank) (M .students) w - O .workshopRank w x;
       }
@@ -40,10 +41,10 @@ module _ (M : Market) (wf : WellFormed M) (O : Profile) (strict : StrictProfile 
         wf = wf;
         distinct = record {
           students = record {
-            apart = λ p x y ox oy mx my g e. apart (M .paired) (M .studentTier) (O .studentRank) (M .workshops) (full .students) (wf .workshop) p x y ox oy e;
+            apart = λ p x y ox oy mx my ok g e. apart (M .paired) (M .studentTier) (O .studentRank) (M .workshops) (full .students) (wf .workshop) p x y ox oy e;
           };
           workshops = record {
-            apart = λ p x y ox oy mx my g e.
+            apart = λ p x y ox oy mx my ok g e.
                 apart (flip (M .paired)) (M .workshopTier) (O .workshopRank) (M .students) (full .workshops) (λ w s q. wf .student s w q) p x y ox oy e;
           };
         };
@@ -52,6 +53,7 @@ module _ (M : Market) (wf : WellFormed M) (O : Profile) (strict : StrictProfile 
           students = record { higher = λ p x y ox oy mx my g l. omega arith };
           workshops = record { higher = λ p x y ox oy mx my g l. omega arith };
         };
+        never = record { same = λ s w p v. refl };
         known = λ s w v. v;
       }
 

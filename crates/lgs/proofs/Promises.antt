@@ -129,6 +129,7 @@ module _ (M : Market) (wf : WellFormed M) (B : Results) (distinct : Distinct M B
           agree B′ X =
               record {
                 met = λ t d v. X .met t d (k .listed .answered t d v);
+                never = λ t d v. X .never t d (k .listed .answered t d v);
                 student = λ t d v. X .student t d (k .listed .answered t d v);
                 workshop = λ t d v. X .workshop t d (k .listed .answered t d v);
                 studentOutside = X .studentOutside;
@@ -148,6 +149,7 @@ module _ (M : Market) (B : Results) (places : List ℕ) (vs : List Interview) (P
           students = record { higher = λ s x y ox oy mx my. fits .scores .students .higher s x y ox oy (student s x mx) (student s y my) };
           workshops = record { higher = λ w x y ox oy mx my. fits .scores .workshops .higher w x y ox oy (workshop w x mx) (workshop w y my) };
         };
+        never = record { same = λ s w p v. fits .never .same s w p (P .minimal .listed .answered s w v) };
       }
     where
       student : (s x : ℕ) → outsideOr (interviewed vs s) x ≡ true → outsideOr (B .met s) x ≡ true

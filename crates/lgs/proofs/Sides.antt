@@ -8,7 +8,7 @@ use native.Mathlib.Omega.{arith}
 use native.Mathlib.Nat.{eq-or-lt-of-le}
 use Rattle.base.proofs.Tests.{less?}
 use Rattle.lgs.specs.Profiles.{KeepsScores, outsideOr}
-use Rattle.lgs.proofs.Valid.{Refines, DistinctScores}
+use Rattle.lgs.proofs.Valid.{Refines, Possible, DistinctScores}
 
 pub real : (p : ℕ → Bool) (x : ℕ) → p x ≡ true → outsideOr p x ≡ true
 real p zero e = refl
@@ -24,18 +24,19 @@ pub record Known (opts vs : ℕ → ℕ → Bool) (p x : ℕ) : Type 0 where
   pub option : outsideOr (opts p) x ≡ true
   pub seen : outsideOr (vs p) x ≡ true
 
-module _ (option seen met : ℕ → ℕ → Bool) (tier score rank : ℕ → ℕ → ℕ)
-    (keeps : Refines option tier rank) (results : KeepsScores option seen tier score rank) (distinct : DistinctScores option met tier score)
+module _ (option seen met never : ℕ → ℕ → Bool) (tier score rank : ℕ → ℕ → ℕ)
+    (keeps : Refines option tier rank) (results : KeepsScores option seen tier score rank) (distinct : DistinctScores option met never tier score)
     (known : (p x : ℕ) → seen p x ≡ true → met p x ≡ true) where
   met-too : (p x : ℕ) → outsideOr (seen p) x ≡ true → outsideOr (met p) x ≡ true
   met-too p = wider (seen p) (met p) (known p)
 
   -- in one tier the higher score is better
-  pub by-score : (p x y : ℕ) → Known option seen p x → Known option seen p y → tier p x ≡ tier p y → score p y ≤ score p x → rank p x ≤ rank p y
-  by-score p x y kx ky g m =
+  pub by-score : (p x y : ℕ) → Known option seen p x → Known option seen p y → Possible never p x → tier p x ≡ tier p y → score p y ≤ score p x
+      → rank p x ≤ rank p y
+  by-score p x y kx ky ok g m =
       ⊎-elim
       (λ (e : score p y ≡ score p x).
-      let xy : x ≡ y = distinct .apart p x y (kx .option) (ky .option) (met-too p x (kx .seen)) (met-too p y (ky .seen)) g (sym e) in
+      let xy : x ≡ y = distinct .apart p x y (kx .option) (ky .option) (met-too p x (kx .seen)) (met-too p y (ky .seen)) ok g (sym e) in
       omega (arith, ap (rank p) xy))
       (λ (l : score p y < score p x). omega (arith, results .higher p x y (kx .option) (ky .option) (kx .seen) (ky .seen) g l))
       (eq-or-lt-of-le m)

@@ -1,14 +1,17 @@
 -- An interview that may change the matching cannot be left out: whoever has not held it is not sure. For a profile that fits what is
--- revealed puts the student and the workshop at the top of their tiers, and there the pair blocks.
+-- revealed puts the student and the workshop at the top of their tiers and says that they are not never, and there the pair blocks.
 use Prim.Native.Nat.{ℕ, zero, suc, _≤_, _<_}
 use mathlib.Core.Path.{_≡_, refl, sym, ap, fun-ext, _∙_}
 use mathlib.Core.Logic.{_⊎_, inl, inr, ⊎-elim}
-use mathlib.Core.Bool.{Bool, true, false}
+use mathlib.Core.Bool.{Bool, true, false, not, _&&_, _||_}
 use native.Mathlib.Omega.{arith}
-use Rattle.base.proofs.Tests.{less?}
+use lib.Dec.{eqb}
+use borrow.Author.Tests.{eqb-true, eq-eqb}
+use Rattle.base.proofs.Tests.{never, bool-cases, is-false, and-left, and-right, and-make, or-left, less?}
 use Rattle.lgs.specs.Market.{Market, workshopOutside}
 use Rattle.lgs.specs.Profiles.{Profile, StrictProfile, RespectsTiers, FitsRevealed, Matching, Blocks, Stable, StudentOptimal, Determined}
 use Rattle.lgs.specs.Profiles.{seated, flip}
+use Rattle.lgs.specs.Promises.{SureMeetsPlaced}
 use Rattle.lgs.proofs.Valid.{Refining, refining-strict, refining-tiers}
 use Rattle.lgs.proofs.Promote.{promote, promote-fits, promote-top, promote-same}
 use Rattle.lgs.proofs.Optimal.{optimal-unique, placed-option}
@@ -23,18 +26,54 @@ reveals-itself M O Vs strict tiers =
     record {
       strict = strict;
       tiers = tiers;
+      never = record { same = λ s w p v. refl };
       students = record { same = λ p x y ox oy mx my l. l };
       workshops = record { same = λ p x y ox oy mx my l. l };
     }
 
+-- a pair met is not the one that was not met
+another : (Vs : ℕ → ℕ → Bool) (s c : ℕ) → Vs s c ≡ false → (t w : ℕ) → Vs t w ≡ true → (eqb t s && eqb w c) ≡ false
+another Vs s c unmet t w v =
+    is-false _
+    (λ e.
+    let same : (t ≡ s) × (w ≡ c) = (eqb-true t s (and-left (eqb t s) _ e), eqb-true w c (and-right (eqb t s) _ e)) in
+    never (rw (same .0, same .1) at v) unmet)
+
+-- whoever is sure has met the placed pairs: a profile that fits what is revealed says never of one that was not met
+pub sure-meets-placed : (M : Market) → SureMeetsPlaced M
+sure-meets-placed M O strict tiers Vs μ determined s placed =
+    ⊎-elim (λ e. e)
+    (λ unmet. absurd (never (or-left (eqb s s && eqb (μ s) (μ s)) _ (and-make (eq-eqb s s refl) (eq-eqb (μ s) (μ s) refl)))
+    (determined .optimal without (fits unmet) .stable .matching .acceptable s placed .possible)))
+    (bool-cases (Vs s (μ s)))
+  where
+    without : Profile
+    without =
+        record {
+          studentRank = O .studentRank;
+          workshopRank = O .workshopRank;
+          never = λ t w. (eqb t s && eqb w (μ s)) || O .never t w;
+        }
+
+    fits : Vs s (μ s) ≡ false → FitsRevealed M Vs O without
+    fits unmet =
+        record {
+          strict = record { students = strict .students; workshops = strict .workshops };
+          tiers = record { students = tiers .students; workshops = tiers .workshops };
+          never = record { same = λ t w p v. rw (another Vs s (μ s) unmet t w v) };
+          students = record { same = λ p x y ox oy mx my l. l };
+          workshops = record { same = λ p x y ox oy mx my l. l };
+        }
+
 module _ (M : Market) (O : Profile) (full : Refining M O) (Vs : ℕ → ℕ → Bool) where
-  -- the student s and the workshop c, both counted from 0, each at the top of its tier for the other
+  -- the student s and the workshop c, both counted from 0, each at the top of its tier for the other, and not never
   module _ (s c : ℕ) (pair : M .paired (suc s) (suc c) ≡ true) where
     raised : Profile
     raised =
         record {
           studentRank = promote (M .studentTier) (O .studentRank) (suc s) (suc c);
           workshopRank = promote (M .workshopTier) (O .workshopRank) (suc c) (suc s);
+          never = λ t w. not (eqb t (suc s) && eqb w (suc c)) && O .never t w;
         }
 
     raised-full : Refining M raised
@@ -51,6 +90,7 @@ module _ (M : Market) (O : Profile) (full : Refining M O) (Vs : ℕ → ℕ → 
         record {
           strict = refining-strict M raised raised-full;
           tiers = refining-tiers M raised raised-full;
+          never = record { same = λ t w p v. rw (another Vs (suc s) (suc c) unmet t w v) };
           students = promote-same (M .paired) Vs (M .studentTier) (O .studentRank) (full .students) (suc s) (suc c) pair unmet;
           workshops = promote-same (flip (M .paired)) (flip Vs) (M .workshopTier) (O .workshopRank) (full .workshops) (suc c) (suc s) pair unmet;
         }
@@ -66,6 +106,7 @@ module _ (M : Market) (O : Profile) (full : Refining M O) (Vs : ℕ → ℕ → 
         record {
           acceptable = record {
             pair = pair;
+            possible = rw (eq-eqb (suc s) (suc s) refl, eq-eqb (suc c) (suc c) refl);
             student = top-s 0 (behind (less? (M .studentTier (suc s) 0) (M .studentTier (suc s) (μ (suc s))))) (λ e. absurd (omega arith));
             workshop = top-c 0 outside (λ e. absurd (omega arith));
           };

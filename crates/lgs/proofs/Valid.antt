@@ -13,20 +13,25 @@ pub record WellFormed (M : Market) : Type 0 where
   pub workshop : (s w : ℕ) → M .paired s w ≡ true → (1 ≤ w) × (w ≤ M .workshops)
   pub tier : (s w : ℕ) → M .paired s w ≡ true → 1 ≤ M .studentTier s w
 
--- nobody gave two equal scores in one tier, the outside option's among them
-pub record DistinctScores (option met : ℕ → ℕ → Bool) (tier score : ℕ → ℕ → ℕ) : Type 0 where
+-- the interview of p with x did not end in never, or x is the outside option
+abbrev pub Possible : (ℕ → ℕ → Bool) → ℕ → ℕ → Type 0
+Possible never p x = 0 < x → never p x ≡ false
+
+-- nobody gave two equal scores in one tier, the outside option's among them, but where both interviews ended in never
+pub record DistinctScores (option met never : ℕ → ℕ → Bool) (tier score : ℕ → ℕ → ℕ) : Type 0 where
   pub apart : (p x y : ℕ)
       → outsideOr (option p) x ≡ true
       → outsideOr (option p) y ≡ true
       → outsideOr (met p) x ≡ true
       → outsideOr (met p) y ≡ true
+      → Possible never p x
       → tier p x ≡ tier p y
       → score p x ≡ score p y
       → x ≡ y
 
 pub record Distinct (M : Market) (B : Results) : Type 0 where
-  pub students : DistinctScores (M .paired) (B .met) (M .studentTier) (B .studentScore)
-  pub workshops : DistinctScores (flip (M .paired)) (flip (B .met)) (M .workshopTier) (B .workshopScore)
+  pub students : DistinctScores (M .paired) (B .met) (B .never) (M .studentTier) (B .studentScore)
+  pub workshops : DistinctScores (flip (M .paired)) (flip (B .met)) (flip (B .never)) (M .workshopTier) (B .workshopScore)
 
 -- the rank is strict and keeps the tiers
 pub record Refines (option : ℕ → ℕ → Bool) (tier rank : ℕ → ℕ → ℕ) : Type 0 where

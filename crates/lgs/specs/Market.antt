@@ -39,10 +39,12 @@ allSeats M = total (seatsOf M) (M .workshops)
 
 -- ---- Results.
 
--- The book, decoded: which interviews (document 01: visits) have a record, and the scores (marks) that they gave. A score is stored 32768 above its
--- value, so that the order is that of natural numbers; the outside option has the score of 0.
+-- The book, decoded: which interviews (document 01: visits) have a record, which of them ended in never, and the scores (marks) that they gave. A
+-- score is stored 32768 above its value, so that the order is that of natural numbers; the outside option has the score of 0.
 pub record Results : Type 0 where
   pub met : ℕ → ℕ → Bool  -- student, workshop: the book has a record of the interview
+  -- student, workshop: the interview that they had showed "that the two cannot be placed together" (document 02, Paper 1)
+  pub never : ℕ → ℕ → Bool
   pub studentScore : ℕ → ℕ → ℕ  -- student, then a workshop or 0: what she gave
   pub workshopScore : ℕ → ℕ → ℕ  -- workshop, then a student or 0: what it gave
 

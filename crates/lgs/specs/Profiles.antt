@@ -1,7 +1,7 @@
 -- Preference profiles, stability, the student-optimal matching, and what it is to be determined (document 01, "Orders and stability" and
--- "The smallest list").
+-- "The smallest list"; never: document 02, Paper 1).
 use Prim.Native.Nat.{ℕ, zero, suc, _≤_, _<_}
-use mathlib.Core.Bool.{Bool, true}
+use mathlib.Core.Bool.{Bool, true, false}
 use mathlib.Core.Path.{_≡_}
 use mathlib.Core.Logic.{_⊎_}
 use lib.Dec.{eqb}
@@ -61,9 +61,15 @@ pub record SameComparisons (option met : ℕ → ℕ → Bool) (rank rank′ : �
 
 -- A preference profile gives everybody's ranks: "for each student over none and the workshops she has a pair with, for each workshop over
 -- none and the students it has a pair with". On finitely many options a strict order and an injective rank are the same thing.
+-- "A full order also says which pairs are never"; "a never pair keeps its groups", so it has its ranks like any other.
 pub record Profile : Type 0 where
   pub studentRank : ℕ → ℕ → ℕ  -- student, then a workshop or 0
   pub workshopRank : ℕ → ℕ → ℕ  -- workshop, then a student or 0
+  pub never : ℕ → ℕ → Bool  -- student, workshop
+
+-- of the pairs met that have a pair record, the second says never exactly where the first does; "any other pair may be never or not"
+pub record SameNever (paired met never never′ : ℕ → ℕ → Bool) : Type 0 where
+  pub same : (s w : ℕ) → paired s w ≡ true → met s w ≡ true → never′ s w ≡ never s w
 
 module _ (M : Market) where
   -- "a full order is a strict order for everybody"
@@ -81,17 +87,20 @@ module _ (M : Market) where
     pub students : KeepsScores (M .paired) Vs (M .studentTier) (B .studentScore) (O .studentRank)
     pub workshops : KeepsScores (flip (M .paired)) (flip Vs) (M .workshopTier) (B .workshopScore) (O .workshopRank)
 
-  -- a full order that fits the groups and the marks of the interviews Vs; "the groups and the book" where Vs are all that the book has
+  -- a full order that fits the groups and the results of the interviews Vs; "the groups and the book" where Vs are all that the book has. It may
+  -- "put any unvisited pair down as never, and a visited one exactly when" the interview ended so.
   pub record Fits (B : Results) (Vs : ℕ → ℕ → Bool) (O : Profile) : Type 0 where
     pub strict : StrictProfile O
     pub tiers : RespectsTiers O
     pub scores : RespectsScores B Vs O
+    pub never : SameNever (M .paired) Vs (B .never) (O .never)
 
   -- The results of the set of interviews Vs under O (revealed comparisons) are "how that order ranks, for each person, those met in these
-  -- visits against one another and against none". O′ is a full order that "fits the case and such results".
+  -- visits against one another and against none", and they "tell" never "for the set's pairs". O′ is a full order that "fits the case and such results".
   pub record FitsRevealed (Vs : ℕ → ℕ → Bool) (O O′ : Profile) : Type 0 where
     pub strict : StrictProfile O′
     pub tiers : RespectsTiers O′
+    pub never : SameNever (M .paired) Vs (O .never) (O′ .never)
     pub students : SameComparisons (M .paired) Vs (O .studentRank) (O′ .studentRank)
     pub workshops : SameComparisons (flip (M .paired)) (flip Vs) (O .workshopRank) (O′ .workshopRank)
 
@@ -100,9 +109,10 @@ module _ (M : Market) where
   seated μ w = count (λ s. eqb (μ s) w) (M .students)
 
   module _ (O : Profile) where
-    -- "acceptable to both": there is a pair record, and each is above the other's none
+    -- "acceptable to both": there is a pair record, each is above the other's none, and the pair is not never, which "is acceptable to neither"
     pub record Acceptable (s w : ℕ) : Type 0 where
       pub pair : M .paired s w ≡ true
+      pub possible : O .never s w ≡ false
       pub student : O .studentRank s w < O .studentRank s 0
       pub workshop : O .workshopRank w s < O .workshopRank w 0
 

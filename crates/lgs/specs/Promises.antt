@@ -6,7 +6,7 @@ use mathlib.Core.List.{List, [], _∷_, _++_}
 use lib.ListN.{length, getD}
 use Rattle.base.specs.Lists.{count, total}
 use Rattle.lgs.specs.Market.{Market, Results, ConsistentStages}
-use Rattle.lgs.specs.Profiles.{Profile, Fits, StudentOptimal, Determined}
+use Rattle.lgs.specs.Profiles.{Profile, StrictProfile, RespectsTiers, Fits, StudentOptimal, Determined}
 use Rattle.lgs.specs.Rule.{Interview, interviewed, Step, going, stopped, finished, lazyGaleShapley}
 
 -- the matching that a list of places stands for: student s has entry s - 1, and nobody else has a place
@@ -71,9 +71,23 @@ module _ (M : Market) (B : Results) where
     pub optimal : OptimalWhateverUnseen places vs
     pub minimal : MinimalInterviews places vs
 
+-- Whoever has not met a placed pair must reckon with never there. So whoever is sure of a matching has met its placed pairs: that such a set "holds
+-- every placed pair" follows, and is asked because demand 3 has these words.
+abbrev pub SureMeetsPlaced : Market → Type 0
+SureMeetsPlaced M =
+    (O : Profile)
+    → StrictProfile M O
+    → RespectsTiers M O
+    → (Vs : ℕ → ℕ → Bool) (μ : ℕ → ℕ)
+    → Determined M Vs O μ
+    → (s : ℕ)
+    → 0 < μ s
+    → Vs s (μ s) ≡ true
+
 -- B′ has every record of B
 pub record Extends (B B′ : Results) : Type 0 where
   pub met : (s w : ℕ) → B .met s w ≡ true → B′ .met s w ≡ true
+  pub never : (s w : ℕ) → B .met s w ≡ true → B′ .never s w ≡ B .never s w
   pub student : (s w : ℕ) → B .met s w ≡ true → B′ .studentScore s w ≡ B .studentScore s w
   pub workshop : (s w : ℕ) → B .met s w ≡ true → B′ .workshopScore w s ≡ B .workshopScore w s
   pub studentOutside : (s : ℕ) → B′ .studentScore s 0 ≡ B .studentScore s 0

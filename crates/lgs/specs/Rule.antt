@@ -53,9 +53,9 @@ module _ (M : Market) (B : Results) where
   unfoldable pub declined : ℕ → ℕ → Bool
   declined s w = eqb (M .workshopTier w s) (workshopOutside M w) && ltb (B .workshopScore w s) (B .workshopScore w 0)
 
-  -- "Each is then open, unless": the interview opens nothing
+  -- the interview opens nothing: she was declined ("each is then open, unless"), or it ended in never ("such a visit opens nothing": document 02, Paper 1)
   unfoldable pub unopened : ℕ → ℕ → Bool
-  unopened s w = declined s w
+  unopened s w = B .never s w || declined s w
 
   -- the best of these choices: all are in the tier reached, so their scores tell
   unfoldable pub best : ℕ → ℕ → List ℕ → ℕ

@@ -6,7 +6,7 @@ use mathlib.Core.Bool.{true, false}
 use mathlib.Core.List.{List}
 use lib.ListN.{length, getD}
 use Rattle.lgs.specs.Market.{studentOutside, workshopOutside}
-use Rattle.format.specs.Layout.{rowAt, rowCount, entryAt, entryCount}
+use Rattle.format.specs.Layout.{rowAt, rowCount, entryAt, entryCount, endsInNever}
 use Rattle.format.specs.Engine.{marketIn, resultsIn}
 use Rattle.records.specs.Records.{pairPlace}
 use Rattle.tables.specs.Table.{Tabled, Linked}
@@ -39,6 +39,7 @@ indexAt case index n m s w = getD index (pairPlace case s w - (n + m)) 0
 pub record EntryAt (book : List ℕ) (s w e : ℕ) : Type 0 where
   pub from : 1 ≤ e
   pub to : e ≤ entryCount book
+  pub never : resultsIn book .never s w ≡ endsInNever (entryAt book (e - 1))
   pub studentScore : resultsIn book .studentScore s w ≡ entryAt book (e - 1) .studentScore
   pub workshopScore : resultsIn book .workshopScore w s ≡ entryAt book (e - 1) .workshopScore
 

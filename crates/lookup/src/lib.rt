@@ -4,7 +4,7 @@ ghost use Prim.Native.Nat.{_+_, _-_, _≤_, _<_};
 ghost use lib.ListN.{length, getD};
 ghost use Rattle.base.specs.Words.{biased};
 ghost use Rattle.lgs.specs.Market.{studentOutside, workshopOutside};
-ghost use Rattle.format.specs.Layout.{rowAt, rowCount, entryAt, entryCount};
+ghost use Rattle.format.specs.Layout.{rowAt, rowCount, entryAt, entryCount, endsInNever};
 ghost use Rattle.format.specs.Engine.{marketIn, resultsIn};
 ghost use Rattle.records.specs.Records.{pairPlace};
 ghost use Rattle.model.specs.Ready.{Booked};
@@ -83,6 +83,17 @@ pub fn workshop_score(book: &[u8], e: usize) -> i16
     ensures { λ r. ⌜ biased r ≡ entryAt (now (book .entry)) (e - 1) .workshopScore ⌝ }
 {
     records::workshop_score_at(book, e - 1)
+}
+
+// The interview of book record e - 1 ended in never.
+pub fn ended_in_never(book: &[u8], e: usize) -> bool
+    requires { ⌜ (1 ≤ e) × (e ≤ entryCount (now book)) ⌝ }
+    ensures { λ r. ⌜ r ≡ endsInNever (entryAt (now (book .entry)) (e - 1)) ⌝ }
+{
+    if records::never_at(book, e - 1, true) {
+        return true;
+    }
+    records::never_at(book, e - 1, false)
 }
 
 // The score that student s gave workshop w in their interview; `pair` is the number of their pair's record.

@@ -19,9 +19,9 @@ use Rattle.lgs.proofs.Invariant.{Setting, Chosen, Inv, workshop-no-worse}
 use Rattle.lgs.proofs.Interviews.{interviewsWith, interviewed-before}
 use Rattle.lgs.proofs.Advance.{update-at, update-off}
 use Rattle.lgs.proofs.Choose.{best-chosen}
-use Rattle.lgs.proofs.Lowest.{Lowest, lowest}
+use Rattle.lgs.proofs.Lowest.{Lowest}
 use Rattle.lgs.proofs.Close.{Seating, close-cases, close-keeps, close-deletes, lowest-holder}
-use Rattle.lgs.proofs.Apply.{seat, drop, choosers₁, one-more}
+use Rattle.lgs.proofs.Apply.{seat, drop, choosers₁, one-more, lowest-joined}
 use Rattle.lgs.proofs.Moves.{Move, interviews, leaves, sits, drops, joinedState, dropped}
 
 -- why a pair that was not interviewed is deleted
@@ -159,10 +159,7 @@ module _ (M : Market) (B : Results) (O : Profile) (Vs : ℕ → ℕ → Bool) (E
         k = rw z at (best-chosen M B O Vs E σ I s x xs some)
 
         L : Lowest M B O Vs E σ (joinedState M B σ s rest (suc c)) (suc c) (λ y v. I .seen y (suc c) v) (dropped M B σ s rest (suc c))
-        L =
-            lowest M B O Vs E σ (joinedState M B σ s rest (suc c)) (suc c) (λ y v. I .seen y (suc c) v)
-            (λ h q. choosers₁ M B O Vs E σ I s rest wait (suc c) (omega arith) k h q .real (omega arith) .0)
-            (omega (arith, one-more M B O Vs E σ I s rest wait (suc c) (omega arith) k))
+        L = lowest-joined M B O Vs E σ I s rest wait (suc c) (omega arith) k
 
 module _ (M : Market) (B : Results) (O : Profile) (Vs : ℕ → ℕ → Bool) (E : Setting M B O Vs) where
   pub start-evident : Evident M B (start M B)

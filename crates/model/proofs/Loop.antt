@@ -3,7 +3,7 @@
 use Prim.Native.Nat.{ℕ, zero, suc, _+_, _≤_, _<_}
 use mathlib.Core.Path.{_≡_, refl, sym, subst, ap, _∙_}
 use mathlib.Core.Logic.{⊎-elim}
-use mathlib.Core.Bool.{true, not, _&&_}
+use mathlib.Core.Bool.{true, false, not, _&&_}
 use mathlib.Core.List.{List, [], _∷_, _++_}
 use mathlib.Core.List.{List·Memᴰ as Mem, List·Memᴰ·head as here}
 use native.Mathlib.Omega.{arith}
@@ -27,7 +27,7 @@ use Rattle.lgs.proofs.Start.{start-inv}
 use Rattle.lgs.proofs.Once.{append-distinct, interviews-distinct, listed-fits}
 use Rattle.model.proofs.Seats.{seat-in, ranked-at, not-before-rank}
 use Rattle.model.proofs.Evident.{Evident, start-evident}
-use Rattle.model.proofs.Tied.{Tied, due-same, bit-seen, holder-seen}
+use Rattle.model.proofs.Tied.{Tied, due-same, bit-seen, holder-seen, holder-possible}
 use Rattle.model.proofs.Match.{nowAt, now-hand}
 use Rattle.model.proofs.Storage.{seats-of}
 use Rattle.model.proofs.Turns.{weightOf, Linked, Matches, waits, moved, turn-matches}
@@ -197,12 +197,19 @@ module _ (M : Market) (B : Results) (O : Profile) (E : Setting M B O (B .met)) w
         i j l p in (
           seat-booked c a pos (r .0) .student .0,
           ⊎-elim (λ e. e)
-              (λ f. absurd (omega (arith, not-before-rank M B O (B .met) E c a b (knows a (r .0)) (knows b (seat-in (m .seats c) j p)) f)))
+              (λ f. absurd (omega (
+                arith,
+                not-before-rank M B O (B .met) E c a b (knows a (r .0)) (knows b (seat-in (m .seats c) j p))
+                    (possible b (seat-in (m .seats c) j p)) f,
+              )))
               (bool-cases (before M B c a b)),
         )
       where
         knows : (h : ℕ) → Mem h (m .seats c) → Known (flip (M .paired)) (flip (B .met)) c h
         knows h k = known-by M B O (B .met) E (D .state) h c (seat-seen c h pos k)
+
+        possible : (h : ℕ) → Mem h (m .seats c) → B .never h c ≡ false
+        possible h k = holder-possible M B O E (D .state) (D .inv) _ (m .seats) (D .linked .tied) c h pos (D .linked .tied .sits c h pos k)
 
     -- of the student in hand
     module _ (s : ℕ) (rest : List ℕ) (w : m .waiting ≡ s ∷ rest) where

@@ -31,7 +31,7 @@ use Rattle.lgs.proofs.Ends.{x-below}
 use Rattle.model.proofs.Seats.{Ranked, Pushed, pushed, before-rank, not-before-rank}
 use Rattle.model.proofs.Storage.{seats-of}
 use Rattle.model.proofs.Evident.{Evident}
-use Rattle.model.proofs.Tied.{Tied, Bits, holder-seen, bit-seen}
+use Rattle.model.proofs.Tied.{Tied, Bits, holder-seen, holder-possible, bit-seen, bit-possible}
 
 -- the cards, with that of the student in hand brought up to date
 abbrev pub nowAt : List ℕ → ℕ → (ℕ → Card) → ℕ → Card
@@ -233,11 +233,11 @@ module _ (M : Market) (B : Results) (O : Profile) (E : Setting M B O (B .met)) (
     -- at the storage's capacity, and then at the quota
     at-seats : Pushed (O .workshopRank c) (seatsOf M c) s (S c) zs out
     at-seats =
-        pushed M B c (O .workshopRank c) (λ h. Seen M (B .met) σ h c)
-        (λ x y vx vy e. before-rank M B O (B .met) E c x y (knows x vx) (knows y vy) e)
-        (λ x y vx vy e. not-before-rank M B O (B .met) E c x y (knows x vx) (knows y vy) e)
-        (seatsOf M c) s (S c) (omega (arith, seats-of M c, R .size c c-pos, I .within c c-pos)) s-seen
-        (λ y m. holder-seen M B O E σ I C S R c y c-pos (R .sits c y c-pos m))
+        pushed M B c (O .workshopRank c) (λ h. Seen M (B .met) σ h c × (B .never h c ≡ false))
+        (λ x y vx vy e. before-rank M B O (B .met) E c x y (knows x (vx .0)) (knows y (vy .0)) e)
+        (λ x y vx vy e. not-before-rank M B O (B .met) E c x y (knows x (vx .0)) (knows y (vy .0)) (vy .1) e)
+        (seatsOf M c) s (S c) (omega (arith, seats-of M c, R .size c c-pos, I .within c c-pos)) (s-seen, bit-possible M B O E σ I C S R s c bit)
+        (λ y m. (holder-seen M B O E σ I C S R c y c-pos (R .sits c y c-pos m), holder-possible M B O E σ I C S R c y c-pos (R .sits c y c-pos m)))
         (λ y m e.
         not-hand y (R .sits c y c-pos m)
         (sym (E .full .workshops .strict c s y (knows s s-seen .option) (knows y (holder-seen M B O E σ I C S R c y c-pos (R .sits c y c-pos m)) .option) e)))

@@ -113,13 +113,13 @@ module _ (M : Market) (B : Results) (O : Profile) (Vs : ℕ → ℕ → Bool) (E
       (outscored-less B w y x (and-right (eqb (M .workshopTier w x) (M .workshopTier w y)) _ f)))
       (or-true (ltb (M .workshopTier w x) (M .workshopTier w y)) _ e)
 
-  pub not-before-rank : before M B w x y ≡ false → O .workshopRank w y ≤ O .workshopRank w x
+  pub not-before-rank : B .never y w ≡ false → before M B w x y ≡ false → O .workshopRank w y ≤ O .workshopRank w x
   unfolding before
-  not-before-rank e =
+  not-before-rank ok e =
       ⊎-elim (λ l. omega (arith, E .full .workshops .keeps w y x (ky .option) (kx .option) l))
       (λ (le : M .workshopTier w x ≤ M .workshopTier w y).
       let g : M .workshopTier w x ≡ M .workshopTier w y = omega (arith, ltb-false (M .workshopTier w x) (M .workshopTier w y) (parts .0)) in
-      workshop-by-score M B O Vs E w y x ky kx (sym g) (outscored-not B w y x (rw (eq-eqb _ _ g) at (parts .1))))
+      workshop-by-score M B O Vs E w y x ky kx (λ l. ok) (sym g) (outscored-not B w y x (rw (eq-eqb _ _ g) at (parts .1))))
       (less? (M .workshopTier w y) (M .workshopTier w x))
     where
       parts : (ltb (M .workshopTier w x) (M .workshopTier w y) ≡ false)

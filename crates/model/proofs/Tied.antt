@@ -19,8 +19,9 @@ use Rattle.model.specs.Model.{Card, held, missing, round, setBit, fullAb
 use Rattle.base.proofs.Tests.{never, bool-cases, and-left, and-right, and-make, or-true, or-left, or-right, less?}
 use Rattle.base.proofs.Members.{in-keep, keep-in, in-rest, in-front, consIf-in, Picked, picked}
 use Rattle.base.proofs.Digits.{keep-same}
+use Rattle.lgs.proofs.Valid.{Possible}
 use Rattle.lgs.proofs.Sides.{real}
-use Rattle.lgs.proofs.Invariant.{Setting, Seen, Inv, workshop-no-worse}
+use Rattle.lgs.proofs.Invariant.{Setting, Seen, Inv, unopened-possible, workshop-no-worse}
 use Rattle.lgs.proofs.Interviews.{withInterviews}
 use Rattle.model.proofs.Storage.{seats-of}
 use Rattle.model.proofs.Seats.{Ranked, last-in}
@@ -59,6 +60,10 @@ module _ (M : Market) (B : Results) (O : Profile) (E : Setting M B O (B .met)) (
   -- a holder has had her interview
   pub holder-seen : (c h : ℕ) → 0 < c → σ .held h ≡ c → Seen M (B .met) σ h c
   holder-seen c h pos e = I .seen h c (rw e at (I .chosen h (rw e pos) .real (rw e pos) .0))
+
+  -- which did not end in never
+  pub holder-possible : (c h : ℕ) → 0 < c → σ .held h ≡ c → B .never h c ≡ false
+  holder-possible c h pos e = unopened-possible M B h c (rw e at (I .chosen h (rw e pos) .real (rw e pos) .1))
 
   holder-tier : (c h l : ℕ) → 0 < c → σ .held h ≡ c → σ .held l ≡ c → O .workshopRank c h ≤ O .workshopRank c l → M .workshopTier c h ≤ M .workshopTier c l
   holder-tier c h l pos eh el le =
@@ -153,14 +158,23 @@ module _ (M : Market) (B : Results) (O : Profile) (E : Setting M B O (B .met)) (
       pub pair : outsideOr (M .paired s) y ≡ true
       pub met : outsideOr (B .met s) y ≡ true
       pub tier : M .studentTier s y ≡ σ .reached s
+      pub possible : Possible (B .never) s y
 
     pub bit-seen : (w : ℕ) → C s .bits w ≡ true → Seen M (B .met) σ s w
     bit-seen w b = I .seen s w (R .from s w b .0)
 
+    pub bit-possible : (w : ℕ) → C s .bits w ≡ true → B .never s w ≡ false
+    bit-possible w b = unopened-possible M B s w (R .from s w b .1)
+
     bit-offer : (w : ℕ) → C s .bits w ≡ true → Offer w
     bit-offer w b =
         let v : Seen M (B .met) σ s w = bit-seen w b in
-        record { pair = real (M .paired s) w (v .pair); met = real (B .met s) w (v .seen); tier = omega (arith, v .tier, R .from s w b .2) }
+        record {
+          pair = real (M .paired s) w (v .pair);
+          met = real (B .met s) w (v .seen);
+          tier = omega (arith, v .tier, R .from s w b .2);
+          possible = λ l. bit-possible w b;
+        }
 
     option-cases : (y : ℕ) → Mem y (options M B (C s) s) → ((eqb (studentOutside M s) (σ .reached s) ≡ true) × (y ≡ 0)) ⊎
         ((C s .bits y ≡ true) × (Mem y (upto (M .workshops))))
@@ -171,7 +185,7 @@ module _ (M : Market) (B : Results) (O : Profile) (E : Setting M B O (B .met)) (
 
     option-offer : (y : ℕ) → Mem y (options M B (C s) s) → Offer y
     option-offer y m =
-        ⊎-elim (λ r. subst Offer (sym (r .1)) (record { pair = refl; met = refl; tier = eqb-true _ _ (r .0) })) (λ r. bit-offer y (r .0))
+        ⊎-elim (λ r. subst Offer (sym (r .1)) (record { pair = refl; met = refl; tier = eqb-true _ _ (r .0); possible = λ l. absurd (omega arith) })) (λ r. bit-offer y (r .0))
         (option-cases y m)
 
     pub choice-option : (y : ℕ) → Mem y (choices M B σ s) → Mem y (options M B (C s) s)
@@ -205,7 +219,7 @@ module _ (M : Market) (B : Results) (O : Profile) (E : Setting M B O (B .met)) (
         let bo : Mem (best M B s y ys) (options M B (C s) s) = choice-option _ (rw c (b .0)) in
         let ob : Offer (best M B s y ys) = option-offer _ bo in
         let of : Offer (best M B s x xs) = option-offer _ (rw o (f .0)) in
-        E .distinct .students .apart s _ _ (ob .pair) (of .pair) (ob .met) (of .met) (ob .tier ∙ sym (of .tier))
+        E .distinct .students .apart s _ _ (ob .pair) (of .pair) (ob .met) (of .met) (ob .possible) (ob .tier ∙ sym (of .tier))
         (le-antisymm (f .1 _ (rw o at bo)) (b .1 _ (rw c at m)))
 
 -- ---- the interviews of one tier

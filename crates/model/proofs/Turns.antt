@@ -26,8 +26,8 @@ use Rattle.lgs.proofs.Invariant.{Setting, Seen, Chosen, Gone, seatless, beyond,
 use Rattle.lgs.proofs.Interviews.{interviewsWith, withInterviews}
 use Rattle.lgs.proofs.Advance.{before-outside, Due, due-in}
 use Rattle.lgs.proofs.Choose.{best-chosen, best-open}
-use Rattle.lgs.proofs.Lowest.{Lowest, lowest}
-use Rattle.lgs.proofs.Apply.{choosers₁, one-more}
+use Rattle.lgs.proofs.Lowest.{Lowest}
+use Rattle.lgs.proofs.Apply.{choosers₁, one-more, lowest-joined}
 use Rattle.lgs.proofs.Moves.{interviewAll-going, joinedState, dropped}
 use Rattle.lgs.proofs.Ends.{before-kept}
 use Rattle.model.proofs.Evident.{Evident}
@@ -285,7 +285,7 @@ module _ (M : Market) (B : Results) (O : Profile) (E : Setting M B O (B .met)) (
           came h q = choosers₁ M B O (B .met) E σ I s rest wait c (omega arith) k h q .real (omega arith) .0
 
           D : Lowest M B O (B .met) E σ (joinedState M B σ s rest c) c (λ y v. I .seen y c v) (dropped M B σ s rest c)
-          D = lowest M B O (B .met) E σ (joinedState M B σ s rest c) c (λ y v. I .seen y c v) came (omega (arith, over))
+          D = lowest-joined M B O (B .met) E σ I s rest wait c (omega arith) k
 
           same : dropped M B σ s rest c ≡ out
           same =

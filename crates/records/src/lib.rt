@@ -6,7 +6,7 @@ ghost use lib.ListN.{length, replicate};
 ghost use lib.Dec.{ltb};
 ghost use Rattle.base.specs.Lists.{one};
 ghost use Rattle.base.specs.Words.{word, signed, biased};
-ghost use Rattle.format.specs.Layout.{rowAt, entryAt, rowCount, entryCount, outsideScore};
+ghost use Rattle.format.specs.Layout.{rowAt, entryAt, rowCount, entryCount, outsideScore, saysNever};
 ghost use Rattle.format.specs.Refusals.{badScore};
 ghost use Rattle.records.specs.Records.{rowOf, entryOf};
 
@@ -220,6 +220,14 @@ pub fn biased_at(book: &[u8], i: usize, student: bool) -> u16
     } else {
         biased_of(u16_at(book, at + 6))
     }
+}
+
+// The score of the side in book record i is -1000, 31768 as it is kept: the interview ended in never.
+pub fn never_at(book: &[u8], i: usize, student: bool) -> bool
+    requires { ⌜ i < entryCount (now book) ⌝ }
+    ensures { λ r. ⌜ r ≡ saysNever (cond student (entryAt (now (book .entry)) i .studentScore) (entryAt (now (book .entry)) i .workshopScore)) ⌝ }
+{
+    biased_at(book, i, student) == 31768
 }
 
 pub fn entry_at(book: &[u8], i: usize) -> Entry

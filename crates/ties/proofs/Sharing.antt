@@ -9,7 +9,7 @@ use Rattle.base.proofs.Tests.{less?, never}
 use Rattle.ties.specs.Ties.{numberOf, keyOf, Tried, Apart}
 use Rattle.ties.specs.Seen.{metIn, slotOf}
 
--- without an interview nothing is done
+-- without a number nothing is done
 pub tried-none : (b : Bool) (case book : List ℕ) (x y : ℕ) (seen : List ℕ) → numberOf b book x y ≡ 0 → Tried b case book x y seen seen false
 tried-none b case book x y seen e = record { none = λ z. (refl, refl); some = λ l. absurd (omega arith) }
 

@@ -2,69 +2,82 @@
 use Prim.Native.Nat.{ℕ, suc, _+_, _-_, _*_, _≤_, _<_, max}
 use mathlib.Core.Path.{_≡_, refl, sym, ap, _∙_}
 use mathlib.Core.Logic.{_⊎_, inl, inr, ⊎-elim}
-use mathlib.Core.Bool.{Bool, true, false, cond, not, _||_}
+use mathlib.Core.Bool.{Bool, true, false, cond, not, _&&_, _||_}
 use mathlib.Core.List.{List}
 use mathlib.Core.Option.{some}
 use native.Mathlib.Omega.{arith}
+use native.Mathlib.Numerals.{unary-clauses}
 use lib.Dec.{eqb}
-use borrow.Author.Tests.{eq-eqb, eqb-true, not-false}
+use borrow.Author.Tests.{eq-eqb, eqb-true, not-true, not-false}
 use Rattle.base.specs.Words.{signed}
 use Rattle.base.specs.Below.{anyBelow}
 use Rattle.base.specs.Search.{firstBad, orEnd}
 use Rattle.base.proofs.Tests.{less?, is-false, and-left, and-right, and-make, or-true, or-left, or-right, or-false}
 use Rattle.base.proofs.Below.{any-before, any-found, any-first}
 use Rattle.base.proofs.Search.{scan-none, scan-found, none-fails, first-passes}
-use Rattle.format.specs.Layout.{Entry, rows, rowCount, rowAt, entries, entryCount, entryAt, isInterview}
-use Rattle.format.specs.Refusals.{notWithin, badRange, badStudent, badWorkshop, badTiers, badRepeat, badTie, studentTies, workshopTies}
+use Rattle.format.specs.Layout.{Entry, rows, rowCount, rowAt, entries, entryCount, entryAt, isInterview, saysNever}
+use Rattle.format.specs.Refusals.{notWithin, badRange, badStudent, badWorkshop, badTiers, badRepeat, badTie, tiedScores, studentTies, workshopTies}
 use Rattle.format.specs.Engine.{marketIn}
 use Rattle.format.proofs.Positions.{row-at, within, pair-says, pair-names}
 use Rattle.records.specs.Records.{pairPlace}
 use Rattle.book_tests.specs.Index.{fromOne}
-use Rattle.ties.specs.Ties.{Indexed, personsOf, who, whom, tierOf, scoreOf, sideTies, numberOf, keyOf, Apart, Lowered, LoweredOn}
+use Rattle.ties.specs.Ties.{Indexed, personsOf, who, whom, tierOf, scoreOf, sideTies, tested, numberOf, keyOf, Apart, Lowered, LoweredOn}
 use Rattle.book_tests.proofs.Laws.{entry-is}
 use Rattle.case_tests.proofs.Cases.{clean, few}
 use Rattle.book_tests.proofs.Indexing.{Placed, number-none, repeat-is}
-use Rattle.ties.proofs.Interviews.{number-some, entry-placed, placed-at, number-inside, tier-there, key-missing, key-found, no-record}
+use Rattle.ties.proofs.Interviews.{tested-own, number-found, entry-placed, placed-at, number-inside, tier-there, key-missing, key-found, no-record}
 
--- the records i and j tie
+-- the records e and f tie
 pub record Tied (b : Bool) (case : List ℕ) (e f : Entry) : Type 0 where
   pub person : who b f ≡ who b e
   pub tier : tierOf b (marketIn case) (who b e) (whom b f) ≡ tierOf b (marketIn case) (who b e) (whom b e)
   pub score : scoreOf b f ≡ scoreOf b e
+  pub counted : saysNever (scoreOf b e) ≡ false
 
 module _ (case book : List ℕ) (i j : ℕ) where
-  pub ties-say : (b : Bool) → sideTies b case book i j ≡ true → Tied b case (entryAt book i) (entryAt book j)
+  abbrev e : Entry
+  e = entryAt book i
+
+  abbrev f : Entry
+  f = entryAt book j
+
+  abbrev samePerson : Bool → Bool
+  samePerson b = eqb (who b f) (who b e)
+
+  abbrev sameTier : Bool → Bool
+  sameTier b = eqb (tierOf b (marketIn case) (who b e) (whom b f)) (tierOf b (marketIn case) (who b e) (whom b e))
+
+  -- the cause's test, one for both sides
+  side-is : (b : Bool) → sideTies b case book i j ≡ (samePerson b && (sameTier b && tiedScores (scoreOf b f) (scoreOf b e)))
   unfolding studentTies workshopTies
-  ties-say true t =
-      let e = entryAt book i in
-      let f = entryAt book j in
-      let u = and-right (eqb (f .student) (e .student)) _ t in
+  side-is true = refl
+  side-is false = refl
+
+  pub ties-say : (b : Bool) → sideTies b case book i j ≡ true → Tied b case e f
+  ties-say b t =
+      let u = sym (side-is b) ∙ t in
+      let v = and-right (samePerson b) _ u in
+      let w = and-right (sameTier b) _ v in
       record {
-        person = eqb-true _ _ (and-left (eqb (f .student) (e .student)) _ t);
-        tier = eqb-true _ _ (and-left (eqb (marketIn case .studentTier (e .student) (f .workshop))
-            (marketIn case .studentTier (e .student) (e .workshop))) _ u);
-        score = eqb-true _ _ (and-right
-            (eqb (marketIn case .studentTier (e .student) (f .workshop)) (marketIn case .studentTier (e .student) (e .workshop))) _ u);
-      }
-  ties-say false t =
-      let e = entryAt book i in
-      let f = entryAt book j in
-      let u = and-right (eqb (f .workshop) (e .workshop)) _ t in
-      record {
-        person = eqb-true _ _ (and-left (eqb (f .workshop) (e .workshop)) _ t);
-        tier = eqb-true _ _ (and-left (eqb (marketIn case .workshopTier (e .workshop) (f .student))
-            (marketIn case .workshopTier (e .workshop) (e .student))) _ u);
-        score = eqb-true _ _ (and-right
-            (eqb (marketIn case .workshopTier (e .workshop) (f .student)) (marketIn case .workshopTier (e .workshop) (e .student))) _ u);
+        person = eqb-true _ _ (and-left (samePerson b) _ u);
+        tier = eqb-true _ _ (and-left (sameTier b) _ v);
+        score = eqb-true _ _ (and-left (eqb (scoreOf b f) (scoreOf b e)) _ w);
+        counted = not-true _ (and-right (eqb (scoreOf b f) (scoreOf b e)) _ w);
       }
 
-  pub ties-make : (b : Bool) → Tied b case (entryAt book i) (entryAt book j) → sideTies b case book i j ≡ true
-  unfolding studentTies workshopTies
-  ties-make true t = and-make (eq-eqb _ _ (t .person)) (and-make (eq-eqb _ _ (t .tier)) (eq-eqb _ _ (t .score)))
-  ties-make false t = and-make (eq-eqb _ _ (t .person)) (and-make (eq-eqb _ _ (t .tier)) (eq-eqb _ _ (t .score)))
+  pub ties-make : (b : Bool) → Tied b case e f → sideTies b case book i j ≡ true
+  ties-make b t =
+      side-is b
+      ∙ and-make (eq-eqb _ _ (t .person)) (and-make (eq-eqb _ _ (t .tier)) (and-make (eq-eqb _ _ (t .score)) (ap not (t .counted))))
 
 pub tied-back : (b : Bool) (case : List ℕ) (e f : Entry) → Tied b case e f → Tied b case f e
-tied-back b case e f t = record { person = sym (t .person); tier = rw (t .person) (sym (t .tier)); score = sym (t .score) }
+tied-back b case e f t =
+    record {
+      person = sym (t .person);
+      tier = rw (t .person) (sym (t .tier));
+      score = sym (t .score);
+      counted = ap saysNever (t .score) ∙ t .counted;
+    }
 
 score-fits : (b : Bool) (book : List ℕ) (i : ℕ) → scoreOf b (entryAt book i) < 65536
 unfolding entryAt signed
@@ -93,10 +106,12 @@ module _ (case book index : List ℕ) (first : ℕ) (I : Indexed case book index
       scan-found q i (entryCount book) (number-none q i (eqb-true _ _ (not-false _ r)))
       (and-make (eq-eqb (entryAt book i .student) (entryAt book i .student) refl) (eq-eqb (entryAt book i .workshop) (entryAt book i .workshop) refl)) l
 
-  own-number : (b : Bool) (i : ℕ) → i < entryCount book → numberOf b book (who b (entryAt book i)) (whom b (entryAt book i)) ≡ suc i
+  -- and has its number, unless it is passed over
+  own-number : (b : Bool) (i : ℕ) → i < entryCount book → saysNever (scoreOf b (entryAt book i)) ≡ false
+      → numberOf b book (who b (entryAt book i)) (whom b (entryAt book i)) ≡ suc i
   unfolding numberOf
-  own-number true i l = ap fromOne (own-first i l)
-  own-number false i l = ap fromOne (own-first i l)
+  own-number true i l n = ap (λ o. tested true book (fromOne o)) (own-first i l) ∙ tested-own true book (suc i) (simp unary-clauses n)
+  own-number false i l n = ap (λ o. tested false book (fromOne o)) (own-first i l) ∙ tested-own false book (suc i) (simp unary-clauses n)
 
   names : (i : ℕ) → i < entryCount book
       → ((1 ≤ entryAt book i .student) × (entryAt book i .student ≤ marketIn case .students))
@@ -115,24 +130,22 @@ module _ (case book index : List ℕ) (first : ℕ) (I : Indexed case book index
   persons-in true i l = names i l
   persons-in false i l = (names i l .1, names i l .0)
 
-  own-key : (b : Bool) (i : ℕ) → i < entryCount book
+  own-key : (b : Bool) (i : ℕ) → i < entryCount book → saysNever (scoreOf b (entryAt book i)) ≡ false
       → keyOf b case book (who b (entryAt book i)) (whom b (entryAt book i)) ≡ tierOf b (marketIn case) (who b (entryAt book i))
       (whom b (entryAt book i)) * 65536 + scoreOf b (entryAt book i)
-  own-key b i l =
+  own-key b i l n =
       let x = who b (entryAt book i) in
       let y = whom b (entryAt book i) in
-      let e : numberOf b book x y ≡ suc i = own-number b i l in
+      let e : numberOf b book x y ≡ suc i = own-number b i l n in
       let d : numberOf b book x y - 1 ≡ i = omega arith in
       key-found case book index first I b x y (omega arith) ∙ ap (λ k. tierOf b (marketIn case) x y * 65536 + scoreOf b (entryAt book k)) d
 
-  -- ---- an interview that has a record
+  -- ---- an interview that has a number
   module _ (b : Bool) (x y : ℕ) (l : 0 < numberOf b book x y) where
     record-of : (who b (entryAt book (numberOf b book x y - 1)) ≡ x) × (whom b (entryAt book (numberOf b book x y - 1)) ≡ y)
-    unfolding numberOf
     record-of =
-        let q : ℕ → Bool = λ i. isInterview (cond b x y) (cond b y x) (entryAt book i) in
         interview-of b x y (entryAt book (numberOf b book x y - 1))
-        (first-passes q (entryCount book) (numberOf b book x y - 1) (number-some q (entryCount book) l))
+        (first-passes (λ i. isInterview (cond b x y) (cond b y x) (entryAt book i)) (entryCount book) _ (number-found case book index first I b x y l .0))
 
     pub there : pairPlace case (cond b x y) (cond b y x) < rowCount case
     there =
@@ -168,7 +181,7 @@ module _ (case book index : List ℕ) (first : ℕ) (I : Indexed case book index
   key-large : (b : Bool) (x y : ℕ) → 0 < numberOf b book x y → 65536 ≤ keyOf b case book x y
   key-large b x y l = omega (arith, key-found case book index first I b x y l, tier-least b x y l)
 
-  -- two of a person's interviews with one key both have records
+  -- two of a person's interviews with one key both have numbers
   both : (b : Bool) (x y z : ℕ) → y < 65536 → z < 65536 → (y ≡ z → ⊥) → keyOf b case book x y ≡ keyOf b case book x z → 0 < numberOf b book x y
   both b x y z u v f e =
       ⊎-elim (λ (l : 0 < numberOf b book x y). l)
@@ -192,6 +205,7 @@ module _ (case book index : List ℕ) (first : ℕ) (I : Indexed case book index
           person = q .0 ∙ sym (p .0);
           tier = rw (p .0, p .1, q .1) (omega (arith, k, s, t));
           score = omega (arith, k, s, t);
+          counted = number-found case book index first I b x y m .1;
         }
 
   -- where no two interviews of a person have one key nothing is lowered
@@ -216,12 +230,13 @@ module _ (case book index : List ℕ) (first : ℕ) (I : Indexed case book index
         let ey : suc (y - 1) ≡ y = omega arith in
         let ez : suc (z - 1) ≡ z = omega arith in
         let q : who b (entryAt book j) ≡ suc x = t .person ∙ p in
-        let ni : numberOf b book (suc x) (suc (y - 1)) ≡ suc i = rw (ey, ← p) (own-number b i l) in
-        let nj : numberOf b book (suc x) (suc (z - 1)) ≡ suc j = rw (ez, ← q) (own-number b j (omega arith)) in
+        let o = tied-back b case (entryAt book i) (entryAt book j) t .counted in
+        let ni : numberOf b book (suc x) (suc (y - 1)) ≡ suc i = rw (ey, ← p) (own-number b i l (t .counted)) in
+        let nj : numberOf b book (suc x) (suc (z - 1)) ≡ suc j = rw (ez, ← q) (own-number b j (omega arith) o) in
         let ki : keyOf b case book (suc x) (suc (y - 1)) ≡ tierOf b (marketIn case) (suc x) y * 65536 + scoreOf b (entryAt book i) = rw (ey, ← p)
-        (own-key b i l) in
+        (own-key b i l (t .counted)) in
         let kj : keyOf b case book (suc x) (suc (z - 1)) ≡ tierOf b (marketIn case) (suc x) z * 65536 + scoreOf b (entryAt book j) = rw (ez, ← q)
-        (own-key b j (omega arith)) in
+        (own-key b j (omega arith) o) in
         let tt′ : tierOf b (marketIn case) (suc x) z ≡ tierOf b (marketIn case) (suc x) y = rw p at (t .tier) in
         let k : keyOf b case book (suc x) (suc (z - 1)) ≡ keyOf b case book (suc x) (suc (y - 1)) = omega (arith, ki, kj, tt′, t .score) in
         ⊎-elim (λ (g : z - 1 < y - 1). omega (arith, r .below (y - 1) (z - 1) (omega arith) g k, ni, nj))

@@ -54,7 +54,7 @@ module _ (case book index : List ℕ) (first : ℕ) (I : Indexed case book index
     student-end top a b =
         ⊎-elim (λ (l : 0 < many). omega (arith, h .inside (many - 1) (omega arith), rows-few)) (λ (l : many ≤ 0). omega arith) (less? 0 many)
 
-    -- all that have interviews are among them
+    -- all that have numbers are among them
     pub student-within : (y : ℕ) → 0 < numberOf true book s y → (begin ≤ pairPlace case s y) × (pairPlace case s y < begin + many)
     student-within y l = h .all y (has-pair case s y (there case book index first I true s y l))
 

@@ -9,7 +9,7 @@ use lib.ListN.{length}
 use lib.Dec.{eqb}
 use Rattle.base.specs.Search.{firstBad}
 use Rattle.lgs.specs.Market.{Market}
-use Rattle.format.specs.Layout.{Entry, rows, rowCount, entries, entryAt, entryCount, isInterview}
+use Rattle.format.specs.Layout.{Entry, rows, rowCount, entries, entryAt, entryCount, isInterview, saysNever}
 use Rattle.format.specs.Refusals.{badPair, badRepeat, studentTies, workshopTies}
 use Rattle.format.specs.Engine.{marketIn}
 use Rattle.records.specs.Records.{pairPlace}
@@ -49,11 +49,15 @@ sideTies b case book i j =
 
 -- ---- the interview of x with y
 
--- the number of its record, from 1, or 0
-unfoldable pub numberOf : Bool → List ℕ → ℕ → ℕ → ℕ
-numberOf b book x y = fromOne (firstBad (λ i. isInterview (cond b x y) (cond b y x) (entryAt book i)) (entryCount book))
+-- a record's number, from 1, but 0 where its score of the side is -1000: "number 11 passes over them"; no record, 0, stays 0
+unfoldable pub tested : Bool → List ℕ → ℕ → ℕ
+tested b book k = cond (saysNever (scoreOf b (entryAt book (k - 1)))) 0 k
 
--- tier and score in one number, and y where there is no record, which no tier and score have
+-- the number of its record, from 1, or 0: there is none, or it is passed over
+unfoldable pub numberOf : Bool → List ℕ → ℕ → ℕ → ℕ
+numberOf b book x y = tested b book (fromOne (firstBad (λ i. isInterview (cond b x y) (cond b y x) (entryAt book i)) (entryCount book)))
+
+-- tier and score in one number; without a number it is y, which no tier and score have
 unfoldable pub keyOf : Bool → List ℕ → List ℕ → ℕ → ℕ → ℕ
 keyOf b case book x y =
     let k = numberOf b book x y in
@@ -64,12 +68,12 @@ pub record StandsAt (b : Bool) (case : List ℕ) (x y p : ℕ) : Type 0 where
   pub place : p ≡ pairPlace case (cond b x y) (cond b y x)
   pub inside : p < rowCount case
 
--- the slot of the interview of x and y is tried: it is met from now on, and was before where r is true; without an interview nothing is done
+-- the slot of the interview of x and y is tried: it is met from now on, and was before where r is true; without a number nothing is done
 pub record Tried (b : Bool) (case book : List ℕ) (x y : ℕ) (before after : List ℕ) (r : Bool) : Type 0 where
   pub none : numberOf b book x y ≡ 0 → (r ≡ false) × (after ≡ before)
   pub some : 0 < numberOf b book x y → Met before after (slotOf (keyOf b case book x y)) r
 
--- no two of the interviews of x have one key
+-- no two of the interviews of x that have numbers have one key
 pub record Apart (b : Bool) (case book : List ℕ) (x : ℕ) : Type 0 where
   pub apart : (y z : ℕ) → (y ≡ z → ⊥) → 0 < numberOf b book x y → 0 < numberOf b book x z → keyOf b case book x y ≡ keyOf b case book x z → ⊥
 

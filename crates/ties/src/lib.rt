@@ -1,5 +1,6 @@
 // Cause 11: one person gave an equal score earlier in the same tier. Person by person, the interviews are compared by keys; of all records that
 // tie with an earlier one the lowest is kept, counted from 1. Each key has a slot: a person whose interviews have slots of their own has no tie.
+// A score of -1000 ties with nothing: its interview is passed over, as if it had no record.
 ghost use mathlib.Core.Path.{_≡_};
 ghost use mathlib.Core.Bool.{true, false, cond};
 ghost use Prim.Native.Nat.{ℕ, suc, _+_, _-_, _*_, _≤_, _<_, max, min};
@@ -9,7 +10,7 @@ ghost use Rattle.format.specs.Layout.{rows, rowAt, rowCount, entries, entryAt, 
 ghost use Rattle.format.specs.Refusals.{badTie};
 ghost use Rattle.format.specs.Engine.{marketIn};
 ghost use Rattle.tables.specs.Table.{Tabled};
-ghost use Rattle.ties.specs.Ties.{Indexed, scoreOf, numberOf, keyOf, StandsAt, Tried, Apart, Lowered, LoweredBy, LoweredOn};
+ghost use Rattle.ties.specs.Ties.{Indexed, scoreOf, tested, numberOf, keyOf, StandsAt, Tried, Apart, Lowered, LoweredBy, LoweredOn};
 ghost use Rattle.ties.specs.Seen.{Met, slotOf};
 ghost use Rattle.ties.specs.Cursors.{Cursors};
 
@@ -96,7 +97,7 @@ fn lowest(keys: &[u32], numbers: &[u16], low: usize) -> usize
 
 // ---- a person's interviews from the case, the book and the index
 
-// The number of an interview's record, from 1, or 0, and its key.
+// The number of an interview's record, from 1, or 0 where there is none or it is passed over, and its key.
 struct Interview {
     number: u16,
     key: u32,
@@ -134,6 +135,22 @@ fn key_at(case: &[u8], book: &[u8], student: bool, p: usize, number: u16) -> u32
     joined(tier, score)
 }
 
+// The number of the book record of pair record p, from 1, or 0: there is none, or its score of the side is -1000, and it is passed over.
+fn tested_at(book: &[u8], index: &[u16], from: usize, student: bool, p: usize) -> u16
+    requires { ⌜ (from ≤ p) × (p - from < length (now index)) × (getD (now index) (p - from) 0 ≤ entryCount (now book)) ⌝ }
+    ensures { λ r. ⌜ r ≡ tested student (now (book .entry)) (getD (now (index .entry)) (p - from) 0) ⌝ }
+{
+    let number = index[p - from];
+    if number < 1 {
+        return 0;
+    }
+    if records::never_at(book, number as usize - 1, student) {
+        0
+    } else {
+        number
+    }
+}
+
 // The interview with y of the person of the side who has pair record p with y.
 fn interview_at(
     case: &[u8],
@@ -149,7 +166,7 @@ fn interview_at(
     ensures { λ r. ⌜ ((x : ℕ) → StandsAt student (now (case .entry)) x y p → (r .number ≡ numberOf student (now (book .entry)) x y)
         × (r .key ≡ keyOf student (now (case .entry)) (now (book .entry)) x y)) ⌝ }
 {
-    let number = index[p - from];
+    let number = tested_at(book, index, from, student, p);
     if number < 1 {
         return no_interview(y);
     }
@@ -216,7 +233,7 @@ fn tie_of(
 
 // ---- persons whose interviews all have slots of their own
 
-// Whether the slot of the interview of pair record p was met before. It is from now on. Without an interview there is no slot.
+// Whether the slot of the interview of pair record p was met before. It is from now on. Without a number there is no slot.
 fn met_again(
     case: &[u8],
     book: &[u8],
@@ -232,7 +249,7 @@ fn met_again(
     ensures { λ r. ⌜ ((x y : ℕ) → StandsAt student (now (case .entry)) x y p
         → Tried student (now (case .entry)) (now (book .entry)) x y (now (seen .entry)) (now (seen .exit)) r) ⌝ }
 {
-    let number = index[p - from];
+    let number = tested_at(book, index, from, student, p);
     if number < 1 {
         return false;
     }

@@ -10,7 +10,7 @@ ghost use Rattle.base.specs.Words.{biased};
 ghost use Rattle.base.specs.Bits.{member, members, Low};
 ghost use Rattle.lgs.specs.Market.{Market, Results, seatsOf, seatsBefore};
 ghost use Rattle.lgs.specs.Rule.{unopened, best};
-ghost use Rattle.format.specs.Layout.{rowAt, rowCount, entryAt, entryCount};
+ghost use Rattle.format.specs.Layout.{rowAt, rowCount, entryCount};
 ghost use Rattle.format.specs.Buffers.{flat};
 ghost use Rattle.format.specs.Engine.{marketIn, resultsIn};
 ghost use Rattle.model.specs.Model.{shutBy};
@@ -18,7 +18,7 @@ ghost use Rattle.model.specs.Store.{nextIn, lastOf};
 ghost use Rattle.model.specs.Turn.{toldState, withMember, favouriteIn, RoundSoFar, dueAt, roundTo, putAt, nextRun, afterRound, afterSeating, openTier, applyTo, turnOf, beginRun};
 ghost use Rattle.model.specs.Ready.{Booked, Ready};
 ghost use Rattle.tables.specs.Table.{Tabled, setOf, allOf};
-ghost use Rattle.lookup.specs.Clean.{StudentAt, WorkshopAt, PairAt, Clean};
+ghost use Rattle.lookup.specs.Clean.{StudentAt, WorkshopAt, PairAt, EntryAt, Clean};
 ghost use Rattle.turning.specs.Next.{Ordered, FirstAfter};
 ghost use Rattle.turning.specs.Round.{SeatsAt, SeatedAll, roundOf, TierListed};
 use api::StudentState;
@@ -317,15 +317,18 @@ fn is_shut(
     is_full_above(case, table, w, l, tier)
 }
 
-// "She is in that workshop's line group with a negative mark": workshop w does not take the student whose pair with it has the record `pair`, and
-// whose interview is book record e - 1.
+// The interview of book record e - 1 opens nothing: it ended in never, or the student, whose pair with workshop w has the record `pair`, "is in that
+// workshop's line group with a negative mark".
 fn is_unopened(case: &[u8], book: &[u8], students: usize, w: usize, pair: usize, e: usize) -> bool
     requires { ⌜ WorkshopAt (now case) students w ⌝ }
     requires { ⌜ (pair < rowCount (now case)) × (1 ≤ e) × (e ≤ entryCount (now book)) ⌝ }
     ensures { λ r. ⌜ ((s : ℕ) → rowAt (now (case .entry)) pair .fourth ≡ marketIn (now (case .entry)) .workshopTier w s
-        → entryAt (now (book .entry)) (e - 1) .workshopScore ≡ resultsIn (now (book .entry)) .workshopScore w s
+        → EntryAt (now (book .entry)) s w e
         → r ≡ unopened (marketIn (now (case .entry))) (resultsIn (now (book .entry))) s w) ⌝ }
 {
+    if lookup::ended_in_never(book, e) {
+        return true;
+    }
     if lookup::workshop_tier(case, pair) == lookup::workshop_outside(case, students, w) {
         records::negative(lookup::workshop_score(book, e))
     } else {
@@ -350,7 +353,7 @@ pub struct Round {
     pub missing: usize,
 }
 
-// The open set after an interview with workshop w: the workshop is in it, unless it declines the student.
+// The open set after an interview with workshop w: the workshop is in it, unless the interview opens nothing.
 fn opened(
     case: &[u8],
     book: &[u8],
@@ -363,7 +366,7 @@ fn opened(
     requires { ⌜ (w ≤ 64) × WorkshopAt (now case) students w ⌝ }
     requires { ⌜ (pair < rowCount (now case)) × (1 ≤ e) × (e ≤ entryCount (now book)) ⌝ }
     ensures { λ r. ⌜ ((s : ℕ) → rowAt (now (case .entry)) pair .fourth ≡ marketIn (now (case .entry)) .workshopTier w s
-        → entryAt (now (book .entry)) (e - 1) .workshopScore ≡ resultsIn (now (book .entry)) .workshopScore w s
+        → EntryAt (now (book .entry)) s w e
         → r ≡ cond (unopened (marketIn (now (case .entry))) (resultsIn (now (book .entry))) s w) set (withMember set w)) ⌝ }
 {
     if is_unopened(case, book, students, w, pair, e) {

@@ -1,18 +1,20 @@
-//! Demands 2 and 3 checked over all strict orders of a tiny case.
+//! Demands 2 and 3 checked over all full orders of a tiny case.
 //!
 //! Everything here follows the definitions: every full order, every placement and every set
-//! of visits is tried. No part of the staged rule is used.
+//! of visits is tried. No part of the staged rule is used. A full order has strict ranks for
+//! everybody and says which pairs are never. Pairs are bits in sets of pairs.
 
 use crate::model::*;
+use std::cell::Cell;
 use std::collections::HashMap;
 
 /// Larger worlds are not built.
-const MAX_ORDERS: usize = 50_000;
-const MAX_ORDERS_TIMES_SETS: usize = 5_000_000;
+const MAX_ORDERS: usize = 500_000;
+const MAX_ORDERS_TIMES_SETS: usize = 50_000_000;
 /// Bits of one person in a signature; four items have six comparisons.
 const PERSON_BITS: usize = 6;
 
-/// One full order over a person's partners and none.
+/// One strict order over a person's partners and none.
 #[derive(Clone)]
 struct Ranking {
     /// Position of each partner, and last the position of none; lower is better.
@@ -34,64 +36,79 @@ struct Person {
 /// By student, the index of her pair.
 type Placement = Vec<Option<usize>>;
 
+/// A full order: the index of its ranks, and its never pairs.
+#[derive(Clone, Copy)]
+struct Order {
+    ranks: usize,
+    never: u32,
+}
+
 /// A case with all its full orders.
 pub struct World {
     case: Case,
     /// Students first, then workshops.
     people: Vec<Person>,
-    /// Which ranking each person has in each full order.
-    orders: Vec<Vec<usize>>,
-    /// The comparisons of all people in each full order.
+    /// Every way to give each person a ranking.
+    ranks: Vec<Vec<usize>>,
+    /// By ranks: the comparisons of all people.
     signatures: Vec<u64>,
     placements: Vec<Placement>,
-    /// The student-best placement of each full order.
-    best: Vec<usize>,
+    /// By ranks: what they say of pairs and placements.
+    views: Vec<View>,
+    /// The student-best placement of each full order that was asked for.
+    best: Vec<Cell<Option<u16>>>,
 }
 
 /// How much a check of demand 3 has tried.
 #[derive(Default)]
 pub struct Effort {
-    /// Sets that make the holder sure and hold every placed pair, over all orders.
+    /// Sets that make the holder sure and hold every placed pair, over the orders that fit.
     pub sure_sets: usize,
     /// Sets that hold every placed pair and leave the holder unsure.
     pub unsure_sets: usize,
+    /// Those of them that do so only because some other pair may be never.
+    pub unsure_by_never: usize,
+}
+
+/// What the results of a set of visits tell its holder.
+#[derive(Clone, Copy, PartialEq, Eq)]
+enum Verdict {
+    Sure,
+    /// Sure, if no pair outside of the set could be never.
+    UnsureByNever,
+    Unsure,
 }
 
 impl World {
     /// `None` if there is too much to try.
     pub fn new(case: &Case) -> Option<World> {
         let people = people(case);
-        let count: usize = people.iter().map(|person| person.rankings.len()).product();
+        let ranks: usize = people.iter().map(|person| person.rankings.len()).product();
         let sets = 1 << case.pairs.len();
-        if count > MAX_ORDERS || count * sets > MAX_ORDERS_TIMES_SETS {
+        let orders = ranks * sets;
+        if orders > MAX_ORDERS || orders * sets > MAX_ORDERS_TIMES_SETS {
             return None;
         }
-        let orders = all_choices(&people.iter().map(|p| p.rankings.len()).collect::<Vec<_>>());
-        let mut world = World {
+        let ranks = all_choices(&people.iter().map(|p| p.rankings.len()).collect::<Vec<_>>());
+        let placements = placements(case);
+        let view = |ranks: &Vec<usize>| View::new(case, &people, ranks, &placements);
+        Some(World {
             case: case.clone(),
-            signatures: orders
-                .iter()
-                .map(|order| signature(&people, order))
-                .collect(),
+            signatures: ranks.iter().map(|r| signature(&people, r)).collect(),
+            views: ranks.iter().map(view).collect(),
             people,
-            orders,
-            placements: placements(case),
-            best: Vec::new(),
-        };
-        world.best = world
-            .orders
-            .iter()
-            .map(|order| world.student_best(order))
-            .collect();
-        Some(world)
+            ranks,
+            placements,
+            best: vec![Cell::new(None); orders],
+        })
     }
 
     pub fn orders(&self) -> usize {
-        self.orders.len()
+        self.best.len()
     }
 
-    /// Demand 2: under every full order that keeps the groups and the marks of the listed
-    /// visits, the placement is the student-best one.
+    /// Demand 2: under every full order that fits the groups and the listed visits, the
+    /// placement is the student-best one.
     pub fn demand_two(&self, book: &[Record], places: &[u16], visits: &[(u16, u16)]) -> bool {
         let listed: Vec<Record> = book
             .iter()
@@ -101,7 +118,8 @@ impl World {
         let Some(ours) = self.placement_index(places) else {
             return false;
         };
-        self.fitting(&listed).all(|order| self.best[order] == ours)
+        self.fitting(&listed, self.all_pairs())
+            .all(|order| usize::from(self.best(order)) == ours)
     }
 
     /// Demand 3 without its comparison: the list names no pair twice, holds every placed
@@ -113,12 +131,11 @@ impl World {
         let Some(placed) = self.placed_set(places) else {
             return false;
         };
-        let sure = self.sure_classes(list);
-        let mask = self.mask(list);
+        let mut holder = Holder::new(self, list);
         list & placed == placed
             && self
-                .fitting(book)
-                .all(|order| sure[&(self.signatures[order] & mask)].is_some())
+                .fitting(book, list)
+                .all(|order| holder.verdict(order) == Verdict::Sure)
     }
 
     /// Demand 3's comparison: every set that makes its holder sure and holds every placed
@@ -133,35 +150,26 @@ impl World {
         let (Some(list), Some(placed)) = (self.set_of(visits), self.placed_set(places)) else {
             return false;
         };
-        let fitting: Vec<usize> = self.fitting(book).collect();
         let mut good = true;
-        for set in (0..1u32 << self.case.pairs.len()).filter(|set| set & placed == placed) {
-            let sure = self.sure_classes(set);
-            let mask = self.mask(set);
-            for &order in &fitting {
-                if sure[&(self.signatures[order] & mask)].is_some() {
+        for rest in subsets(self.all_pairs() & !placed) {
+            let set = placed | rest;
+            let mut holder = Holder::new(self, set);
+            for order in self.fitting(book, set) {
+                let verdict = holder.verdict(order);
+                if verdict == Verdict::Sure {
                     effort.sure_sets += 1;
                     good &= set & list == list;
                 } else {
                     effort.unsure_sets += 1;
+                    effort.unsure_by_never += usize::from(verdict == Verdict::UnsureByNever);
                 }
             }
         }
         good
     }
 
-    /// For each class of orders with equal results of the set: the one student-best
-    /// placement they share, or nothing if they do not share one.
-    fn sure_classes(&self, set: u32) -> HashMap<u64, Option<usize>> {
-        let mask = self.mask(set);
-        let mut classes: HashMap<u64, Option<usize>> = HashMap::new();
-        for (signature, &best) in self.signatures.iter().zip(&self.best) {
-            let shared = classes.entry(signature & mask).or_insert(Some(best));
-            if *shared != Some(best) {
-                *shared = None;
-            }
-        }
-        classes
+    fn all_pairs(&self) -> u32 {
+        (1 << self.case.pairs.len()) - 1
     }
 
     /// The comparisons that the results of a set of pairs show.
@@ -177,18 +185,36 @@ impl World {
         join_bits(self.people.iter().map(of_person))
     }
 
-    /// The full orders that fit the records.
-    fn fitting<'a>(&'a self, records: &[Record]) -> impl Iterator<Item = usize> + 'a {
+    /// The full orders that fit the records: a pair with a record is never exactly when one of
+    /// its marks is -1000, any other pair may be never or not. Orders that differ only in never
+    /// pairs outside of the set are given once, without those.
+    fn fitting<'a>(&'a self, records: &[Record], set: u32) -> impl Iterator<Item = Order> + 'a {
         let fits: Vec<Vec<bool>> = (0..self.people.len())
             .map(|index| self.rankings_that_fit(index, records))
             .collect();
-        (0..self.orders.len()).filter(move |&order| {
-            let chosen = self.orders[order].iter();
+        let (mut told, mut never) = (0, 0);
+        for record in records {
+            let pair = self.pair_index(record.student, record.workshop);
+            let bit = 1 << pair.expect("the book was checked");
+            told |= bit;
+            if record.student_mark == NEVER || record.workshop_mark == NEVER {
+                never |= bit;
+            }
+        }
+        let keeps = move |&ranks: &usize| {
+            let chosen = self.ranks[ranks].iter();
             chosen.zip(&fits).all(|(&ranking, fits)| fits[ranking])
+        };
+        (0..self.ranks.len()).filter(keeps).flat_map(move |ranks| {
+            subsets(set & !told).map(move |other| Order {
+                ranks,
+                never: never | other,
+            })
         })
     }
 
-    /// Which rankings of a person keep the order of the marks, none counting as 0.
+    /// Which rankings of a person keep the order of the marks, none counting as 0. Two marks of
+    /// -1000 say nothing about each other.
     fn rankings_that_fit(&self, index: usize, records: &[Record]) -> Vec<bool> {
         let person = &self.people[index];
         let is_student = index < self.case.students.len();
@@ -209,7 +235,9 @@ impl World {
         };
         let keeps = |ranking: &Ranking| {
             item_pairs(none + 1).all(|(a, b)| match (mark(a), mark(b)) {
-                (Some(first), Some(second)) if person.groups[a] == person.groups[b] => {
+                (Some(first), Some(second))
+                    if person.groups[a] == person.groups[b] && first != second =>
+                {
                     (first > second) == (ranking.positions[a] < ranking.positions[b])
                 }
                 _ => true,
@@ -218,11 +246,21 @@ impl World {
         person.rankings.iter().map(keeps).collect()
     }
 
+    /// The index of the student-best placement.
+    fn best(&self, order: Order) -> u16 {
+        let known = &self.best[order.ranks << self.case.pairs.len() | order.never as usize];
+        known.get().unwrap_or_else(|| {
+            let best = self.student_best(order) as u16;
+            known.set(Some(best));
+            best
+        })
+    }
+
     /// The stable placement in which no student does better in any other stable one.
-    fn student_best(&self, order: &[usize]) -> usize {
-        let view = View::new(self, order);
+    fn student_best(&self, order: Order) -> usize {
+        let view = &self.views[order.ranks];
         let stable: Vec<usize> = (0..self.placements.len())
-            .filter(|&index| view.stable(&self.placements[index]))
+            .filter(|&index| view.standings[index].stable(order.never))
             .collect();
         let no_worse = |a: usize, b: usize| {
             (0..self.case.students.len()).all(|student| {
@@ -278,25 +316,98 @@ impl World {
     }
 }
 
-/// One full order, laid out by pair.
-struct View<'a> {
-    case: &'a Case,
+/// The holder of a set of visits, who knows the case and the results of that set.
+struct Holder<'a> {
+    world: &'a World,
+    set: u32,
+    /// The comparisons that the results show.
+    mask: u64,
+    /// The ranks with equal results.
+    classes: HashMap<u64, Vec<usize>>,
+    /// What was found, by the comparisons and the never pairs that the results show.
+    verdicts: HashMap<(u64, u32), Verdict>,
+}
+
+impl Holder<'_> {
+    fn new(world: &World, set: u32) -> Holder<'_> {
+        let mask = world.mask(set);
+        let mut classes: HashMap<u64, Vec<usize>> = HashMap::new();
+        for (ranks, signature) in world.signatures.iter().enumerate() {
+            classes.entry(signature & mask).or_default().push(ranks);
+        }
+        Holder {
+            world,
+            set,
+            mask,
+            classes,
+            verdicts: HashMap::new(),
+        }
+    }
+
+    /// The holder is sure if all full orders that fit the results of this one have one and the
+    /// same student-best placement.
+    fn verdict(&mut self, order: Order) -> Verdict {
+        let shown = self.world.signatures[order.ranks] & self.mask;
+        let never = order.never & self.set;
+        if let Some(&verdict) = self.verdicts.get(&(shown, never)) {
+            return verdict;
+        }
+        let best = |ranks: usize, other: u32| {
+            let never = never | other;
+            self.world.best(Order { ranks, never })
+        };
+        let first = best(order.ranks, 0);
+        let differ = |other: u32| {
+            let mut ranks = self.classes[&shown].iter();
+            ranks.any(|&ranks| best(ranks, other) != first)
+        };
+        // The empty subset comes first.
+        let verdict = match subsets(self.world.all_pairs() & !self.set).find(|&o| differ(o)) {
+            None => Verdict::Sure,
+            Some(0) => Verdict::Unsure,
+            Some(_) => Verdict::UnsureByNever,
+        };
+        self.verdicts.insert((shown, never), verdict);
+        verdict
+    }
+}
+
+/// What strict ranks say of pairs and placements, whatever is never.
+struct View {
     /// By pair: its position for the student and for the workshop.
     ranks: Vec<(usize, usize)>,
     student_none: Vec<usize>,
     workshop_none: Vec<usize>,
+    /// By placement.
+    standings: Vec<Standing>,
 }
 
-impl<'a> View<'a> {
-    fn new(world: &'a World, order: &[usize]) -> View<'a> {
-        let students = world.case.students.len();
+/// How a placement stands under strict ranks.
+struct Standing {
+    /// Whether each placed pair is above both nones.
+    acceptable: bool,
+    placed: u32,
+    /// The pairs that block it unless they are never.
+    blocking: u32,
+}
+
+impl Standing {
+    /// No placed pair is never, and every pair that would block is.
+    fn stable(&self, never: u32) -> bool {
+        self.acceptable && self.placed & never == 0 && self.blocking & !never == 0
+    }
+}
+
+impl View {
+    fn new(case: &Case, people: &[Person], ranks: &[usize], placements: &[Placement]) -> View {
+        let students = case.students.len();
         let mut view = View {
-            case: &world.case,
-            ranks: vec![(0, 0); world.case.pairs.len()],
+            ranks: vec![(0, 0); case.pairs.len()],
             student_none: Vec::new(),
             workshop_none: Vec::new(),
+            standings: Vec::new(),
         };
-        for (index, (person, &choice)) in world.people.iter().zip(order).enumerate() {
+        for (index, (person, &choice)) in people.iter().zip(ranks).enumerate() {
             let positions = &person.rankings[choice].positions;
             let none = positions[person.pairs.len()];
             if index < students {
@@ -312,7 +423,20 @@ impl<'a> View<'a> {
                 }
             }
         }
+        view.standings = placements.iter().map(|p| view.standing(case, p)).collect();
         view
+    }
+
+    fn standing(&self, case: &Case, placement: &Placement) -> Standing {
+        let placed = || placement.iter().flatten();
+        let blocks = |&pair: &usize| self.blocks(case, pair, placement);
+        Standing {
+            acceptable: placed().all(|&pair| self.above_none(case, pair)),
+            placed: placed().fold(0, |set, pair| set | 1 << pair),
+            blocking: (0..case.pairs.len())
+                .filter(blocks)
+                .fold(0, |set, pair| set | 1 << pair),
+        }
     }
 
     /// How the student ranks what she has.
@@ -320,42 +444,36 @@ impl<'a> View<'a> {
         has.map_or(self.student_none[student], |pair| self.ranks[pair].0)
     }
 
-    fn acceptable(&self, pair: usize) -> bool {
+    /// Acceptable to both, if it is not never.
+    fn above_none(&self, case: &Case, pair: usize) -> bool {
         let Pair {
             student, workshop, ..
-        } = self.case.pairs[pair];
+        } = case.pairs[pair];
         self.ranks[pair].0 < self.student_none[usize::from(student) - 1]
             && self.ranks[pair].1 < self.workshop_none[usize::from(workshop) - 1]
     }
 
-    fn stable(&self, placement: &Placement) -> bool {
-        placement
-            .iter()
-            .flatten()
-            .all(|&pair| self.acceptable(pair))
-            && (0..self.ranks.len()).all(|pair| !self.blocks(pair, placement))
-    }
-
-    /// The pair is acceptable to both, the student prefers the workshop to what she has, and
-    /// it has a free seat or holds somebody it ranks lower.
-    fn blocks(&self, pair: usize, placement: &Placement) -> bool {
+    /// The pair is acceptable to both, if it is not never, the student prefers the workshop to
+    /// what she has, and it has a free seat or holds somebody it ranks lower.
+    fn blocks(&self, case: &Case, pair: usize, placement: &Placement) -> bool {
         let Pair {
             student, workshop, ..
-        } = self.case.pairs[pair];
+        } = case.pairs[pair];
         let student = usize::from(student) - 1;
-        if !self.acceptable(pair) || self.ranks[pair].0 >= self.rank_of(student, placement[student])
+        if !self.above_none(case, pair)
+            || self.ranks[pair].0 >= self.rank_of(student, placement[student])
         {
             return false;
         }
         let mut held = 0;
         let mut holds_lower = false;
         for &other in placement.iter().flatten() {
-            if self.case.pairs[other].workshop == workshop {
+            if case.pairs[other].workshop == workshop {
                 held += 1;
                 holds_lower |= self.ranks[other].1 > self.ranks[pair].1;
             }
         }
-        held < self.case.workshops[usize::from(workshop) - 1].quota || holds_lower
+        held < case.workshops[usize::from(workshop) - 1].quota || holds_lower
     }
 }
 
@@ -426,11 +544,16 @@ fn all_choices(ends: &[usize]) -> Vec<Vec<usize>> {
     choices
 }
 
-fn signature(people: &[Person], order: &[usize]) -> u64 {
+/// Every subset of a set of pairs, the empty one first.
+fn subsets(set: u32) -> impl Iterator<Item = u32> {
+    (0..=set).filter(move |subset| subset & !set == 0)
+}
+
+fn signature(people: &[Person], ranks: &[usize]) -> u64 {
     join_bits(
         people
             .iter()
-            .zip(order)
+            .zip(ranks)
             .map(|(person, &choice)| person.rankings[choice].comparisons),
     )
 }

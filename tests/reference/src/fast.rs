@@ -11,6 +11,8 @@ use std::collections::{BinaryHeap, HashSet};
 const STUDENT_GROUPS: usize = MAX_STUDENT_GROUP as usize + 1;
 /// Mark of a workshop that is not open to a student.
 const CLOSED: i16 = i16::MIN;
+/// Mark keys of one group.
+const GROUP_KEYS: u32 = 1 << 11;
 
 /// What is known of one student and one workshop. Group 0: no pair. Mark 0: not in the book.
 #[derive(Clone, Copy, Default)]
@@ -302,7 +304,7 @@ impl Fast {
         (number, place)
     }
 
-    /// Whether some student or some workshop gave one mark twice in a group.
+    /// Whether some student or some workshop gave one mark twice in a group, never aside.
     fn some_mark_repeats(&mut self) -> bool {
         let by_student = self.cells.chunks_exact(self.workshop_count).any(|row| {
             let in_book = row.iter().filter(|cell| cell.student_mark != 0);
@@ -326,9 +328,10 @@ impl Fast {
             let cell = &self.cells[s * self.workshop_count + w];
             let student_key = mark_key(cell.student_group, cell.student_mark);
             let workshop_key = mark_key(cell.workshop_group, cell.workshop_mark);
-            let student_new = given.insert((s, student_key));
-            let workshop_new = given.insert((MAX_STUDENTS + w, workshop_key));
-            !student_new || !workshop_new
+            let student_ties = may_tie(student_key) && !given.insert((s, student_key));
+            let workshop_ties =
+                may_tie(workshop_key) && !given.insert((MAX_STUDENTS + w, workshop_key));
+            student_ties || workshop_ties
         });
         first.expect("some mark repeats")
     }
@@ -425,7 +428,8 @@ impl Fast {
             visits[2 * *count] = s as u16 + 1;
             visits[2 * *count + 1] = w as u16 + 1;
             *count += 1;
-            if cell.workshop_group != workshop.line || cell.workshop_mark > 0 {
+            let welcome = cell.workshop_group != workshop.line || cell.workshop_mark > 0;
+            if welcome && cell.student_mark.min(cell.workshop_mark) > NEVER {
                 self.open[s][w] = cell.student_mark;
             }
         }
@@ -590,9 +594,14 @@ fn first_disorder(fields: &[CaseFields], students: usize, workshops: usize) -> O
     })
 }
 
-/// One number for a group and a mark.
+/// One number for a group and a mark; never has the first number of its group.
 fn mark_key(group: u16, mark: i16) -> u32 {
-    u32::from(group) << 11 | (mark + MAX_MARK) as u32
+    u32::from(group) * GROUP_KEYS + (mark - NEVER) as u32
+}
+
+/// Whether an equal key is an equal mark; never is equal to nothing.
+fn may_tie(key: u32) -> bool {
+    !key.is_multiple_of(GROUP_KEYS)
 }
 
 /// One bit for every mark key, all zero between uses.
@@ -600,8 +609,8 @@ struct SeenMarks(Vec<u64>);
 
 impl Default for SeenMarks {
     fn default() -> SeenMarks {
-        let keys = usize::from(MAX_WORKSHOP_GROUP + 1) << 11;
-        SeenMarks(vec![0; keys / 64])
+        let keys = u32::from(MAX_WORKSHOP_GROUP + 1) * GROUP_KEYS;
+        SeenMarks(vec![0; keys as usize / 64])
     }
 }
 
@@ -611,7 +620,7 @@ impl SeenMarks {
         for key in keys.clone() {
             let word = &mut self.0[(key / 64) as usize];
             twice |= *word >> (key % 64) & 1;
-            *word |= 1 << (key % 64);
+            *word |= u64::from(may_tie(key)) << (key % 64);
         }
         for key in keys {
             self.0[(key / 64) as usize] = 0;

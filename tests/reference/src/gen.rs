@@ -74,6 +74,10 @@ pub struct Shape {
     pub late_lines: usize,
     /// How many books are full, in percent.
     pub full_books: usize,
+    /// How many records get a mark of -1000, or now and then -999, in percent.
+    pub never: usize,
+    /// In how many books with such marks one person gives -1000 to many, in percent.
+    pub picky: usize,
 }
 
 impl Shape {
@@ -92,6 +96,8 @@ impl Shape {
             reach: rng.pick(&[9, 9, 1000]),
             late_lines: rng.pick(&[0, 40, 100]),
             full_books: 50,
+            never: rng.pick(&[0, 0, 0, 5, 15, 40]),
+            picky: 30,
         }
     }
 
@@ -107,6 +113,8 @@ impl Shape {
             quota: rng.pick(&[1, 1, 2]),
             reach: 9,
             full_books: 70,
+            never: rng.pick(&[0, 20, 40]),
+            picky: 70,
             ..Shape::small(rng)
         }
     }
@@ -287,7 +295,7 @@ fn quota(rng: &mut Rng, shape: &Shape) -> u16 {
     }
 }
 
-/// A result for every pair, in the order of the pairs.
+/// A result for every pair, in the order of the pairs, and none of them never.
 pub fn full_book(rng: &mut Rng, case: &Case, reach: i16) -> Vec<Record> {
     let mut given = HashSet::new();
     let mut fresh_mark = |rng: &mut Rng, side: u8, person: u16, group: u16| loop {
@@ -297,7 +305,8 @@ pub fn full_book(rng: &mut Rng, case: &Case, reach: i16) -> Vec<Record> {
             return mark;
         }
     };
-    case.pairs
+    let mut book: Vec<Record> = case
+        .pairs
         .iter()
         .map(|pair| Record {
             student: pair.student,
@@ -305,12 +314,84 @@ pub fn full_book(rng: &mut Rng, case: &Case, reach: i16) -> Vec<Record> {
             student_mark: fresh_mark(rng, 0, pair.student, pair.student_group),
             workshop_mark: fresh_mark(rng, 1, pair.workshop, pair.workshop_group),
         })
-        .collect()
+        .collect();
+    // A -1000 that was drawn becomes the lowest mark that is left in its group.
+    let mut lowest_left = |side: u8, person: u16, group: u16| {
+        let left = (NEVER + 1..).find(|&mark| given.insert((side, person, group, mark)));
+        left.expect("a group has fewer people than marks")
+    };
+    for (pair, record) in case.pairs.iter().zip(&mut book) {
+        if record.student_mark == NEVER {
+            record.student_mark = lowest_left(0, pair.student, pair.student_group);
+        }
+        if record.workshop_mark == NEVER {
+            record.workshop_mark = lowest_left(1, pair.workshop, pair.workshop_group);
+        }
+    }
+    book
+}
+
+/// Gives so many of a hundred records a mark of -1000, from the student, from the workshop or from
+/// both; or one of -999, where its giver has no other.
+pub fn put_never(rng: &mut Rng, book: &mut [Record], percent: usize) {
+    let given = |record: &Record| {
+        [
+            (0, record.student, record.student_mark),
+            (1, record.workshop, record.workshop_mark),
+        ]
+    };
+    let mut lowest: HashSet<(u8, u16)> = book
+        .iter()
+        .flat_map(given)
+        .filter(|&(.., mark)| mark == NEVER + 1)
+        .map(|(side, person, _)| (side, person))
+        .collect();
+    for record in book {
+        if !rng.chance(percent) {
+            continue;
+        }
+        match rng.below(5) {
+            0 => (record.student_mark, record.workshop_mark) = (NEVER, NEVER),
+            1 | 2 => record.student_mark = NEVER,
+            3 if lowest.insert((0, record.student)) => record.student_mark = NEVER + 1,
+            4 if lowest.insert((1, record.workshop)) => record.workshop_mark = NEVER + 1,
+            _ => record.workshop_mark = NEVER,
+        }
+    }
+}
+
+/// One student or one workshop gives -1000 to about half of those met.
+fn put_picky(rng: &mut Rng, book: &mut [Record]) {
+    if book.is_empty() {
+        return;
+    }
+    let one = rng.pick(book);
+    let is_student = rng.chance(50);
+    for record in book {
+        if is_student && record.student == one.student && rng.chance(50) {
+            record.student_mark = NEVER;
+        }
+        if !is_student && record.workshop == one.workshop && rng.chance(50) {
+            record.workshop_mark = NEVER;
+        }
+    }
+}
+
+/// A result for every pair, as the shape says.
+pub fn shaped_book(rng: &mut Rng, case: &Case, shape: &Shape) -> Vec<Record> {
+    let mut book = full_book(rng, case, shape.reach);
+    if shape.never > 0 {
+        put_never(rng, &mut book, shape.never);
+        if rng.chance(shape.picky) {
+            put_picky(rng, &mut book);
+        }
+    }
+    book
 }
 
 /// A book in any order, full, partial or empty.
-pub fn some_book(rng: &mut Rng, case: &Case, shape: &Shape) -> Vec<Record> {
-    let mut book = full_book(rng, case, shape.reach);
+fn some_book(rng: &mut Rng, case: &Case, shape: &Shape) -> Vec<Record> {
+    let mut book = shaped_book(rng, case, shape);
     if !rng.chance(shape.full_books) {
         let kept = rng.pick(&[95, 80, 50, 0]);
         book.retain(|_| rng.chance(kept));
@@ -319,10 +400,16 @@ pub fn some_book(rng: &mut Rng, case: &Case, shape: &Shape) -> Vec<Record> {
     book
 }
 
-/// A case and a book of this shape, with buffers that just suffice.
-pub fn input(rng: &mut Rng, shape: &Shape) -> Input {
+/// A case and a book of this shape.
+pub fn case_and_book(rng: &mut Rng, shape: &Shape) -> (Case, Vec<Record>) {
     let case = case(rng, shape);
     let book = some_book(rng, &case, shape);
+    (case, book)
+}
+
+/// A case and a book of this shape, with buffers that just suffice.
+pub fn input(rng: &mut Rng, shape: &Shape) -> Input {
+    let (case, book) = case_and_book(rng, shape);
     case.input(&book)
 }
 
@@ -570,8 +657,8 @@ fn book_stranger(rng: &mut Rng, input: &mut Input) {
 
 /// Puts a mark at the edge of the range into a record.
 fn book_mark(rng: &mut Rng, input: &mut Input) {
-    const EDGES: [i16; 12] = [
-        0, 0, 1, -1, 999, 1000, -1000, 1001, -1001, 1002, 32767, -32768,
+    const EDGES: [i16; 14] = [
+        0, 0, 1, -1, 999, 1000, -999, -1000, -1000, 1001, -1001, 1002, 32767, -32768,
     ];
     if let Some(start) = record_start(rng, &input.book, BOOK_RECORD) {
         let at = start + rng.pick(&[4, 6]);
@@ -579,7 +666,8 @@ fn book_mark(rng: &mut Rng, input: &mut Input) {
     }
 }
 
-/// Gives a record the mark of another record of the same person, if one is found.
+/// Gives a record the mark of another record of the same person, if one is found; the other mark
+/// of one of the two may become never.
 fn book_equal_mark(rng: &mut Rng, input: &mut Input) {
     let book = &mut input.book;
     for _ in 0..20 {
@@ -593,6 +681,10 @@ fn book_equal_mark(rng: &mut Rng, input: &mut Input) {
         if from != to && get_field(book, from + side) == get_field(book, to + side) {
             let mark = get_field(book, from + side + 4);
             set_field(book, to + side + 4, mark);
+            if rng.chance(30) {
+                let other_side = 2 - side;
+                set_field(book, rng.pick(&[from, to]) + other_side + 4, NEVER as u16);
+            }
             return;
         }
     }

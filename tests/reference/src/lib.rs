@@ -9,6 +9,7 @@ pub mod lending;
 pub mod literal;
 pub mod model;
 pub mod mutants;
+pub mod never;
 pub mod program;
 pub mod proved;
 pub mod tally;

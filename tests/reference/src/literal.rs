@@ -21,6 +21,13 @@ pub fn answer(input: &Input) -> Answer {
 
 /// Tests the eleven causes in their order and decodes what passes.
 pub fn read(input: &Input) -> Result<(Case, Vec<Record>), Refusal> {
+    let (case, book) = read_before_ties(input)?;
+    refuse_at(11, first_equal_mark(&PairTable::new(&case), &book))?;
+    Ok((case, book))
+}
+
+/// Tests the causes before 11.
+pub fn read_before_ties(input: &Input) -> Result<(Case, Vec<Record>), Refusal> {
     let case = read_case(&input.case)?;
     if !input.lent.suffice(&case.needed()) {
         return refuse(6, 0);
@@ -157,15 +164,13 @@ fn read_book(case: &Case, bytes: &[u8]) -> Result<Vec<Record>, Refusal> {
         return refuse(7, 0);
     }
     let book: Vec<Record> = bytes.chunks(BOOK_RECORD).map(decode_record).collect();
-    let pairs = PairTable::new(case);
-    refuse_at(8, first_without_pair(&pairs, &book))?;
+    refuse_at(8, first_without_pair(&PairTable::new(case), &book))?;
     refuse_at(9, first_bad_mark(&book))?;
     refuse_at(10, first_repeated_pair(&book))?;
-    refuse_at(11, first_equal_mark(&pairs, &book))?;
     Ok(book)
 }
 
-fn decode_record(bytes: &[u8]) -> Record {
+pub fn decode_record(bytes: &[u8]) -> Record {
     Record {
         student: field(bytes, 0),
         workshop: field(bytes, 1),
@@ -191,6 +196,7 @@ fn first_repeated_pair(book: &[Record]) -> Option<usize> {
         .position(|record| !earlier.insert((record.student, record.workshop)))
 }
 
+/// Cause 11 passes over marks of -1000, and over nothing else of their records.
 fn first_equal_mark(pairs: &PairTable, book: &[Record]) -> Option<usize> {
     let mut by_students = HashSet::new();
     let mut by_workshops = HashSet::new();
@@ -198,10 +204,12 @@ fn first_equal_mark(pairs: &PairTable, book: &[Record]) -> Option<usize> {
         let (student_group, workshop_group) = pairs
             .get(record.student, record.workshop)
             .expect("cause 8 comes first");
-        let student_new = by_students.insert((record.student, student_group, record.student_mark));
-        let workshop_new =
-            by_workshops.insert((record.workshop, workshop_group, record.workshop_mark));
-        !student_new || !workshop_new
+        let (by_student, by_workshop) = (record.student_mark, record.workshop_mark);
+        let student_ties =
+            by_student != NEVER && !by_students.insert((record.student, student_group, by_student));
+        let workshop_ties = by_workshop != NEVER
+            && !by_workshops.insert((record.workshop, workshop_group, by_workshop));
+        student_ties || workshop_ties
     })
 }
 
@@ -408,7 +416,9 @@ impl<'a> Run<'a> {
         let in_line_group =
             self.workshop_group(student, workshop) == Some(self.workshop_line(workshop));
         let turned_away = in_line_group && self.workshop_mark(student, workshop) < 0;
-        self.open[student][workshop] = !turned_away;
+        let never = self.student_mark(student, workshop) == NEVER
+            || self.workshop_mark(student, workshop) == NEVER;
+        self.open[student][workshop] = !turned_away && !never;
         Ok(())
     }
 

@@ -9,6 +9,8 @@ use reference::gen::{self, Rng, Shape};
 use reference::lending::{self, Call, Loan};
 use reference::model::*;
 use reference::mutants::{self, Mutant};
+use reference::never::{Kinds, Ties};
+use reference::proved::Proved;
 use reference::tally::{self, Part, Tally};
 use reference::{header, literal, program, proved};
 use std::path::Path;
@@ -97,6 +99,18 @@ impl Comparison {
         }
         expected
     }
+
+    /// The same for a case and a book with buffers that just suffice; counts the kinds of never.
+    fn check_counting(
+        &mut self,
+        tally: &mut Tally,
+        (case, book): &(Case, Vec<Record>),
+        kinds: &mut Kinds,
+    ) -> Answer {
+        let answer = self.check(tally, &case.input(book));
+        kinds.count(case, book, answer.visits());
+        answer
+    }
 }
 
 fn main() -> ExitCode {
@@ -159,12 +173,21 @@ fn parts(options: &Options) -> Vec<Part<'_>> {
 fn proved_cases(tally: &mut Tally, options: &Options) {
     let mut comparison = Comparison::new(options.rng(0));
     let table = proved::table();
+    let never = proved::of_never();
     tally.check(table.len() == 15, || "the table has 15 cases".to_string());
-    for proved in table {
+    tally.check(never.len() == 26, || "never has 26 rows".to_string());
+    for proved in table.iter().chain(&never) {
         let answer = comparison.check(tally, &proved.input);
         tally.check(proved.expected.holds(&answer), || {
             format!("{}: {answer:?}", proved.name)
         });
+    }
+    tally.note(&format!("{} rows for never, failed by:", never.len()));
+    for mutant in mutants::about_never() {
+        let fails = |row: &&Proved| !row.expected.holds(&(mutant.answer)(&row.input));
+        let count = never.iter().filter(fails).count();
+        tally.note(&format!("{count:6} {}", mutant.name));
+        tally.check(count > 0, || format!("fails no row: {}", mutant.name));
     }
     let (case, book) = proved::example();
     let text = literal::answer(&case.input(&book)).text();
@@ -184,44 +207,63 @@ fn proved_cases(tally: &mut Tally, options: &Options) {
 fn small_cases(tally: &mut Tally, options: &Options) {
     let mut rng = options.rng(1);
     let mut comparison = Comparison::new(options.rng(101));
+    let mut kinds = Kinds::default();
     let (mut placed, mut next) = (0, 0);
     for _ in 0..options.count(200_000) {
-        let input = gen::small_input(&mut rng);
-        match comparison.check(tally, &input) {
+        let shape = Shape::small(&mut rng);
+        let drawn = gen::case_and_book(&mut rng, &shape);
+        match comparison.check_counting(tally, &drawn, &mut kinds) {
             Answer::Placed { .. } => placed += 1,
             Answer::Next { .. } => next += 1,
-            Answer::Refused { .. } => tally.check(false, || input.describe()),
+            Answer::Refused { .. } => tally.check(false, || format!("{drawn:?}")),
         }
     }
     tally.note(&format!("{placed} placed, {next} with a next visit"));
     tally.check(placed > 100 && next > 100, || "one kind is rare".into());
+    kinds.check(tally, "runs");
 }
 
 fn middle_cases(tally: &mut Tally, options: &Options) {
     let mut rng = options.rng(10);
     let mut comparison = Comparison::new(options.rng(110));
+    let mut kinds = Kinds::default();
     for _ in 0..options.count(8000) {
         let shape = Shape::middle(&mut rng);
-        comparison.check(tally, &gen::input(&mut rng, &shape));
+        let drawn = gen::case_and_book(&mut rng, &shape);
+        comparison.check_counting(tally, &drawn, &mut kinds);
     }
+    kinds.check(tally, "runs");
 }
 
 fn large_cases(tally: &mut Tally, options: &Options) {
     let mut rng = options.rng(2);
     let mut comparison = Comparison::new(options.rng(102));
+    let mut kinds = Kinds::default();
     let mut visits = 0;
+    let mut check = |drawn: &(Case, Vec<Record>)| {
+        let answer = comparison.check_counting(tally, drawn, &mut kinds);
+        visits += answer.visits().len();
+    };
     let shapes = Shape::large(&mut rng);
     let step = shapes.len() / options.count(shapes.len());
     for shape in shapes.iter().step_by(step) {
-        let input = gen::input(&mut rng, shape);
-        visits += comparison.check(tally, &input).visits().len();
+        check(&gen::case_and_book(&mut rng, shape));
     }
     for (d, e) in [(1, 1), (1, 8), (4, 1), (4, 8), (64, 512)] {
         let case = gen::experiment(&mut rng, 512, 64, d, e);
         let book = gen::full_book(&mut rng, &case, MAX_MARK);
-        visits += comparison.check(tally, &case.input(&book)).visits().len();
+        let mut drawn = (case, book);
+        check(&drawn);
+        gen::put_never(&mut rng, &mut drawn.1, 10);
+        check(&drawn);
+        // The last groups become the line groups.
+        let case = &mut drawn.0;
+        case.students.iter_mut().for_each(|s| s.line = d as u16);
+        case.workshops.iter_mut().for_each(|w| w.line = e as u16);
+        check(&drawn);
     }
     tally.note(&format!("{visits} visits"));
+    kinds.check(tally, "runs");
 }
 
 fn byte_sweeps(tally: &mut Tally, options: &Options) {
@@ -229,6 +271,7 @@ fn byte_sweeps(tally: &mut Tally, options: &Options) {
     let mut comparison = Comparison::new(options.rng(103));
     let (case, book) = proved::example();
     let mut bases = vec![case.input(&book)];
+    bases.extend(proved::of_never().into_iter().map(|row| row.input));
     for _ in 0..options.count(100) {
         bases.push(gen::small_input(&mut rng));
     }
@@ -244,12 +287,17 @@ fn damaged_input(tally: &mut Tally, options: &Options) {
     let mut comparison = Comparison::new(options.rng(104));
     let mut seen = [0; 12];
     let mut later_record = [false; 12];
+    let mut ties = Ties::default();
     for _ in 0..options.count(400_000) {
         let input = gen::damaged_input(&mut rng);
         let (number, place) = match comparison.check(tally, &input) {
             Answer::Refused { number, place } => (usize::from(number), place),
             _ => (0, 0),
         };
+        if number == 11 {
+            let (case, book) = literal::read_before_ties(&input).expect("refused by 11");
+            ties.count(&case, &book, place);
+        }
         seen[number] += 1;
         later_record[number] |= place > 0;
     }
@@ -265,6 +313,7 @@ fn damaged_input(tally: &mut Tally, options: &Options) {
             format!("places of refusal {number}")
         });
     }
+    ties.check(tally);
 }
 
 fn oversized_input(tally: &mut Tally, options: &Options) {
@@ -282,23 +331,27 @@ fn oversized_input(tally: &mut Tally, options: &Options) {
 fn visit_by_visit(tally: &mut Tally, options: &Options) {
     let mut rng = options.rng(6);
     let mut comparison = Comparison::new(options.rng(106));
+    let mut kinds = Kinds::default();
     for _ in 0..options.count(20_000) {
-        drive(tally, &mut comparison, &mut rng, Shape::small);
+        let shape = Shape::small(&mut rng);
+        drive(tally, &mut comparison, &mut rng, &shape, &mut kinds);
     }
     for _ in 0..options.count(60) {
-        drive(tally, &mut comparison, &mut rng, Shape::middle);
+        let shape = Shape::middle(&mut rng);
+        drive(tally, &mut comparison, &mut rng, &shape, &mut kinds);
     }
+    kinds.check(tally, "runs");
 }
 
 fn drive(
     tally: &mut Tally,
     comparison: &mut Comparison,
     rng: &mut Rng,
-    shape: fn(&mut Rng) -> Shape,
+    shape: &Shape,
+    kinds: &mut Kinds,
 ) {
-    let shape = shape(rng);
-    let case = gen::case(rng, &shape);
-    let hidden = gen::full_book(rng, &case, shape.reach);
+    let case = gen::case(rng, shape);
+    let hidden = gen::shaped_book(rng, &case, shape);
     let mut book: Vec<Record> = Vec::new();
     loop {
         let answer = comparison.check(tally, &case.input(&book));
@@ -316,7 +369,7 @@ fn drive(
                 book.push(*result.expect("only pairs are asked for"));
             }
             last => {
-                let whole = comparison.check(tally, &case.input(&hidden));
+                let whole = comparison.check_counting(tally, &(case, hidden), kinds);
                 tally.check(last == whole, || format!("{last:?}\nfull book: {whole:?}"));
                 return;
             }
@@ -329,11 +382,12 @@ fn all_strict_orders(tally: &mut Tally, options: &Options) {
     let mut rng = options.rng(7);
     let mut comparison = Comparison::new(options.rng(107));
     let mut effort = Effort::default();
+    let (mut met, mut met_agreeing) = (Kinds::default(), Kinds::default());
     let (mut finished, mut agreeing, mut orders) = (0, 0, 0);
-    while finished < options.count(6000) {
+    let mut without_record = 0;
+    while finished < options.count(6000).max(600) {
         let shape = Shape::tiny(&mut rng);
-        let case = gen::case(&mut rng, &shape);
-        let book = gen::some_book(&mut rng, &case, &shape);
+        let (case, book) = gen::case_and_book(&mut rng, &shape);
         let answer = comparison.check(tally, &case.input(&book));
         let Answer::Placed { places, visits } = answer else {
             continue;
@@ -343,6 +397,8 @@ fn all_strict_orders(tally: &mut Tally, options: &Options) {
         };
         finished += 1;
         orders += world.orders();
+        met.count(&case, &book, &visits);
+        without_record += usize::from(book.len() < case.pairs.len());
         let trial = Trial {
             world: &world,
             case: &case,
@@ -351,6 +407,7 @@ fn all_strict_orders(tally: &mut Tally, options: &Options) {
         trial.demand_two(tally, &places, &visits);
         if case.stages_agree() {
             agreeing += 1;
+            met_agreeing.count(&case, &book, &visits);
             trial.demand_three(tally, &places, &visits, &mut effort);
         }
     }
@@ -358,11 +415,20 @@ fn all_strict_orders(tally: &mut Tally, options: &Options) {
         "{finished} finished runs, {agreeing} with agreeing stages, {orders} full orders"
     ));
     tally.note(&format!(
-        "sets of visits with the placed pairs: {} sure, {} not sure",
-        effort.sure_sets, effort.unsure_sets
+        "{without_record} runs with a pair that has no record and may be never"
+    ));
+    tally.note(&format!(
+        "sets of visits with the placed pairs: {} sure, {} not sure, {} of these only because a \
+         pair that was not met may be never",
+        effort.sure_sets, effort.unsure_sets, effort.unsure_by_never
     ));
     tally.check(agreeing * 2 > finished, || "few stages agree".to_string());
     tally.check(effort.unsure_sets > 0, || "all sets are sure".to_string());
+    tally.check(without_record > 0 && effort.unsure_by_never > 0, || {
+        "no pair that may be never counts".to_string()
+    });
+    met.check(tally, "finished runs");
+    met_agreeing.check(tally, "finished runs with agreeing stages");
 }
 
 /// One tiny case with everything that could be true of it.
@@ -418,10 +484,10 @@ impl Trial<'_> {
     }
 }
 
-/// Each slip of a careful hand gives a placement that breaks demand 2 or demand 3.
+/// Each of these slips gives a placement that breaks demand 2 or demand 3.
 fn slips_break_demands(tally: &mut Tally, options: &Options) {
     const MOST: usize = 100_000;
-    for slip in mutants::slips_of_a_careful_hand() {
+    for slip in mutants::that_break_demands() {
         let mut rng = options.rng(11);
         let needed = (1..=MOST).find(|_| breaks_a_demand(&mut rng, &slip));
         tally.note(&match needed {
@@ -437,8 +503,7 @@ fn slips_break_demands(tally: &mut Tally, options: &Options) {
 /// Whether the slip shows as a broken demand in the next tiny case.
 fn breaks_a_demand(rng: &mut Rng, slip: &Mutant) -> bool {
     let shape = Shape::tiny(rng);
-    let case = gen::case(rng, &shape);
-    let book = gen::some_book(rng, &case, &shape);
+    let (case, book) = gen::case_and_book(rng, &shape);
     let input = case.input(&book);
     let answer = (slip.answer)(&input);
     if answer == literal::answer(&input) {
@@ -482,10 +547,12 @@ fn told_apart(tally: &mut Tally, inputs: &[Input], mutants: &[Mutant]) {
             .filter(|(input, expected)| (mutant.answer)(input) != **expected)
             .count()
     };
-    let control = differing(&mutants::control());
-    tally.check(control == 0, || {
-        format!("the control differs {control} times")
-    });
+    for control in mutants::controls() {
+        let count = differing(&control);
+        tally.check(count == 0, || {
+            format!("{} differs {count} times", control.name)
+        });
+    }
     tally.note(&format!("{} inputs, told apart by:", inputs.len()));
     for mutant in mutants {
         let count = differing(mutant);

@@ -14,6 +14,8 @@ pub const MAX_STUDENT_GROUP: u16 = 65;
 /// Largest group or line a workshop may use.
 pub const MAX_WORKSHOP_GROUP: u16 = 513;
 pub const MAX_MARK: i16 = 1000;
+/// The mark that means never: the two cannot be placed together.
+pub const NEVER: i16 = -1000;
 
 #[derive(Clone, Copy, Debug, PartialEq, Eq)]
 pub struct Student {

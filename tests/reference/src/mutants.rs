@@ -35,11 +35,21 @@ enum Slip {
     DeleteByUnvisitedMarks,
     DeleteWholeGroup,
     PastOwnLine,
+    NeverFromStudentOnly,
+    NeverFromWorkshopOnly,
+    NeverInLineGroupOnly,
+    NeverNotListed,
+    LowestIsNever,
 }
 
-/// A rule without a slip; it must never differ.
-pub fn control() -> Mutant {
-    rule("no slip", Slip::Nothing)
+/// Without a slip; they must agree with the literal reference.
+pub fn controls() -> Vec<Mutant> {
+    vec![
+        rule("no slip", Slip::Nothing),
+        on_ties("no slip in cause 11", |given| {
+            (given.mark != NEVER).then_some((given.group, given.mark))
+        }),
+    ]
 }
 
 /// Slips that small cases show.
@@ -47,12 +57,21 @@ pub fn all() -> Vec<Mutant> {
     let mut mutants = rules(|_| true);
     mutants.extend(bad_engines());
     mutants.extend(slips_of_refusal());
+    mutants.extend(refusals_of_never());
     mutants
 }
 
-/// The slips that document 01 lists; each of them breaks demand 2 or demand 3.
-pub fn slips_of_a_careful_hand() -> Vec<Mutant> {
-    rules(Slip::of_a_careful_hand)
+/// The slips around never.
+pub fn about_never() -> Vec<Mutant> {
+    let mut mutants = rules(Slip::about_never);
+    mutants.extend(refusals_of_never());
+    mutants
+}
+
+/// The slips that document 01 lists and those around never; each of them breaks demand 2 or
+/// demand 3.
+pub fn that_break_demands() -> Vec<Mutant> {
+    rules(|slip| slip.of_a_careful_hand() || slip.about_never())
 }
 
 fn rules(chosen: fn(Slip) -> bool) -> Vec<Mutant> {
@@ -72,9 +91,38 @@ impl Slip {
                 | Slip::DeleteBeforeFull
         )
     }
+
+    fn about_never(self) -> bool {
+        matches!(
+            self,
+            Slip::NeverFromStudentOnly
+                | Slip::NeverFromWorkshopOnly
+                | Slip::NeverInLineGroupOnly
+                | Slip::NeverNotListed
+                | Slip::LowestIsNever
+        )
+    }
+
+    /// `in_line_groups`: whether the workshop is in the student's line group, and she in its.
+    fn takes_for_never(self, record: &Record, in_line_groups: (bool, bool)) -> bool {
+        let last = match self {
+            Slip::LowestIsNever => NEVER + 1,
+            _ => NEVER,
+        };
+        let from_student = record.student_mark <= last;
+        let from_workshop = record.workshop_mark <= last;
+        match self {
+            Slip::NeverFromStudentOnly => from_student,
+            Slip::NeverFromWorkshopOnly => from_workshop,
+            Slip::NeverInLineGroupOnly => {
+                from_student && in_line_groups.0 || from_workshop && in_line_groups.1
+            }
+            _ => from_student || from_workshop,
+        }
+    }
 }
 
-const SLIPS: [(Slip, &str); 20] = [
+const SLIPS: [(Slip, &str); 25] = [
     (Slip::DeleteOnlyVisited, "deletes only visited students"),
     (Slip::OpenWhileOpen, "opens a group while one is open"),
     (Slip::MarksAcrossGroups, "compares marks across groups"),
@@ -101,6 +149,17 @@ const SLIPS: [(Slip, &str); 20] = [
     (Slip::DeleteByUnvisitedMarks, "deletes by unvisited marks"),
     (Slip::DeleteWholeGroup, "deletes the whole last group"),
     (Slip::PastOwnLine, "goes past the student's line"),
+    (
+        Slip::NeverFromStudentOnly,
+        "never from the student's side only",
+    ),
+    (
+        Slip::NeverFromWorkshopOnly,
+        "never from the workshop's side only",
+    ),
+    (Slip::NeverInLineGroupOnly, "never in the line group only"),
+    (Slip::NeverNotListed, "a never visit is not listed"),
+    (Slip::LowestIsNever, "-999 is never too"),
 ];
 
 /// Slips that show only where there are many people or records.
@@ -187,14 +246,23 @@ fn slips_of_refusal() -> Vec<Mutant> {
         mutant("forgets the buffers", |input| {
             literal::answer(&with_ample_buffers(input))
         }),
-        mutant("forgets equal marks", |input| {
-            let (number, _) = refusal_of(input);
-            match literal::read(&without_equal_marks(input)) {
-                Ok((case, book)) if number == 11 => literal::run(&case, &book),
-                _ => literal::answer(input),
-            }
+        on_ties("forgets equal marks", |_| None),
+        on_ties("equal marks across groups", |given| {
+            (given.mark != NEVER).then_some((0, given.mark))
         }),
-        mutant("equal marks across groups", equal_across_groups),
+    ]
+}
+
+fn refusals_of_never() -> Vec<Mutant> {
+    vec![
+        on_ties("-1000 is an equal mark", |given| {
+            Some((given.group, given.mark))
+        }),
+        on_ties("passes over both marks of a never", |given| {
+            let never = given.mark == NEVER || given.other == NEVER;
+            (!never).then_some((given.group, given.mark))
+        }),
+        mutant("-1000 is out of range", never_out_of_range),
     ]
 }
 
@@ -236,6 +304,69 @@ fn on_refused(name: &'static str, change: fn(&Input, u16, usize) -> (u16, usize)
         }
         other => other,
     })
+}
+
+/// A mark as cause 11 meets it.
+struct Given {
+    group: u16,
+    mark: i16,
+    /// The other mark of the record.
+    other: i16,
+}
+
+/// The answer if two marks of one person are equal when their keys are; without a key a mark is
+/// passed over. A record that repeats a mark and is not refused is left out of the run.
+fn on_ties(name: &'static str, key: fn(Given) -> Option<(u16, i16)>) -> Mutant {
+    mutant(name, move |input| {
+        let Ok((case, book)) = literal::read_before_ties(input) else {
+            return literal::answer(input);
+        };
+        let pairs = PairTable::new(&case);
+        let mut earlier = HashSet::new();
+        let tie = book.iter().position(|record| {
+            let (student_group, workshop_group) = pairs
+                .get(record.student, record.workshop)
+                .expect("cause 8 comes first");
+            let (mark, other) = (record.student_mark, record.workshop_mark);
+            let by_student = key(Given {
+                group: student_group,
+                mark,
+                other,
+            });
+            let by_workshop = key(Given {
+                group: workshop_group,
+                mark: other,
+                other: mark,
+            });
+            let student_ties =
+                by_student.is_some_and(|key| !earlier.insert((0, record.student, key)));
+            let workshop_ties =
+                by_workshop.is_some_and(|key| !earlier.insert((1, record.workshop, key)));
+            student_ties || workshop_ties
+        });
+        if let Some(place) = tie {
+            return Answer::Refused { number: 11, place };
+        }
+        match literal::answer(input) {
+            Answer::Refused { .. } => literal::answer(&without_equal_marks(input)),
+            answer => answer,
+        }
+    })
+}
+
+/// Takes -1000 for a mark outside the range.
+fn never_out_of_range(input: &Input) -> Answer {
+    let bad = |mark: i16| mark == 0 || !(NEVER + 1..=MAX_MARK).contains(&mark);
+    let mut records = input
+        .book
+        .chunks_exact(BOOK_RECORD)
+        .map(literal::decode_record);
+    let first = records.position(|record| bad(record.student_mark) || bad(record.workshop_mark));
+    match (literal::answer(input), first) {
+        (Answer::Refused { number, place }, _) if number < 9 => Answer::Refused { number, place },
+        (_, Some(place)) => Answer::Refused { number: 9, place },
+        (answer, None) => answer,
+    }
 }
 
 /// Names the first pair of the file that has no result, before running.
@@ -316,23 +447,6 @@ fn without_equal_marks(input: &Input) -> Input {
     input
 }
 
-/// Takes an equal mark in another group for a fault too.
-fn equal_across_groups(input: &Input) -> Answer {
-    let Ok((_, book)) = literal::read(input) else {
-        return literal::answer(input);
-    };
-    let mut given = HashSet::new();
-    let repeated = book.iter().position(|record| {
-        let first = given.insert((0, record.student, record.student_mark));
-        let second = given.insert((1, record.workshop, record.workshop_mark));
-        !first || !second
-    });
-    match repeated {
-        Some(place) => Answer::Refused { number: 11, place },
-        None => literal::answer(input),
-    }
-}
-
 // ---- The rule with a slip ----
 
 #[derive(Clone, Default)]
@@ -341,6 +455,7 @@ struct Cell {
     workshop_group: u16,
     /// The two marks, if the book has them.
     marks: Option<(i32, i32)>,
+    never: bool,
     deleted: bool,
     visited: bool,
     open: bool,
@@ -401,7 +516,13 @@ impl<'a> Sloppy<'a> {
             let marks = (read(record.student_mark), read(record.workshop_mark));
             let (s, w) = (usize::from(record.student), usize::from(record.workshop));
             let cell = self.cells[s - 1][w - 1].as_mut();
-            cell.expect("the book was checked").marks = Some(marks);
+            let cell = cell.expect("the book was checked");
+            let in_line_groups = (
+                cell.student_group == self.case.students[s - 1].line,
+                cell.workshop_group == self.case.workshops[w - 1].line,
+            );
+            cell.marks = Some(marks);
+            cell.never = self.slip.takes_for_never(record, in_line_groups);
         }
     }
 
@@ -514,14 +635,17 @@ impl<'a> Sloppy<'a> {
         let anywhere = self.has(Slip::WorkshopNegativeIsNo);
         let nowhere = self.has(Slip::WorkshopLineIgnored);
         let student_too = self.has(Slip::StudentNegativeIsNo);
+        let nevers_listed = !self.has(Slip::NeverNotListed);
         let cell = self.cells[s][w].as_mut().expect("they have a pair");
         let (student_mark, workshop_mark) = cell.marks.ok_or(w)?;
         let decides = (cell.workshop_group == line || anywhere) && !nowhere;
         let refused = decides && workshop_mark < 0;
         let declined = student_too && student_mark < 0;
-        cell.open = !refused && !declined;
+        cell.open = !refused && !declined && !cell.never;
         cell.visited = true;
-        self.visits.push((s as u16 + 1, w as u16 + 1));
+        if !cell.never || nevers_listed {
+            self.visits.push((s as u16 + 1, w as u16 + 1));
+        }
         Ok(())
     }
 

@@ -107,7 +107,7 @@ fn expected_text(input: &Input) -> String {
 /// Runs all program tests; `seed` chooses the random ones.
 pub fn run(tally: &mut Tally, program: &Path, seed: u64, random_cases: usize) {
     let bench = Bench::new(program).expect("the program can be copied to a temporary folder");
-    for proved in proved::table() {
+    for proved in proved::table().iter().chain(&proved::of_never()) {
         bench.expect_answer(tally, proved.name, &proved.input);
     }
     stored_runs(tally, &bench);

@@ -301,7 +301,7 @@ loop-again-2 c =
     let here = d .before .before .loop in
     let x = comes d in
     let t = tier-at (a .case .now) (a .s) (d .second-at .result) _ _ (pair-at d .1) (x .pair) refl in
-    let o = c .opened .ensures (a .s) t (sym (entered (c .before .before .before .before .before) .workshopScore)) in
+    let o = c .opened .ensures (a .s) t (entered (c .before .before .before .before .before)) in
     let r = round-held (marketIn (a .case .now)) (resultsIn (a .book .now)) (a .seats .now) (a .s) (a .tier) (a .set) (a .held) (a .visits .now)
     (here .visits) (here .count) (here .openings) (x .at) (a .workshops) (x .so) (start .pre .1 .1 .1) (x .below) (d .second-at .result) (x .number)
     (due (c .before .before .before .before .before .before .before)) (booked (c .before .before .before .before .before) .met) in

@@ -26,8 +26,10 @@ const SPARSE: [(usize, usize, usize); 5] = [
 ];
 /// Student groups and workshop groups.
 const GROUPS: [(usize, usize); 3] = [(4, 8), (8, 8), (1, 1)];
-/// The size at which the growth with the pairs is told.
+/// The size at which the growth with the pairs is told, and a book with never is timed.
 const LARGEST: (usize, usize) = (512, 64);
+/// About how many of a hundred records have never in that book; the other books have none.
+const NEVER_SHARE: usize = 10;
 
 /// Buffers that an input needs, zero at first.
 struct Buffers {
@@ -73,11 +75,20 @@ struct Times {
     fast: f64,
 }
 
-fn timing_input(students: usize, workshops: usize, (d, e): (usize, usize), kept: usize) -> Input {
+/// `kept`: how many of a hundred pairs have a record; `never`: about how many records have never.
+fn timing_input(
+    (students, workshops): (usize, usize),
+    (d, e): (usize, usize),
+    kept: usize,
+    never: usize,
+) -> Input {
     let mut rng = Rng::new(2024);
     let mut case = gen::experiment(&mut rng, students, workshops, d, e);
     case.pairs.retain(|_| rng.chance(kept));
     let mut book = gen::full_book(&mut rng, &case, MAX_MARK);
+    if never > 0 {
+        gen::put_never(&mut rng, &mut book, never);
+    }
     rng.shuffle(&mut book);
     case.input(&book)
 }
@@ -120,9 +131,10 @@ fn median(mut times: Vec<f64>) -> f64 {
 }
 
 /// Times one input and prints its line; an answer other than the literal reference's is an error.
-fn line(students: usize, workshops: usize, input: &Input) -> Result<Times, String> {
+fn line((students, workshops): (usize, usize), input: &Input) -> Result<Times, String> {
     let expected = literal::answer(input);
-    lending::check(&engine::call, input, &expected, &mut Rng::new(1))?;
+    lending::check(&engine::call, input, &expected, &mut Rng::new(1))
+        .map_err(|what| format!("{students}x{workshops}: {what}"))?;
     let times = measure(input);
     let pairs = pairs_of(input) as f64;
     println!(
@@ -161,14 +173,16 @@ fn lines(groups: (usize, usize)) -> Result<(), String> {
     let full = SIZES.map(|(students, workshops)| (students, workshops, 100));
     let mut grown = Vec::new();
     for (students, workshops, kept) in full.into_iter().chain(SPARSE) {
-        let input = timing_input(students, workshops, groups, kept);
-        let times = line(students, workshops, &input)
-            .map_err(|what| format!("{students}x{workshops}: {what}"))?;
-        if (students, workshops) == LARGEST {
+        let size = (students, workshops);
+        let input = timing_input(size, groups, kept, 0);
+        let times = line(size, &input)?;
+        if size == LARGEST {
             grown.push((pairs_of(&input), times.engine));
         }
     }
     growth(&grown);
+    println!("with never in about {NEVER_SHARE} of a hundred records:");
+    line(LARGEST, &timing_input(LARGEST, groups, 100, NEVER_SHARE))?;
     Ok(())
 }
 
