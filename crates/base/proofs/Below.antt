@@ -12,7 +12,7 @@ use lib.ListN.{length, getD, take, set, replicate, length-append, length-set, Li
 use lib.Seq.{getD-at, getD-set-same, getD-set-other, take-append-le, take-all, ext-getD}
 use Rattle.base.specs.Lists.{one, any, tabulate, tally, find}
 use Rattle.base.specs.Below.{anyBelow, countBelow}
-use Rattle.base.proofs.Tests.{less?, eq?, bool-cases, never}
+use Rattle.base.proofs.Tests.{less?, eq?, bool-cases, never, or-none}
 
 -- ---- a loop's turn
 pub count-on : (p : ℕ → Bool) (i : ℕ) → countBelow p (i + 1) ≡ countBelow p i + one (p i)
@@ -109,10 +109,6 @@ module _ {A : Type 0} (f : ℕ → A) where
     any-snoc : (xs : List A) (y : A) → any p (xs ++ (y ∷ [])) ≡ (any p xs || p y)
     unfolding any
     any-snoc [] y = or-none (p y)
-      where
-        or-none : (a : Bool) → (a || false) ≡ a
-        or-none true = refl
-        or-none false = refl
     any-snoc (x ∷ xs) y = rw (any-snoc xs y) (assoc (p x))
       where
         assoc : (a : Bool) → (a || (any p xs || p y)) ≡ ((a || any p xs) || p y)

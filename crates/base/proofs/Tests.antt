@@ -50,6 +50,10 @@ pub or-false : (a b : Bool) → (a || b) ≡ false → (a ≡ false) × (b ≡ f
 or-false true b e = never refl e
 or-false false b e = (refl, e)
 
+pub or-none : (a : Bool) → (a || false) ≡ a
+or-none true = refl
+or-none false = refl
+
 pub eq? : (a b : ℕ) → (a ≡ b) ⊎ (a ≡ b → ⊥)
 eq? a b = ⊎-elim (λ e. inl (eqb-true _ _ e)) (λ e. inr (eqb-false _ _ e)) (bool-cases (eqb a b))
 

@@ -69,7 +69,16 @@ pub fn link(case: &[u8], students: usize, table: &mut [u64])
 
 // ---- the reading
 
-// Student s and workshop w have a pair. Names of nobody have none.
+// Student s and workshop w have a pair.
+pub fn has_pair(case: &[u8], table: &[u64], s: usize, w: usize) -> bool
+    requires { ⌜ Tabled (now case) (now table) ⌝ }
+    requires { ⌜ (1 ≤ s) × (s ≤ 512) × (1 ≤ w) × (w ≤ 64) ⌝ }
+    ensures { λ r. ⌜ r ≡ marketIn (now (case .entry)) .paired s w ⌝ }
+{
+    (table[s - 1] >> (w - 1)) % 2 == 1
+}
+
+// The same of any names. Names of nobody have no pair.
 pub fn is_paired(case: &[u8], table: &[u64], s: usize, w: usize) -> bool
     requires { ⌜ Tabled (now case) (now table) ⌝ }
     ensures { λ r. ⌜ r ≡ marketIn (now (case .entry)) .paired s w ⌝ }
@@ -77,7 +86,7 @@ pub fn is_paired(case: &[u8], table: &[u64], s: usize, w: usize) -> bool
     if ((s < 1) | (512 < s)) | ((w < 1) | (64 < w)) {
         return false;
     }
-    (table[s - 1] >> (w - 1)) % 2 == 1
+    has_pair(case, table, s, w)
 }
 
 // How many members of the set are below w.

@@ -308,7 +308,7 @@ fn workshop_shares(
 ) -> bool
     requires { ⌜ Indexed (now case) (now book) (now index) from ⌝ }
     requires { ⌜ Tabled (now case) (now table) ⌝ }
-    requires { ⌜ (1 ≤ w) × (students ≡ marketIn (now case) .students) ⌝ }
+    requires { ⌜ (1 ≤ w) × (w ≤ 64) × (students ≡ marketIn (now case) .students) ⌝ }
     requires { ⌜ Cursors (now table) (now next) students 0 w ⌝ }
     ensures { λ _. ⌜ Cursors (now (table .entry)) (now (next .exit)) students 0 (w + 1) ⌝ }
     ensures { λ r. ⌜ (r ≡ false → Apart false (now (case .entry)) (now (book .entry)) w) ⌝ }
@@ -317,7 +317,7 @@ fn workshop_shares(
     let mut shares = false;
     let mut k = 0;
     while k < students {
-        if tables::is_paired(case, table, k + 1, w) {
+        if tables::has_pair(case, table, k + 1, w) {
             let p = next[k];
             next[k] = p + 1;
             let again = met_again(case, book, index, from, false, p as usize, &mut seen);

@@ -9,7 +9,7 @@ ghost use Rattle.base.specs.Lists.{count};
 ghost use Rattle.base.specs.Words.{biased};
 ghost use Rattle.base.specs.Bits.{member, members, Low};
 ghost use Rattle.lgs.specs.Market.{Market, Results, seatsOf, seatsBefore};
-ghost use Rattle.lgs.specs.Rule.{unopened, best};
+ghost use Rattle.lgs.specs.Rule.{declined, unopened, best};
 ghost use Rattle.format.specs.Layout.{rowAt, rowCount, entryCount};
 ghost use Rattle.format.specs.Buffers.{flat};
 ghost use Rattle.format.specs.Engine.{marketIn, resultsIn};
@@ -317,8 +317,24 @@ fn is_shut(
     is_full_above(case, table, w, l, tier)
 }
 
-// The interview of book record e - 1 opens nothing: it ended in never, or the student, whose pair with workshop w has the record `pair`, "is in that
-// workshop's line group with a negative mark".
+// "She is in that workshop's line group with a negative mark": workshop w declines the student whose pair with it has the record `pair`, and whose
+// interview is book record e - 1.
+fn is_declined(case: &[u8], book: &[u8], students: usize, w: usize, pair: usize, e: usize) -> bool
+    requires { ⌜ WorkshopAt (now case) students w ⌝ }
+    requires { ⌜ (pair < rowCount (now case)) × (1 ≤ e) × (e ≤ entryCount (now book)) ⌝ }
+    ensures { λ r. ⌜ ((s : ℕ) → rowAt (now (case .entry)) pair .fourth ≡ marketIn (now (case .entry)) .workshopTier w s
+        → EntryAt (now (book .entry)) s w e
+        → r ≡ declined (marketIn (now (case .entry))) (resultsIn (now (book .entry))) s w) ⌝ }
+{
+    if lookup::workshop_tier(case, pair) == lookup::workshop_outside(case, students, w) {
+        records::negative(lookup::workshop_score(book, e))
+    } else {
+        false
+    }
+}
+
+// The interview opens nothing: the workshop declines the student, or it ended in never. (The tier is tested first: a branch on the sign of a mark alone
+// cannot be foreseen.)
 fn is_unopened(case: &[u8], book: &[u8], students: usize, w: usize, pair: usize, e: usize) -> bool
     requires { ⌜ WorkshopAt (now case) students w ⌝ }
     requires { ⌜ (pair < rowCount (now case)) × (1 ≤ e) × (e ≤ entryCount (now book)) ⌝ }
@@ -326,14 +342,10 @@ fn is_unopened(case: &[u8], book: &[u8], students: usize, w: usize, pair: usize,
         → EntryAt (now (book .entry)) s w e
         → r ≡ unopened (marketIn (now (case .entry))) (resultsIn (now (book .entry))) s w) ⌝ }
 {
-    if lookup::ended_in_never(book, e) {
+    if is_declined(case, book, students, w, pair, e) {
         return true;
     }
-    if lookup::workshop_tier(case, pair) == lookup::workshop_outside(case, students, w) {
-        records::negative(lookup::workshop_score(book, e))
-    } else {
-        false
-    }
+    lookup::ended_in_never(book, e)
 }
 
 // The interview of student s with workshop w is listed after the first `count`.

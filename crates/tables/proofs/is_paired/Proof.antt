@@ -1,49 +1,21 @@
--- `tables::is_paired` meets its contract. Names of nobody are told first (`nobody`, `somebody`); the digit is the set's (`has-law`).
-use mathlib.Core.Path.{_∙_}
-use native.Mathlib.Omega.{arith}
-use Rattle.base.proofs.Digits.{has-law}
-use Rattle.tables.specs.Table.{setOf}
+-- `tables::is_paired` meets its contract. Names of nobody are told first (`nobody`, `somebody`).
 use Rattle.tables.proofs.Reading.{nobody, somebody}
 use Rattle.tables.proofs.is_paired.Statement.{statement}
 use Rattle.tables.proofs.is_paired.Tie as tie
 
 returns : tie.Need-returns
-returns c = nobody _ _ (c .before .pre) (c .before .args .s) (c .before .args .w) (c .if1 .taken)
+returns c =
+    let start = c .before .before .before in
+    nobody _ _ (start .pre) (start .args .s) (start .args .w) (c .if1 .taken)
 
-sub-result : tie.Need-sub-result
-sub-result c =
-    let a = c .before .args in omega (arith, somebody _ _ (c .before .pre) (a .s) (a .w) (c .if1 .left))
-
-mul-result : tie.Need-mul-result
-mul-result c =
-    let a = c .before .args in omega (arith, somebody _ _ (c .before .pre) (a .s) (a .w) (c .if1 .left))
-
-shared-slice-read-result : tie.Need-shared-slice-read-result
-shared-slice-read-result c =
-    let a = c .before .before .args in omega (arith, somebody _ _ (c .before .before .pre) (a .s) (a .w) (c .before .if1 .left), c .before .before .pre .sized)
-
-sub-result-2 : tie.Need-sub-result-2
-sub-result-2 c =
-    let a = c .before .before .args in omega (arith, somebody _ _ (c .before .before .pre) (a .s) (a .w) (c .before .if1 .left))
-
-shr-result : tie.Need-shr-result
-shr-result c =
-    let a = c .before .before .args in omega (arith, somebody _ _ (c .before .before .pre) (a .s) (a .w) (c .before .if1 .left))
+has-pair-requires : tie.Need-has-pair-requires
+has-pair-requires c κs =
+    let start = c .before .before .before in
+    let r = somebody _ _ (start .pre) (start .args .s) (start .args .w) (c .if1 .left) in
+    (start .pre, (r .0 .0, r .0 .1, r .1 .0, r .1 .1))
 
 returns-2 : tie.Need-returns-2
-returns-2 c =
-    let a = c .before .before .args in
-    let r = somebody _ _ (c .before .before .pre) (a .s) (a .w) (c .before .if1 .left) in
-    has-law (setOf (a .table .now) (a .s)) (a .w) (r .1 .0) ∙ c .before .before .pre .set (a .s) (a .w) (r .0 .0) (r .0 .1)
+returns-2 c = c .has-pair .ensures
 
 pub is-paired-spec : {M : Type 1} → statement M
-is-paired-spec =
-    tie.close
-    (tie.spec
-    returns
-    sub-result
-    mul-result
-    shared-slice-read-result
-    sub-result-2
-    shr-result
-    returns-2)
+is-paired-spec = tie.close (tie.spec returns has-pair-requires returns-2)

@@ -35,15 +35,15 @@ few : (d : tie.In-loop Inv-loop μ-loop) → entry d .args .students ≤ 512
 few d =
     let start = entry d in
     let a = start .args in
-    omega (arith, start .pre .1 .1 .0 .1, persons-few (a .case .now) (a .book .now) (a .index .now) (a .from) (start .pre .0) true)
+    omega (arith, start .pre .1 .1 .0 .2, persons-few (a .case .now) (a .book .now) (a .index .now) (a .from) (start .pre .0) true)
 
 -- whether student k + 1 has a pair with the workshop
-paired : (d : tie.After-is-paired Inv-loop μ-loop) → (let a = entry (d .before) .args in
-    d .is-paired .result ≡ marketIn (a .case .now) .paired (suc (d .before .before .loop .k)) (a .w))
-paired d = rw (add-one (d .before .before .loop .k)) at (d .is-paired .ensures)
+paired : (d : tie.After-has-pair Inv-loop μ-loop) → (let a = entry (d .before) .args in
+    d .has-pair .result ≡ marketIn (a .case .now) .paired (suc (d .before .before .loop .k)) (a .w))
+paired d = rw (add-one (d .before .before .loop .k)) at (d .has-pair .ensures)
 
-bit : (d : tie.After-is-paired Inv-loop μ-loop) → (let a = entry (d .before) .args in
-    member (setOf (a .table .now) (suc (d .before .before .loop .k))) (a .w) ≡ d .is-paired .result)
+bit : (d : tie.After-has-pair Inv-loop μ-loop) → (let a = entry (d .before) .args in
+    member (setOf (a .table .now) (suc (d .before .before .loop .k))) (a .w) ≡ d .has-pair .result)
 bit d =
     let start = entry (d .before) in
     start .pre .1 .0 .set (suc (d .before .before .loop .k)) (start .args .w) (omega arith) (omega (arith, few (d .before))) ∙ sym (paired d)
@@ -80,11 +80,13 @@ loop-holds c =
       ),
     )
 
-add-is-paired : tie.Need-add-is-paired Inv-loop μ-loop
-add-is-paired c = omega arith
+add-has-pair : tie.Need-add-has-pair Inv-loop μ-loop
+add-has-pair c = omega arith
 
-is-paired-requires : tie.Need-is-paired-requires Inv-loop μ-loop
-is-paired-requires c κs = entry c .pre .1 .0
+has-pair-requires : tie.Need-has-pair-requires Inv-loop μ-loop
+has-pair-requires c κs =
+    let start = entry c in
+    (start .pre .1 .0, (omega arith, omega (arith, few c), start .pre .1 .1 .0 .0, start .pre .1 .1 .0 .1))
 
 mul-p : tie.Need-mul-p Inv-loop μ-loop
 mul-p c = omega (arith, few (c .before .before))
@@ -189,7 +191,7 @@ returns c =
           (λ y l. omega (
             arith,
             e,
-            start .pre .1 .1 .0 .1,
+            start .pre .1 .1 .0 .2,
             named (a .case .now) (a .book .now) (a .index .now) (a .from) (start .pre .0) false (a .w) y l .1 .1,
           )),
     )
@@ -201,8 +203,8 @@ workshop-shares-spec =
     Inv-loop
     μ-loop
     loop-holds
-    add-is-paired
-    is-paired-requires
+    add-has-pair
+    has-pair-requires
     mul-p
     slice-read-p
     add-next

@@ -6,6 +6,7 @@ use native.Mathlib.Omega.{arith}
 use native.Mathlib.Numerals.{add-one}
 use Rattle.ties.specs.Ties.{Lowered, LoweredOn, keyOf, numberOf}
 use Rattle.ties.specs.Cursors.{Cursors}
+use Rattle.case_tests.proofs.Cases.{few as counted}
 use Rattle.ties.proofs.Sides.{persons-few, side-start, side-on, apart-low}
 use Rattle.ties.proofs.workshop_ties.Statement.{statement}
 use Rattle.ties.proofs.workshop_ties.Tie as tie
@@ -59,7 +60,8 @@ slice-aggregate-workshop-shares c = sym (c .before .before .loop .inv .2 .sized)
 workshop-shares-requires : tie.Need-workshop-shares-requires Inv-loop μ-loop
 workshop-shares-requires c κs =
     let start = entry (c .before) in
-    (start .pre .0, (start .pre .1 .0, ((omega arith, start .pre .1 .1 .0), c .before .before .loop .inv .2)))
+    let counts = counted (start .args .case .now) _ _ (start .pre .0 .sound) in
+    (start .pre .0, (start .pre .1 .0, ((omega arith, omega (arith, start .pre .1 .1 .1, counts .1 .1), start .pre .1 .1 .0), c .before .before .loop .inv .2)))
 
 add-x : tie.Need-add-x Inv-loop μ-loop
 add-x c = omega arith
