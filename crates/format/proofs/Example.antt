@@ -13,7 +13,9 @@ use Rattle.base.specs.Words.{word}
 use Rattle.base.proofs.Tests.{bool-cases, never, or-false, or-left, or-right, and-make, less?, eq?}
 use Rattle.lgs.specs.Market.{Market, ConsistentStages, Rivals, workshopOutside}
 use Rattle.lgs.specs.Rule.{interviewed}
+use Rattle.lgs.specs.Promises.{matchingOf}
 use Rattle.format.specs.Layout.{Row, isPair, ofKind, rowAt, rows, marketOf}
+use Rattle.format.specs.Engine.{placed, engine}
 use Rattle.format.specs.Promises.{Example}
 use Rattle.format.specs.Encoding.{words, rowBytes, caseBytes}
 use Rattle.format.specs.Table.{caseOf, studentsK, workshopsK, pairsK, caseWith, K, bookK, visitsK, answerK, neverK, answerNeverK, exact, TablesHold}
@@ -101,28 +103,22 @@ unfolding someDiffer meets differ marketOf rows rowAt word any find tally tabula
     workshopsK pairsK
 agrees-k = refl
 
+-- a run on it that lists K's visits, one of them of a pair that is not placed
+on-k : (book places : List ℕ)
+    → engine K book exact ≡ placed places visitsK
+    → (s : ℕ) × (w : ℕ) × (interviewed visitsK s w ≡ true) × (matchingOf places s ≡ w → ⊥)
+    → Example K book exact
+on-k book places answer unplaced =
+    record { places = places; interviews = visitsK; answer = answer; consistent = stages-agree (rows K) agrees-k; listedUnplaced = unplaced }
+
 pub example-k : Example K bookK exact
 unfolding answerK visitsK interviewed any
-example-k =
-    record {
-      places = 1 ∷ 0 ∷ 2 ∷ [];
-      interviews = visitsK;
-      answer = computed .exactly;
-      consistent = stages-agree (rows K) agrees-k;
-      listedUnplaced = (1, 2, refl, λ e. omega arith);
-    }
+example-k = on-k bookK (1 ∷ 0 ∷ 2 ∷ []) (computed .exactly) (1, 2, refl, λ e. omega arith)
 
--- the same with two visits that ended in never, both listed
+-- two of the visits ended in never
 pub example-never-k : Example K neverK exact
 unfolding answerNeverK visitsK interviewed any
-example-never-k =
-    record {
-      places = 1 ∷ 0 ∷ 0 ∷ [];
-      interviews = visitsK;
-      answer = computed .exactlyNever;
-      consistent = stages-agree (rows K) agrees-k;
-      listedUnplaced = (2, 2, refl, λ e. omega arith);
-    }
+example-never-k = on-k neverK (1 ∷ 0 ∷ 0 ∷ []) (computed .exactlyNever) (2, 2, refl, λ e. omega arith)
 
 -- ---- the tables of proved cases
 pub tables-hold : TablesHold
