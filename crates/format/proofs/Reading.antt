@@ -15,7 +15,8 @@ use Rattle.base.proofs.Tests.{never, and-left, and-right, and-make, or-false, i
 use Rattle.base.proofs.Below.{tabulate-at, any-before, any-fails, find-first, find-at}
 use Rattle.lgs.specs.Profiles.{outsideOr, flip}
 use Rattle.lgs.proofs.Valid.{WellFormed, Possible, DistinctScores, Distinct}
-use Rattle.format.specs.Layout.{Entry, rowAt, rowCount, rows, entryAt, entryCount, entries, noEntry, isInterview, marketOf, resultsOf, outsideScore, saysNever}
+use Rattle.format.specs.Layout.{Entry, rowAt, rowCount, rows, entryAt, entryCount, entries, noEntry, isInterview}
+use Rattle.format.specs.Layout.{marketOf, resultsOf, outsideScore, saysNever}
 use Rattle.format.specs.Refusals.{notWithin, badForm, badOrder, badCounts, badRange, badStudent, badWorkshop, badTiers, badScore, badPair}
 use Rattle.format.specs.Refusals.{badScores, badRepeat}
 use Rattle.format.specs.Refusals.{studentTies, workshopTies, badTie}
@@ -218,7 +219,8 @@ module _ (case book : List ℕ) (t : Passed case book) where
               },
             ));
         workshops = side-distinct book (λ e. e .workshop) (λ e. e .student) (λ e. e .workshopScore)
-            (flip (marketIn case .paired)) (flip (resultsIn book .met)) (flip (resultsIn book .never)) (marketIn case .workshopTier) (resultsIn book .workshopScore)
+            (flip (marketIn case .paired)) (flip (resultsIn book .met)) (flip (resultsIn book .never)) (marketIn case .workshopTier)
+            (resultsIn book .workshopScore)
             (λ i j l u s g v n. never (and-make (eq-eqb _ _ s) (and-make (eq-eqb _ _ g) (and-make (eq-eqb _ _ v) (ap not n)))) (untied i j l u .1))
             (λ i l. nonzero i l .1)
             (λ p. refl)

@@ -21,7 +21,8 @@ use Rattle.format.specs.Table.{ownTable, ample, exact, shortRooms, peopl
 use Rattle.format.specs.Table.{neverTable, neverK, answerNeverK, given, expected}
 
 pub computed : Computed
-unfolding given expected table ownTable neverTable neverK answerNeverK ample exact shortRooms people countsRefused buffersAfter buffersExpected flat placesAfter visitsAfter values
+unfolding given expected table ownTable neverTable neverK answerNeverK ample exact shortRooms people countsRefused buffersAfter buffersExpected
+    flat placesAfter visitsAfter values
     texts textsExpected unread words rowBytes caseBytes flatMap caseOf bookOf studentsK workshopsK pairsK caseWith bookWith K bookK visitsK answerK
     engine outcomeUnless ruleOutcome outcomeOf refusal causes caseCauses roomCauses bookCauses badTie workshopTies studentTies badRepeat badScores
     badPair badRoom needed allSeats seatsOf badRange badTiers badWorkshop badStudent badCounts badOrder namesNobody notRising badNumber kindFalls

@@ -118,10 +118,11 @@ module _ (M : Market) (B : Results) (O : Profile) (Vs : ℕ → ℕ → Bool) (E
       (E .distinct .students) (E .known)
 
   pub workshop-by-score : (w x y : ℕ) → Known (flip (M .paired)) (flip Vs) w x → Known (flip (M .paired)) (flip Vs) w y
-      → Possible (flip (B .never)) w x → M .workshopTier w x ≡ M .workshopTier w y → B .workshopScore w y ≤ B .workshopScore w x → O .workshopRank w x ≤ O .workshopRank w y
+      → Possible (flip (B .never)) w x → M .workshopTier w x ≡ M .workshopTier w y → B .workshopScore w y ≤ B .workshopScore w x
+      → O .workshopRank w x ≤ O .workshopRank w y
   workshop-by-score =
-      by-score (flip (M .paired)) (flip Vs) (flip (B .met)) (flip (B .never)) (M .workshopTier) (B .workshopScore) (O .workshopRank) (E .full .workshops) (E .results .workshops)
-      (E .distinct .workshops) (λ w s. E .known s w)
+      by-score (flip (M .paired)) (flip Vs) (flip (B .met)) (flip (B .never)) (M .workshopTier) (B .workshopScore) (O .workshopRank) (E .full .workshops)
+      (E .results .workshops) (E .distinct .workshops) (λ w s. E .known s w)
 
   pub student-no-worse : (s x y : ℕ) → outsideOr (M .paired s) x ≡ true → outsideOr (M .paired s) y ≡ true → O .studentRank s x ≤ O .studentRank s y
       → M .studentTier s x ≤ M .studentTier s y
@@ -133,8 +134,8 @@ module _ (M : Market) (B : Results) (O : Profile) (Vs : ℕ → ℕ → Bool) (E
       → O .workshopRank w x ≤ O .workshopRank w y
       → M .workshopTier w x ≤ M .workshopTier w y
   workshop-no-worse =
-      no-worse (flip (M .paired)) (flip Vs) (flip (B .met)) (flip (B .never)) (M .workshopTier) (B .workshopScore) (O .workshopRank) (E .full .workshops) (E .results .workshops)
-      (E .distinct .workshops) (λ w s. E .known s w)
+      no-worse (flip (M .paired)) (flip Vs) (flip (B .met)) (flip (B .never)) (M .workshopTier) (B .workshopScore) (O .workshopRank) (E .full .workshops)
+      (E .results .workshops) (E .distinct .workshops) (λ w s. E .known s w)
 
   pub knows : (σ : State) (s w : ℕ) → Seen M Vs σ s w → Known (M .paired) Vs s w
   knows σ s w k = record { option = real (M .paired s) w (k .pair); seen = real (Vs s) w (k .seen) }

@@ -41,7 +41,8 @@ module _ (M : Market) (wf : WellFormed M) (O : Profile) (strict : StrictProfile 
         wf = wf;
         distinct = record {
           students = record {
-            apart = λ p x y ox oy mx my ok g e. apart (M .paired) (M .studentTier) (O .studentRank) (M .workshops) (full .students) (wf .workshop) p x y ox oy e;
+            apart = λ p x y ox oy mx my ok g e.
+                apart (M .paired) (M .studentTier) (O .studentRank) (M .workshops) (full .students) (wf .workshop) p x y ox oy e;
           };
           workshops = record {
             apart = λ p x y ox oy mx my ok g e.

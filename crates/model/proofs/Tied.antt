@@ -185,7 +185,9 @@ module _ (M : Market) (B : Results) (O : Profile) (E : Setting M B O (B .met)) (
 
     option-offer : (y : ℕ) → Mem y (options M B (C s) s) → Offer y
     option-offer y m =
-        ⊎-elim (λ r. subst Offer (sym (r .1)) (record { pair = refl; met = refl; tier = eqb-true _ _ (r .0); possible = λ l. absurd (omega arith) })) (λ r. bit-offer y (r .0))
+        ⊎-elim
+        (λ r. subst Offer (sym (r .1)) (record { pair = refl; met = refl; tier = eqb-true _ _ (r .0); possible = λ l. absurd (omega arith) }))
+        (λ r. bit-offer y (r .0))
         (option-cases y m)
 
     pub choice-option : (y : ℕ) → Mem y (choices M B σ s) → Mem y (options M B (C s) s)
