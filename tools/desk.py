@@ -1,24 +1,31 @@
 #!/usr/bin/env python3
-"""The college desk's tool around the program `place`.
+"""The college desk's tool around the programs `place` and `stages`.
 
-    python3 desk.py new    writes students.csv, workshops.csv, pairs.csv and visits.csv with a small example
-    python3 desk.py        checks the four files and says whom to send where next, or who goes where
+    python3 desk.py new       writes students.csv, workshops.csv, pairs.csv and visits.csv with a small example
+    python3 desk.py stages    works the students' stages out from the first three files, and writes them in students.csv
+    python3 desk.py           checks the four files and says whom to send where next, or who goes where
 
-It works in the current folder. It only reads the four files; from them it makes case.dat and book.dat, which `place` reads.
-The program is the one that --place or the variable PLACE names; else the one beside desk.py; else the one on the PATH.
+It works in the current folder. It only reads the four files, but for the stages, which `desk.py stages` writes. From the files it makes
+case.dat and book.dat, which `place` reads.
+The program is the one that --place or the variable PLACE names; else the one beside desk.py; else the one on the PATH. So is `stages`, with --stages
+or the variable STAGES.
 Exit status: 0 for an answer, 1 where something is to be corrected, 2 for a wrong command.
 Python 3.8 or later, no other packages.
 """
 import argparse
+import bisect
+import contextlib
 import csv
 import difflib
 import io
 import os
 import re
 import shutil
+import stat
 import struct
 import subprocess
 import sys
+import tempfile
 import unicodedata
 from dataclasses import dataclass, field
 
@@ -69,7 +76,8 @@ EXAMPLE = {
     VISITS: [],
 }
 
-# What each refusal of the engine means, and in which file its record is: "" where it names none.
+# What each refusal means, and in which file its record is: "" where it names none. NO_STAGES has words of its own.
+NO_STAGES = 12
 CASE_RECORDS = "case.dat"
 REFUSALS = {
     1: ("", "the length of case.dat is no multiple of 16"),
@@ -127,15 +135,19 @@ def clean(text):
     return " ".join(unicodedata.normalize("NFC", text).split())
 
 
-def read_text(file):
-    """The text of a file as spreadsheets write it."""
+def read_bytes(file):
     try:
         with open(file, "rb") as f:
-            data = f.read()
+            return f.read()
     except FileNotFoundError:
         raise Stop(f'{file} is not in this folder ({os.getcwd()}). "python3 desk.py new" writes an example to start from.')
     except OSError as e:
         raise Stop(f"{file} cannot be read: {e.strerror}.")
+
+
+def read_text(file):
+    """The text of a file as spreadsheets write it."""
+    data = read_bytes(file)
     try:
         return data.decode("utf-8-sig")
     except UnicodeDecodeError as e:
@@ -149,10 +161,14 @@ def delimiter_of(text):
     return max(";,\t", key=heading.count)
 
 
+def split_rows(text):
+    """The rows, each as the list of its cells."""
+    return csv.reader(io.StringIO(text, newline=""), delimiter=delimiter_of(text), strict=True)
+
+
 def read_cells(file):
     """All rows as lists of cells, with their row numbers; rows without any text are left out."""
-    text = read_text(file)
-    lines = csv.reader(io.StringIO(text, newline=""), delimiter=delimiter_of(text), strict=True)
+    lines = split_rows(read_text(file))
     rows, at = [], 0
     while True:
         at += 1
@@ -217,14 +233,18 @@ def check_number(file, row, column, problems):
         but = "" if column.zero else ", and not 0"
         word = f", or the word {column.word}" if column.word else ""
         what = f'"{text}" is there' if text else "the cell is empty"
-        problems.add(file, row.at, column.heading, f"{what}; it must be a whole number from {column.low} to {column.high}{but}{word}.")
+        help_there = ' "python3 desk.py stages" works it out.' if column.heading == "stage" and not text else ""
+        problems.add(file, row.at, column.heading, f"{what}; it must be a whole number from {column.low} to {column.high}{but}{word}.{help_there}")
     row.cells[column.heading] = number
 
 
-def check_numbers(file, rows, problems):
+def check_numbers(file, rows, problems, may_be_empty=""):
+    """All numbers of these rows. In the column `may_be_empty` an empty cell becomes None."""
     for row in rows:
         for column in COLUMNS[file]:
-            if isinstance(column, Number):
+            if column.heading == may_be_empty and not row.cells[column.heading]:
+                row.cells[column.heading] = None
+            elif isinstance(column, Number):
                 check_number(file, row, column, problems)
 
 
@@ -312,12 +332,12 @@ class Year:
         return self.workshops[number - 1].cells["workshop"]
 
 
-def read_people(problems):
+def read_people(problems, may_be_empty):
     people, names = {}, {}
     for file in (STUDENTS, WORKSHOPS):
         people[file] = read_rows(file, problems)
         names[file] = check_people(file, people[file], problems)
-        check_numbers(file, people[file], problems)
+        check_numbers(file, people[file], problems, may_be_empty)
     problems.stop_if_any()
     return people[STUDENTS], people[WORKSHOPS], names
 
@@ -347,11 +367,12 @@ def read_visits(names, pairs, problems):
     return held, planned
 
 
-def read_year():
+def read_year(for_stages=False):
+    """The year. For the stages the visits are not read, and a stage that is missing is None."""
     problems = Problems()
-    students, workshops, names = read_people(problems)
+    students, workshops, names = read_people(problems, "stage" if for_stages else "")
     by_couple = read_pairs(names, problems)
-    visits, planned = read_visits(names, by_couple, problems)
+    visits, planned = ([], {}) if for_stages else read_visits(names, by_couple, problems)
     pairs = sorted(by_couple.values(), key=lambda row: numbers_of(row, PAIRS, names)[:2])
     records = len(students) + len(workshops) + len(pairs)
     if records > MOST_CASE_RECORDS:
@@ -383,16 +404,18 @@ def book_bytes(year):
 
 
 def write_files(contents):
-    """Writes all files beside their places first, so that none is ever half written."""
-    parts = {name: f".{name}.{os.getpid()}" for name in contents}
+    """Writes all files beside their places first, so that none is ever half written. Where a name is a link, the file behind it is written."""
+    paths = {name: os.path.realpath(name) for name in contents}
+    parts = {name: os.path.join(os.path.dirname(path), f".{os.path.basename(path)}.{os.getpid()}") for name, path in paths.items()}
     try:
         for name, part in parts.items():
             with open(part, "wb") as f:
+                keep_rights(paths[name], part)
                 f.write(contents[name])
                 f.flush()
                 os.fsync(f.fileno())
         for name, part in parts.items():
-            os.replace(part, name)
+            os.replace(part, paths[name])
     except OSError as e:
         raise Stop(f"{' and '.join(contents)} cannot be written in this folder: {e.strerror}.")
     finally:
@@ -401,16 +424,71 @@ def write_files(contents):
                 os.remove(part)
 
 
-# ---------------------------------------------------------------- running `place`
+def keep_rights(path, part):
+    """Who may read and write the file at this path may read and write the new one."""
+    if os.path.isfile(path):
+        there = os.stat(path)
+        for change in (lambda: os.chown(part, -1, there.st_gid), lambda: os.chown(part, there.st_uid, -1),
+                       lambda: os.chmod(part, stat.S_IMODE(there.st_mode))):
+            with contextlib.suppress(OSError):    # not ours to give, or the disk does not know it
+                change()
 
 
-def find_place(option):
-    """The path of the program."""
-    beside = os.path.join(os.path.dirname(os.path.abspath(__file__)), "place")
-    named = option or os.environ.get("PLACE")
-    path = named or (beside if os.path.isfile(beside) else shutil.which("place"))
+# ---------------------------------------------------------------- the stages in students.csv
+
+
+def with_stages(data, stages):
+    """The bytes of students.csv with these stages, by row number. All else is as it was, byte for byte."""
+    text = data.decode("utf-8-sig")
+    mark = data[:len(data) - len(text.encode())]    # the byte order mark, or nothing
+    delimiter = delimiter_of(text)
+    place = [clean(cell).lower() for cell in next(split_rows(text))].index("stage")
+    cell = re.compile(rf'("[^"]*(?:""[^"]*)*"|[^{delimiter}\r\n]*)({delimiter}|\r\n|\r|\n|\Z)')
+    parts, at, column = [], 1, 0
+    for found in cell.finditer(text):
+        inside, end = found.groups()
+        if at in stages and column == place:
+            inside = f'"{stages[at]}"' if inside.startswith('"') else str(stages[at])
+        elif at in stages and column < place and end != delimiter:    # the row is shorter than the headings
+            inside += delimiter * (place - column) + str(stages[at])
+        parts += [inside, end]
+        at, column = (at, column + 1) if end == delimiter else (at + 1, 0)
+    new = mark + "".join(parts).encode()
+    check_only_stages(data, new, place, stages)
+    return new
+
+
+def check_only_stages(old, new, place, stages):
+    """Reads both contents of students.csv again: they differ in these stages, and in nothing else."""
+    rows, new_rows = ([list(row) for row in split_rows(data.decode("utf-8-sig"))] for data in (old, new))
+    for at, stage in stages.items():
+        row = rows[at - 1]
+        row += [""] * (place + 1 - len(row))
+        row[place] = str(stage)
+    if rows != new_rows:
+        raise Stop(f"desk.py cannot write the stages in {STUDENTS} without changing other cells. Nothing was written. Write them there yourself.")
+
+
+def write_stages(data, stages):
+    """Writes them, if students.csv still has these bytes."""
+    new = with_stages(data, stages)
+    if not (os.access(STUDENTS, os.W_OK) and os.stat(STUDENTS).st_mode & 0o222):
+        raise Stop(f"{STUDENTS} is protected against writing. Nothing was written.")
+    if read_bytes(STUDENTS) != data:
+        raise Stop(f"{STUDENTS} was changed by somebody else at this moment. Nothing was written. Run desk.py stages again.")
+    write_files({STUDENTS: new})
+
+
+# ---------------------------------------------------------------- running `place` and `stages`
+
+
+def find_program(name, option):
+    """The path of the program `place` or `stages`."""
+    beside = os.path.join(os.path.dirname(os.path.abspath(__file__)), name)
+    named = option or os.environ.get(name.upper())
+    path = named or (beside if os.path.isfile(beside) else shutil.which(name))
     if not path:
-        raise Stop(f"The program `place` was not found. Copy it to {beside}, or name it: --place PATH.")
+        raise Stop(f"The program `{name}` was not found. Copy it to {beside}, or name it: --{name} PATH.")
     path = os.path.abspath(path)
     if not os.path.isfile(path):
         raise Stop(f"There is no program {path}.")
@@ -419,16 +497,18 @@ def find_place(option):
     return path
 
 
-def run_place(path):
-    """What the program prints."""
+def run_program(path, folder="."):
+    """What the program prints, if it did not fail."""
     try:
-        done = subprocess.run([path], stdin=subprocess.DEVNULL, capture_output=True)
+        done = subprocess.run([path], cwd=folder, stdin=subprocess.DEVNULL, capture_output=True)
     except OSError as e:
         raise Stop(f"{path} cannot be run: {e.strerror}. It needs Linux on x86-64 (Intel or AMD).")
-    if done.returncode != 0:
+    text = done.stdout.decode("ascii", "replace")
+    own = 1 if text.startswith("refused ") else 2 if text == "unread\n" else 0    # how `stages` ends after this text; `place` has 0 always
+    if done.returncode not in (0, own):
         said = done.stderr.decode("utf-8", "replace").strip()
         raise Stop(f"{path} ended with status {done.returncode}. {said}")
-    return done.stdout.decode("ascii", "replace")
+    return text
 
 
 @dataclass
@@ -477,6 +557,33 @@ def is_known(word, numbers, year):
             and 1 <= int(numbers[0]) <= len(year.students) and lowest <= int(numbers[1]) <= len(year.workshops))
 
 
+def run_stages(path, case):
+    """What `stages` prints for this case. It reads it in a folder of its own, so that nothing is written in ours."""
+    try:
+        with tempfile.TemporaryDirectory() as folder:
+            with open(os.path.join(folder, "case.dat"), "wb") as f:
+                f.write(case)
+            return run_program(path, folder)
+    except OSError as e:
+        raise Stop(f"case.dat cannot be written for `stages`: {e.strerror}. Nothing was written.")
+
+
+def read_stages(text, year):
+    """Each student's stage, or the refusal's number and place. Anything but a whole answer stops here."""
+    refused = re.fullmatch("refused ([0-9]{1,9}) ([0-9]{1,9})\n", text)
+    if refused:
+        return [], (int(refused[1]), int(refused[2]))
+    stages = []
+    for line in text.split("\n")[:-1]:
+        found = re.fullmatch(f"stage {len(stages) + 1} ([0-9]{{1,3}})", line)
+        if not found or len(stages) == len(year.students) or not 1 <= int(found[1]) <= 512:
+            raise Stop(f"`stages` printed what desk.py does not know: {line}")
+        stages.append(int(found[1]))
+    if len(stages) != len(year.students):
+        raise Stop("The answer of `stages` was cut off. Nothing was written. Run desk.py stages again.")
+    return stages, None
+
+
 # ---------------------------------------------------------------- telling the answer
 
 
@@ -512,12 +619,16 @@ def tell_visits(year, answer):
     return ["", "The visits:"] + [f"  {s} at {w}" + (" (never)" if (s, w) in never else "") for s, w in couples]
 
 
+def groups_that_count(year, workshop):
+    """The workshop's groups of its students, by name, without those above its line group; none if its quota is 0."""
+    there = {row.cells["student"]: row.cells["group from workshop"] for row in year.pairs if row.cells["workshop"] == workshop.cells["workshop"]}
+    return {name: group for name, group in there.items() if workshop.cells["quota"] and group <= workshop.cells["line group"]}
+
+
 def disagreement(year, workshop):
     """Two students whose stages do not go with their groups at this workshop."""
     stage = {row.cells["student"]: row.cells["stage"] for row in year.students}
-    there = [row for row in year.pairs if row.cells["workshop"] == workshop.cells["workshop"]]
-    seen = sorted((row.cells["group from workshop"], stage[row.cells["student"]], row.cells["student"]) for row in there
-                  if workshop.cells["quota"] and row.cells["group from workshop"] <= workshop.cells["line group"])
+    seen = sorted((group, stage[name], name) for name, group in groups_that_count(year, workshop).items())
     for one, two in zip(seen, seen[1:]):
         if (one[0] < two[0]) != (one[1] < two[1]):
             return one[2], two[2]
@@ -530,15 +641,78 @@ def tell_stages(year):
     lines = [f"  {name}: {who[0]} and {who[1]}" for name, who in found if who]
     if len(lines) > 3:
         lines = lines[:3] + [f"  and {len(lines) - 3} more workshops"]
-    return lines and ["", "Note: at these workshops the stages do not agree with the groups, so more visits may be asked for than needed:"] + lines
+    if not lines:
+        return []
+    return (["", "Note: at these workshops the stages do not agree with the groups, so more visits may be asked for than needed:"] + lines
+            + ['"python3 desk.py stages" works out stages that agree, if there are any.'])
 
 
-def explain_refusal(year, number, place):
-    """What the engine refused, with the row that it points to."""
+def tell_worked_out(year, stages, before):
+    """Who is in which stage, and what stood there before."""
+    was = {row.cells["student"]: f" (was {old})" if old not in (None, new) else "" for row, old, new in zip(year.students, before, stages)}
+    lines = []
+    for stage in sorted(set(stages)):
+        names = [name for name, its in zip(was, stages) if its == stage]
+        lines.append(f"Stage {stage}: {', '.join(name + was[name] for name in names)}")
+    return lines
+
+
+def explain_no_stages(year):
+    """In plain words, with the groups that contradict each other."""
+    found = [f"  {workshop}: {one} {'before' if before else 'in the same group as'} {two}" for workshop, one, two, before in contradiction(year)]
+    return "\n".join(
+        ["No stage numbers agree with the groups of all workshops. Nothing was written.",
+         "That is so where two workshops put the same students in another order, directly or through others." + (" Here:" if found else "")]
+        + found
+        + [f"See whether such a group was typed wrongly in {PAIRS}; if so, correct it and run desk.py stages again.",
+           "(A workshop with quota 0 does not count, nor does a student in a group above a workshop's line group.)",
+           f"If the groups are right, keep any stages in {STUDENTS}, for instance 1 for everybody.",
+           "The placement is as good in any case; only the list of visits may be longer than needed."])
+
+
+def contradiction(year):
+    """The shortest round of students in which each, by one workshop's groups, comes before the next or with her, and some one before:
+    then no stages agree. As workshop, student, next student, and whether before."""
+    counts = {row.cells["workshop"]: groups_that_count(year, row) for row in year.workshops}
+    orders = {workshop: sorted((group, name) for name, group in there.items()) for workshop, there in counts.items()}
+    best = []
+    for row in year.students:
+        steps = way_back(counts, orders, row.cells["student"])
+        if steps and (not best or len(steps) < len(best)):
+            best = steps
+        if len(best) == 2:
+            break
+    return [(workshop, one, two, counts[workshop][one] < counts[workshop][two]) for workshop, one, two in best]
+
+
+def way_back(counts, orders, start):
+    """The shortest such round that begins with this student, who comes before the second one; empty if there is none."""
+    came, reached, hand = {}, {}, [start]
+    for one in hand:
+        for workshop in [workshop for workshop, there in counts.items() if one in there]:
+            order = orders[workshop]
+            low = bisect.bisect_left(order, (counts[workshop][one] + (one == start), ""))
+            for _, two in order[low:reached.get(workshop, len(order))]:
+                if two not in came:
+                    came[two] = workshop, one
+                    hand.append(two)
+            reached[workshop] = min(low, reached.get(workshop, low))
+        if start in came:
+            break
+    steps, two = [], start
+    while two in came and (not steps or two != start):
+        workshop, one = came[two]
+        steps.insert(0, (workshop, one, two))
+        two = one
+    return steps if start in came else []
+
+
+def explain_refusal(year, program, number, place):
+    """What the program refused, with the row that it points to."""
     where, words = REFUSALS.get(number, ("", "desk.py does not know this number"))
     file, row = row_at(year, where, place)
     if row is None:
-        return f"`place` refused the files, number {number}: {words}."
+        return f"`{program}` refused the files, number {number}: {words}."
     lines = equal_marks(year, row) if number == 11 else []
     return "\n".join([f"{file}, row {row.at}: {words}."] + lines)
 
@@ -588,16 +762,38 @@ def new(semicolon):
 def answer(place, list_visits):
     """Checks the four files, runs the program, and tells its answer."""
     year = read_year()
-    path = find_place(place)
+    path = find_program("place", place)
     write_files({"case.dat": case_bytes(year), "book.dat": book_bytes(year)})
-    text = run_place(path)
+    text = run_program(path)
     if text == "unread\n":
         raise Stop("`place` could not read case.dat or book.dat in this folder.")
     found = read_answer(text, year)
     if found.refused:
-        raise Stop(explain_refusal(year, *found.refused))
+        raise Stop(explain_refusal(year, "place", *found.refused))
     lines = tell_next(year, found) if found.next else tell_placement(year, found)
     return lines + (tell_visits(year, found) if list_visits else []) + tell_stages(year)
+
+
+def work_out_stages(program):
+    """Checks students, workshops and pairs, runs `stages`, writes what it found in students.csv, and tells it."""
+    data = read_bytes(STUDENTS)
+    year = read_year(for_stages=True)
+    before = [row.cells["stage"] for row in year.students]
+    for row in year.students:
+        row.cells["stage"] = row.cells["stage"] or 1    # any will do: `stages` only checks its range
+    text = run_stages(find_program("stages", program), case_bytes(year))
+    if text == "unread\n":
+        raise Stop("`stages` could not read the case that desk.py made for it. Nothing was written.")
+    stages, refused = read_stages(text, year)
+    if refused:
+        raise Stop(explain_no_stages(year) if refused[0] == NO_STAGES else explain_refusal(year, "stages", *refused))
+    changed = {row.at: new for row, old, new in zip(year.students, before, stages) if old != new}
+    lines = tell_worked_out(year, stages, before) + [""]
+    if not changed:
+        return lines + [f"{STUDENTS} has these stages already. Nothing was written."]
+    write_stages(data, changed)
+    return lines + [f"Wrote them in {STUDENTS}: {len(changed)} {'cell' if len(changed) == 1 else 'cells'} changed, all else is as it was.",
+                    f"If your spreadsheet has {STUDENTS} open, close it there without saving, and open it again."]
 
 
 def tell(lines):
@@ -611,15 +807,18 @@ def tell(lines):
 
 def main():
     parser = argparse.ArgumentParser(description=__doc__, formatter_class=argparse.RawDescriptionHelpFormatter)
-    parser.add_argument("command", nargs="?", default="next", choices=["next", "new"], help="next, the same as none, or new")
-    parser.add_argument("--place", metavar="PATH", help="the program `place`")
+    parser.add_argument("command", nargs="?", default="next", choices=["next", "new", "stages"], help="next, the same as none, or new, or stages")
+    parser.add_argument("--place", metavar="PATH", help="next: the program `place`")
+    parser.add_argument("--stages", metavar="PATH", help="stages: the program `stages`")
     parser.add_argument("--visits", action="store_true", help="next: list the visits held, too")
     parser.add_argument("--semicolon", action="store_true", help="new: semicolons between the cells, not commas")
     options = parser.parse_args()
     sys.stdout.reconfigure(errors="replace")
     sys.stderr.reconfigure(errors="replace")
+    commands = {"new": lambda: new(options.semicolon), "stages": lambda: work_out_stages(options.stages),
+                "next": lambda: answer(options.place, options.visits)}
     try:
-        tell(new(options.semicolon) if options.command == "new" else answer(options.place, options.visits))
+        tell(commands[options.command]())
     except Stop as stop:
         print(stop, file=sys.stderr)
         return 1

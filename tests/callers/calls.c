@@ -1,6 +1,7 @@
-/* Calls of lgs_place from C, each buffer between two pages that cannot be touched. Last line 'N passed, M failed'. */
+/* Calls of lgs_place and lgs_stages from C, each buffer between two pages that cannot be touched. Last line 'N passed, M failed'. */
 #define _GNU_SOURCE
 #include "lgs_place.h"
+#include "lgs_stages.h"
 
 #include <pthread.h>
 #include <stdio.h>
@@ -245,19 +246,132 @@ static void *many_calls(void *number)
     return NULL;
 }
 
-static void threads(void)
+static void threads(void *(*calls)(void *))
 {
     pthread_t thread[4];
     size_t number[4];
     for (size_t i = 0; i < 4; i++) {
         number[i] = i;
-        if (pthread_create(&thread[i], NULL, many_calls, &number[i]) != 0)
+        if (pthread_create(&thread[i], NULL, calls, &number[i]) != 0)
             exit(2);
     }
     for (size_t i = 0; i < 4; i++) {
         pthread_join(thread[i], NULL);
         check(number[i] == 0, "calls at the same time");
     }
+}
+
+/* Two students, two workshops, and both the other way round at the second workshop. */
+enum { TURNED_STUDENTS = 2, TURNED_QUOTA = 16 * 3 + 4 };
+static const uint8_t TURNED[16 * 8] = {
+    1, 0, 1, 0, 1, 0, 2, 0, 0, 0, 0, 0, 0, 0, 0, 0,
+    1, 0, 2, 0, 1, 0, 2, 0, 0, 0, 0, 0, 0, 0, 0, 0,
+    2, 0, 1, 0, 1, 0, 3, 0, 0, 0, 0, 0, 0, 0, 0, 0,
+    2, 0, 2, 0, 1, 0, 3, 0, 0, 0, 0, 0, 0, 0, 0, 0,
+    3, 0, 1, 0, 1, 0, 1, 0, 1, 0, 0, 0, 0, 0, 0, 0,
+    3, 0, 1, 0, 2, 0, 1, 0, 2, 0, 0, 0, 0, 0, 0, 0,
+    3, 0, 2, 0, 1, 0, 1, 0, 2, 0, 0, 0, 0, 0, 0, 0,
+    3, 0, 2, 0, 2, 0, 1, 0, 1, 0, 0, 0, 0, 0, 0, 0,
+};
+static const uint16_t K_STAGES[STUDENTS] = {1, 2, 2};
+
+/* What came back from lgs_stages. */
+typedef struct {
+    lgs_part_report report;
+    uint16_t stages[LGS_MOST_STAGES];
+} stages_result;
+
+/* One call of lgs_stages with the case and the buffer at a forbidden page, the buffer full of 0xA5. */
+static stages_result call_stages(const uint8_t *bytes, size_t length, size_t room, int at_end)
+{
+    void *lent_case = guarded(length, at_end), *lent = guarded(2 * room, at_end);
+    memcpy(lent_case, bytes, length);
+    memset(lent, 0xA5, 2 * room);
+    only_read(lent_case, length);
+    stages_result r;
+    r.report = lgs_stages(lent_case, length, lent, room);
+    memcpy(r.stages, lent, 2 * room);
+    give_back(lent_case, length, at_end);
+    give_back(lent, 2 * room, at_end);
+    return r;
+}
+
+static int is_part(lgs_part_report r, uint64_t kind, uint64_t first, uint64_t second)
+{
+    return r.kind == kind && r.first == first && r.second == second;
+}
+
+static void stages_refusal(const uint8_t *bytes, size_t length, size_t room, uint64_t number, uint64_t place, const char *what, int at_end)
+{
+    stages_result r = call_stages(bytes, length, room, at_end);
+    check(is_part(r.report, LGS_REFUSED, number, place), what);
+    check(as_lent(r.stages, 0, room), "a refusal leaves the stages");
+}
+
+static void stages_done(size_t room, int at_end)
+{
+    stages_result r = call_stages(K_CASE, sizeof K_CASE, room, at_end);
+    check(is_part(r.report, LGS_DONE, STUDENTS, 0), "K has stages");
+    check(memcmp(r.stages, K_STAGES, sizeof K_STAGES) == 0 && as_lent(r.stages, STUDENTS, room), "K's stages");
+}
+
+static void stages(int at_end)
+{
+    stages_done(STUDENTS, at_end);
+    stages_done(STUDENTS + 1, at_end);
+    stages_done(LGS_MOST_STAGES, at_end);
+    stages_refusal(K_CASE, 0, 0, LGS_CASE_COUNTS, 0, "no case, no room", at_end);
+    stages_refusal(K_CASE, sizeof K_CASE - 1, STUDENTS, LGS_CASE_LENGTH, 0, "a byte short", at_end);
+    stages_refusal(K_CASE, 15, LGS_MOST_STAGES, LGS_CASE_LENGTH, 0, "15 bytes", at_end);
+    stages_refusal(K_CASE + 16, sizeof K_CASE - 16, STUDENTS, LGS_CASE_ORDER, 0, "without student 1", at_end);
+    stages_refusal(K_CASE, 16 * STUDENTS, STUDENTS, LGS_CASE_COUNTS, 0, "without workshops", at_end);
+    stages_refusal(K_CASE, sizeof K_CASE, STUDENTS - 1, LGS_SHORT_BUFFER, 0, "stages short", at_end);
+    stages_refusal(K_CASE, sizeof K_CASE, 0, LGS_SHORT_BUFFER, 0, "no room", at_end);
+    stages_refusal(TURNED, sizeof TURNED, TURNED_STUDENTS, LGS_NO_STAGES, 0, "the other way round", at_end);
+    stages_refusal(TURNED, sizeof TURNED, LGS_MOST_STAGES, LGS_NO_STAGES, 0, "the other way round, much room", at_end);
+    stages_refusal(TURNED, sizeof TURNED, TURNED_STUDENTS - 1, LGS_SHORT_BUFFER, 0, "6 before 12", at_end);
+    uint8_t changed[sizeof TURNED];
+    memcpy(changed, TURNED, sizeof changed);
+    changed[TURNED_QUOTA] = 0;
+    stages_result r = call_stages(changed, sizeof changed, TURNED_STUDENTS, at_end);
+    check(is_part(r.report, LGS_DONE, TURNED_STUDENTS, 0) && r.stages[0] == 1 && r.stages[1] == 2, "quota 0 at the second workshop");
+    changed[16 + 4] = 0;
+    stages_refusal(changed, sizeof changed, TURNED_STUDENTS, LGS_CASE_RANGE, 1, "stage 0", at_end);
+    changed[15] = 1;
+    stages_refusal(changed, sizeof changed, TURNED_STUDENTS, LGS_CASE_FORM, 0, "a byte that should be zero", at_end);
+}
+
+/* The stages go into the case, and the engine gives the same placement with it as with K's own, which are equal. */
+static void both(void)
+{
+    uint8_t bytes[sizeof K_CASE];
+    memcpy(bytes, K_CASE, sizeof bytes);
+    for (size_t i = 0; i < STUDENTS; i++)
+        bytes[16 * i + 4] = 77;
+    stages_result s = call_stages(bytes, sizeof bytes, STUDENTS, 1);
+    check(is_part(s.report, LGS_DONE, STUDENTS, 0), "K without its stages");
+    for (size_t i = 0; i < STUDENTS; i++) {
+        bytes[16 * i + 4] = (uint8_t)(s.stages[i] & 255);
+        bytes[16 * i + 5] = (uint8_t)(s.stages[i] >> 8);
+    }
+    check(memcmp(bytes, K_CASE, sizeof bytes) == 0, "K's own stages are the least");
+    loan l = exact(VISITS);
+    l.case_bytes = bytes;
+    result r = call(l, 1);
+    check(is(r.report, LGS_PLACED, 0, 0, VISITS) && memcmp(r.places, K_PLACES, sizeof K_PLACES) == 0, "the engine with these stages");
+}
+
+static void *many_stages(void *number)
+{
+    size_t wrong = 0;
+    for (int i = 0; i < 200; i++) {
+        int turned = (i + (int)*(size_t *)number) % 2;
+        stages_result r = turned ? call_stages(TURNED, sizeof TURNED, TURNED_STUDENTS, i % 2) : call_stages(K_CASE, sizeof K_CASE, STUDENTS, i % 2);
+        wrong += turned ? !is_part(r.report, LGS_REFUSED, LGS_NO_STAGES, 0)
+                        : !is_part(r.report, LGS_DONE, STUDENTS, 0) || memcmp(r.stages, K_STAGES, sizeof K_STAGES) != 0;
+    }
+    *(size_t *)number = wrong;
+    return NULL;
 }
 
 int main(void)
@@ -270,9 +384,12 @@ int main(void)
         next_visit(generous(3), 3, 2, 3, at_end);
         refusals(at_end);
         short_buffers(at_end);
+        stages(at_end);
     }
     overlap();
-    threads();
+    both();
+    threads(many_calls);
+    threads(many_stages);
     printf("%d passed, %d failed\n", passed, failed);
     return failed != 0;
 }

@@ -1,9 +1,10 @@
-"""lgs_place from Python by ctypes. The arguments stand in the order in which the header names them, so two names that are
+"""lgs_place and lgs_stages from Python by ctypes. The arguments stand in the order in which the header names them, so two names that are
 swapped there give a wrong answer here. Last line 'N passed, M failed'.
 
-    python3 from_python.py LIBRARY.SO HEADER
+    python3 from_python.py LIBRARY.SO FOLDER_OF_HEADERS
 """
 import ctypes
+import os
 import re
 import struct
 import sys
@@ -25,13 +26,17 @@ class Report(ctypes.Structure):
     _fields_ = [("kind", ctypes.c_uint64), ("first", ctypes.c_uint64), ("second", ctypes.c_uint64), ("visits", ctypes.c_uint64)]
 
 
+class PartReport(ctypes.Structure):
+    _fields_ = [("kind", ctypes.c_uint64), ("first", ctypes.c_uint64), ("second", ctypes.c_uint64)]
+
+
 TYPES = {"uint8_t": ctypes.c_uint8, "uint16_t": ctypes.c_uint16, "uint32_t": ctypes.c_uint32, "uint64_t": ctypes.c_uint64,
          "lgs_student_state": StudentState}
 
 
-def header_parameters(text):
-    """Type and name of each parameter, and whether it is a pointer."""
-    inside = re.search(r"lgs_report lgs_place\((.*?)\);", text, re.S).group(1)
+def header_parameters(text, function):
+    """Type and name of each parameter of a function, and whether it is a pointer."""
+    inside = re.search(r"report " + function + r"\((const .*?)\);", text, re.S).group(1)
     return [re.fullmatch(r"(?:const )?(\w+) (\*?)(\w+)", " ".join(one.split())).groups() for one in inside.split(",")]
 
 
@@ -41,18 +46,27 @@ def header_fields(text, name):
     return [(field, TYPES[kind]) for kind, field in re.findall(r"(\w+) (\w+);", inside)]
 
 
-def call(function, parameters, case, book, lengths):
+def load(library, header, name, report):
+    """A function of the library as its header has it, with its parameters."""
+    function = getattr(library, name)
+    parameters = header_parameters(header, name)
+    function.restype = report
+    function.argtypes = [ctypes.POINTER(TYPES[kind]) if pointer else ctypes.c_size_t for kind, pointer, _ in parameters]
+    return function, parameters
+
+
+def call(function, parameters, files, lengths):
     """One call; the report and the buffers by name. Each buffer is longer than is said, so that a wrong length harms nothing."""
-    count = {"case_bytes": len(case), "book_bytes": len(book), **lengths}
+    count = {**{name: len(content) for name, content in files.items()}, **lengths}
     lent = {}
     for kind, pointer, name in parameters:
         if pointer:
             lent[name] = (TYPES[kind] * (count[name] + 4096))()
-    lent["case_bytes"][:len(case)] = case
-    lent["book_bytes"][:len(book)] = book
+    for name, content in files.items():
+        lent[name][:len(content)] = content
     said = {name.replace("_bytes", "") + "_length": number for name, number in count.items()}
     report = function(*[lent[name] if pointer else said[name] for _, pointer, name in parameters])
-    return (report.kind, report.first, report.second, report.visits), lent
+    return tuple(getattr(report, field) for field, _ in report._fields_), lent
 
 
 def pack_case(students, workshops, pairs):
@@ -71,35 +85,68 @@ EXACT = {"places": 3, "visits": 12, "seats": 2, "index": 6, "states": 3}
 LENGTHS_WRONG = [("places", 2), ("visits", 11), ("seats", 1), ("index", 5), ("states", 2)]
 
 
-def main():
-    with open(sys.argv[2]) as f:
-        header = f.read()
+def test_place(library, header):
     check("the report's fields", header_fields(header, "lgs_report") == Report._fields_)
     check("the state's fields", header_fields(header, "lgs_student_state") == StudentState._fields_)
-    parameters = header_parameters(header)
-    function = ctypes.CDLL(sys.argv[1]).lgs_place
-    function.restype = Report
-    function.argtypes = [ctypes.POINTER(TYPES[kind]) if pointer else ctypes.c_size_t for kind, pointer, _ in parameters]
+    function, parameters = load(library, header, "lgs_place", Report)
 
-    report, lent = call(function, parameters, K, K_BOOK, EXACT)
+    def place(case, book, lengths):
+        return call(function, parameters, {"case_bytes": case, "book_bytes": book}, lengths)
+
+    report, lent = place(K, K_BOOK, EXACT)
     check("K", report == (0, 0, 0, 4), report)
     check("K's places", lent["places"][:4] == [1, 0, 2, 0], lent["places"][:4])
     check("K's visits", lent["visits"][:9] == [1, 1, 1, 2, 2, 2, 3, 2, 0], lent["visits"][:9])
-    report, lent = call(function, parameters, K, b"", EXACT)
+    report, lent = place(K, b"", EXACT)
     check("K with an empty book", report == (1, 1, 1, 0), report)
-    report, lent = call(function, parameters, K, K_BOOK[:16], EXACT)
+    report, lent = place(K, K_BOOK[:16], EXACT)
     check("K with two visits", report == (1, 2, 2, 2), report)
-    report, lent = call(function, parameters, K, K_BOOK[:-1], EXACT)
+    report, lent = place(K, K_BOOK[:-1], EXACT)
     check("a refusal", report == (2, 7, 0, 0), report)
     for name, length in LENGTHS_WRONG:
-        report, lent = call(function, parameters, K, K_BOOK, {**EXACT, name: length})
+        report, lent = place(K, K_BOOK, {**EXACT, name: length})
         check(f"{name} short", report == (2, 6, 0, 0), report)
 
-    full = pack_case([(s, 1, 65) for s in range(1, 513)], [(w, 512, 513) for w in range(1, 65)],
-                     [(s, w, w, 1) for s in range(1, 513) for w in range(1, 65)])
+    full = full_case(lambda s, w: 1)
     most = {"places": 512, "visits": 2 * (len(full) // 16), "seats": 32768, "index": len(full) // 16, "states": 512}
-    report, lent = call(function, parameters, full, pack_book([(s, 1, 1, s) for s in range(1, 513)]), most)
+    report, lent = place(full, pack_book([(s, 1, 1, s) for s in range(1, 513)]), most)
     check("512 x 64 in the buffers that always suffice", report == (0, 0, 0, 512) and lent["places"][:513] == [1] * 512 + [0], report)
+
+
+def test_stages(library, header):
+    check("the part's report's fields", header_fields(header, "lgs_part_report") == PartReport._fields_)
+    function, parameters = load(library, header, "lgs_stages", PartReport)
+
+    def stages(case, room):
+        report, lent = call(function, parameters, {"case_bytes": case}, {"stages": room})
+        return report, lent["stages"]
+
+    report, left = stages(K, 3)
+    check("K's stages", report == (0, 3, 0) and left[:4] == [1, 2, 2, 0], (report, left[:4]))
+    report, left = stages(K, 2)
+    check("stages short", report == (2, 6, 0) and left[:4] == [0] * 4, (report, left[:4]))
+    report, left = stages(K[:-1], 3)
+    check("stages, a byte short", report == (2, 1, 0) and left[:4] == [0] * 4, (report, left[:4]))
+    turned = pack_case([(1, 1, 1), (2, 1, 1)], [(1, 1, 2), (2, 1, 2)], [(1, 1, 1, 1), (1, 2, 1, 2), (2, 1, 1, 2), (2, 2, 1, 1)])
+    report, left = stages(turned, 2)
+    check("two students turned", report == (2, 12, 0) and left[:4] == [0] * 4, (report, left[:4]))
+    report, left = stages(full_case(lambda s, w: 513 - s), 512)
+    check("a chain of 512", report == (0, 512, 0) and left[:513] == [513 - s for s in range(1, 513)] + [0], report)
+    report, left = stages(full_case(lambda s, w: (s + 256 * (w == 64)) % 512 + 1), 512)
+    check("one workshop of 64 turned", report == (2, 12, 0) and left[:513] == [0] * 513, report)
+
+
+def full_case(group):
+    """512 students, 64 workshops and all pairs; the workshops' groups are given by a function of student and workshop."""
+    return pack_case([(s, 1, 65) for s in range(1, 513)], [(w, 512, 513) for w in range(1, 65)],
+                     [(s, w, w, group(s, w)) for s in range(1, 513) for w in range(1, 65)])
+
+
+def main():
+    library = ctypes.CDLL(sys.argv[1])
+    for name, test in [("lgs_place.h", test_place), ("lgs_stages.h", test_stages)]:
+        with open(os.path.join(sys.argv[2], name)) as f:
+            test(library, f.read())
     print(f"{tally['passed']} passed, {tally['failed']} failed")
     return 1 if tally["failed"] else 0
 

@@ -1,5 +1,7 @@
-/* The header as C and as C++: layouts, numbers, the function's type, and a first call, of nothing at all. */
+/* The headers as C and as C++: layouts, numbers, the functions' types, and first calls, of nothing at all and of one student. Both libraries are
+ * linked into this one program. */
 #include "lgs_place.h"
+#include "lgs_stages.h"
 
 #ifdef __cplusplus
 #define ASSERT(what) static_assert(what, #what)
@@ -22,12 +24,38 @@ ASSERT(LGS_CASE_RANGE == 5 && LGS_SHORT_BUFFER == 6 && LGS_BOOK_LENGTH == 7 && L
 ASSERT(LGS_BOOK_MARK == 9 && LGS_BOOK_REPEATED == 10 && LGS_BOOK_TIE == 11);
 ASSERT(LGS_MOST_PLACES == 512 && LGS_MOST_STATES == 512 && LGS_MOST_SEATS == 64 * 512);
 
-/* The prototype again: another type in the header is an error here. The order among equal types is tested by from_python.py. */
+ASSERT(sizeof(lgs_part_report) == 24);
+ASSERT(offsetof(lgs_part_report, kind) == 0 && sizeof(((lgs_part_report *)0)->kind) == 8);
+ASSERT(offsetof(lgs_part_report, first) == 8 && sizeof(((lgs_part_report *)0)->first) == 8);
+ASSERT(offsetof(lgs_part_report, second) == 16 && sizeof(((lgs_part_report *)0)->second) == 8);
+ASSERT(LGS_DONE == 0 && LGS_NO_STAGES == 12 && LGS_MOST_STAGES == 512);
+
+/* The prototypes again: another type in a header is an error here. The order among equal types is tested by from_python.py. */
 #ifdef __cplusplus
-extern "C"
+extern "C" {
 #endif
 lgs_report lgs_place(const uint8_t *, size_t, const uint8_t *, size_t, uint16_t *, size_t, uint16_t *, size_t,
                      uint16_t *, size_t, uint16_t *, size_t, lgs_student_state *, size_t);
+lgs_part_report lgs_stages(const uint8_t *, size_t, uint16_t *, size_t);
+#ifdef __cplusplus
+}
+#endif
+
+/* One student and one workshop, who have no pair. */
+static const uint8_t ALONE[32] = {1, 0, 1, 0, 9, 0, 1, 0, 0, 0, 0, 0, 0, 0, 0, 0, 2, 0, 1, 0, 1, 0, 1, 0, 0, 0, 0, 0, 0, 0, 0, 0};
+
+/* The stages of nothing at all, of one student, and of one student without room. */
+static int stages_called(void)
+{
+    uint16_t stages[2] = {7, 7};
+    lgs_part_report r = lgs_stages(ALONE, 0, stages, 0);
+    int nothing = r.kind == LGS_REFUSED && r.first == LGS_CASE_COUNTS && r.second == 0 && stages[0] == 7;
+    r = lgs_stages(ALONE, sizeof ALONE, stages, 0);
+    int no_room = r.kind == LGS_REFUSED && r.first == LGS_SHORT_BUFFER && r.second == 0 && stages[0] == 7;
+    r = lgs_stages(ALONE, sizeof ALONE, stages, 1);
+    int one = r.kind == LGS_DONE && r.first == 1 && r.second == 0 && stages[0] == 1;
+    return nothing && no_room && one && stages[1] == 7;
+}
 
 int main(void)
 {
@@ -37,5 +65,5 @@ int main(void)
     lgs_report r = lgs_place(&none, 0, &none, 0, &entry, 0, &entry, 0, &entry, 0, &entry, 0, &state, 1);
     int refused = r.kind == LGS_REFUSED && r.first == LGS_CASE_COUNTS && r.second == 0 && r.visits == 0;
     int left = entry == 7 && state.reached == 0 && state.held == 0 && state.openings == 0;
-    return refused && left ? 0 : 1;
+    return refused && left && stages_called() ? 0 : 1;
 }

@@ -1,19 +1,24 @@
-/* How much of the stack lgs_place takes, by calls on a stack that is filled with a pattern before: arguments case.dat, book.dat of the example.
+/* How much of the stack lgs_place and lgs_stages take, by calls on a stack that is filled with a pattern before: arguments case.dat, book.dat of the example.
  * Last line 'N passed, M failed'. */
 #define _GNU_SOURCE
 #include "lgs_place.h"
+#include "lgs_stages.h"
 
 #include <stdio.h>
 #include <string.h>
 #include <ucontext.h>
 
 enum { LIMIT = 16 * 1024, STACK = 16 * LIMIT, FILE_LIMIT = 65536, PATTERN = 0xab };
+enum { STUDENTS = 512, WORKSHOPS = 64, RECORDS = STUDENTS + WORKSHOPS + STUDENTS * WORKSHOPS };
 
 static uint8_t stack[STACK], case_bytes[FILE_LIMIT], book_bytes[FILE_LIMIT];
 static size_t case_length, book_length;
 static uint16_t places[LGS_MOST_PLACES], visits[FILE_LIMIT / 8], seats[LGS_MOST_SEATS], book_index[FILE_LIMIT / 16];
 static lgs_student_state states[LGS_MOST_STATES];
+static uint8_t full_case[16 * RECORDS];
+static uint16_t stages[LGS_MOST_STAGES];
 static lgs_report report;
+static lgs_part_report part_report;
 static ucontext_t here, there;
 static int passed, failed;
 
@@ -32,31 +37,94 @@ static void call(void)
                        book_index, FILE_LIMIT / 16, states, LGS_MOST_STATES);
 }
 
-static void call_on_stack(void)
+static void call_stages(void)
 {
+    part_report = lgs_stages(full_case, sizeof full_case, stages, LGS_MOST_STAGES);
+}
+
+/* One call; how many bytes of the stack it touched. */
+static size_t call_on_stack(void (*function)(void))
+{
+    size_t left = 0;
     memset(stack, PATTERN, STACK);
     getcontext(&there);
     there.uc_stack.ss_sp = stack;
     there.uc_stack.ss_size = STACK;
     there.uc_link = &here;
-    makecontext(&there, call, 0);
+    makecontext(&there, function, 0);
     swapcontext(&here, &there);
-}
-
-/* One call; the answer is of this kind, with this first value. */
-static void measure(const char *what, uint64_t kind, uint64_t first)
-{
-    size_t left = 0;
-    call_on_stack();
     while (left < STACK && stack[left] == PATTERN)
         left++;
-    printf("%s: %zu bytes of stack\n", what, STACK - left);
-    if (report.kind == kind && report.first == first && STACK - left < LIMIT) {
+    return STACK - left;
+}
+
+static void tell(const char *what, size_t used, int right)
+{
+    printf("%s: %zu bytes of stack\n", what, used);
+    if (right && used < LIMIT) {
         passed++;
     } else {
         failed++;
         printf("FAILED %s\n", what);
     }
+}
+
+/* One call of lgs_place; the answer is of this kind, with this first value. */
+static void measure(const char *what, uint64_t kind, uint64_t first)
+{
+    size_t used = call_on_stack(call);
+    tell(what, used, report.kind == kind && report.first == first);
+}
+
+/* One call of lgs_stages; the last student has this stage after it. */
+static void measure_stages(const char *what, uint64_t kind, uint64_t first, uint16_t last)
+{
+    memset(stages, 0, sizeof stages);
+    size_t used = call_on_stack(call_stages);
+    tell(what, used, part_report.kind == kind && part_report.first == first && stages[STUDENTS - 1] == last);
+}
+
+static void put(size_t record, unsigned kind, unsigned a, unsigned b, unsigned c, unsigned d)
+{
+    const unsigned field[4] = {a, b, c, d};
+    uint8_t *bytes = full_case + 16 * record;
+    bytes[0] = (uint8_t)kind;
+    for (size_t i = 0; i < 4; i++) {
+        bytes[2 * i + 2] = (uint8_t)(field[i] & 255);
+        bytes[2 * i + 3] = (uint8_t)(field[i] >> 8);
+    }
+}
+
+/* 512 students, 64 workshops, all pairs; every workshop ranks student after student. */
+static void make_full_case(void)
+{
+    for (unsigned s = 1; s <= STUDENTS; s++)
+        put(s - 1, 1, s, 1, 65, 0);
+    for (unsigned w = 1; w <= WORKSHOPS; w++)
+        put(STUDENTS + w - 1, 2, w, 8, 513, 0);
+    for (unsigned s = 1; s <= STUDENTS; s++)
+        for (unsigned w = 1; w <= WORKSHOPS; w++)
+            put(STUDENTS + WORKSHOPS + WORKSHOPS * (s - 1) + w - 1, 3, s, w, 1, s);
+}
+
+/* The stack of lgs_stages at the largest size: a chain of 512, one class of all, two students turned, and a fault in the last record. */
+static void measure_all_stages(void)
+{
+    make_full_case();
+    measure_stages("stages: a chain of 512", LGS_DONE, STUDENTS, 512);
+    put(RECORDS - 1, 3, STUDENTS, WORKSHOPS, 1, 513);
+    put(RECORDS - 1 - WORKSHOPS, 3, STUDENTS - 1, WORKSHOPS, 1, 513);
+    measure_stages("stages: equal at one workshop only", LGS_REFUSED, LGS_NO_STAGES, 0);
+    put(RECORDS - 1, 3, STUDENTS, WORKSHOPS, 1, 511);
+    put(RECORDS - 1 - WORKSHOPS, 3, STUDENTS - 1, WORKSHOPS, 1, 512);
+    measure_stages("stages: two students turned", LGS_REFUSED, LGS_NO_STAGES, 0);
+    put(RECORDS - 1, 3, STUDENTS, WORKSHOPS, 1, 514);
+    measure_stages("stages: the last record out of range", LGS_REFUSED, LGS_CASE_RANGE, 0);
+    for (size_t i = STUDENTS + WORKSHOPS; i < RECORDS; i++) {
+        full_case[16 * i + 8] = 1;
+        full_case[16 * i + 9] = 0;
+    }
+    measure_stages("stages: all in one group", LGS_DONE, STUDENTS, 1);
 }
 
 /* All marks of one side, at this byte of each record, are 5. */
@@ -82,6 +150,7 @@ int main(int count, char **names)
     measure("equal marks of a workshop", LGS_REFUSED, LGS_BOOK_TIE);
     book_length = 0;
     measure("an empty book", LGS_NEXT, 1);
+    measure_all_stages();
     printf("%d passed, %d failed\n", passed, failed);
     return failed != 0;
 }

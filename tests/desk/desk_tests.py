@@ -1,6 +1,6 @@
-"""Tests of desk.py: example K to the byte, visits that end in never, years driven visit by visit, wrong inputs, a withdrawal.
+"""Tests of desk.py: example K to the byte, visits that end in never, years driven visit by visit, wrong inputs, a withdrawal, stages worked out.
 
-    python3 desk_tests.py DESK.PY PLACE
+    python3 desk_tests.py DESK.PY PLACE STAGES
 """
 import csv
 import io
@@ -9,11 +9,12 @@ import random
 import resource
 import shutil
 import stat
+import struct
 import subprocess
 import sys
 import tempfile
 
-DESK, PLACE = sys.argv[1], sys.argv[2]
+DESK, PLACE, STAGES = sys.argv[1:4]
 tally = {"passed": 0, "failed": 0}
 
 
@@ -23,9 +24,9 @@ def check(name, good, detail=""):
         print(f"FAILED {name}\n{detail}")
 
 
-def desk(folder, *words, place=PLACE, first=None):
+def desk(folder, *words, place=PLACE, stages=STAGES, first=None):
     """Runs desk.py in the folder as a clerk does: status, what it printed, what it complained of."""
-    env = {**os.environ, "PLACE": place}
+    env = {**os.environ, "PLACE": place, "STAGES": stages}
     done = subprocess.run([sys.executable, DESK, *words], cwd=folder, env=env, capture_output=True, stdin=subprocess.DEVNULL, preexec_fn=first)
     return done.returncode, done.stdout.decode(), done.stderr.decode()
 
@@ -40,6 +41,10 @@ def write(folder, name, data):
         f.write(data if isinstance(data, bytes) else data.encode())
 
 
+def read_all(folder):
+    return {name: read(folder, name) for name in os.listdir(folder)}
+
+
 def add(folder, name, text):
     write(folder, name, read(folder, name) + text.encode())
 
@@ -52,7 +57,7 @@ def new_files():
     """The four files of `desk.py new`."""
     with tempfile.TemporaryDirectory() as folder:
         answers("new", desk(folder, "new"), (0, NEW_SAYS, ""))
-        return {name: read(folder, name) for name in os.listdir(folder)}
+        return read_all(folder)
 
 
 NEW_FILES = {}
@@ -138,6 +143,12 @@ def guide(folder):
         write(folder, file, content)
         shows(text, desk(folder)[2])
         write(folder, file, before)
+    write(folder, "students.csv", students("Anna Berg,,2\nBen Olsen,,2\nCarla Roth,,2\n"))
+    shows(text, desk(folder, "stages")[1])
+    write(folder, "students.csv", students("Anna Berg,2,2\nBen Olsen,,2\nCarla Roth,,2\n"))
+    check("the guide shows what stood there", "Anna Berg (was 2)\n" in desk(folder, "stages")[1] and "`Anna Berg (was 2)`" in text)
+    write(folder, "pairs.csv", read(folder, "pairs.csv").replace(b"Anna Berg,Weaving mill,1,1", b"Anna Berg,Weaving mill,1,3"))
+    shows(text, desk(folder, "stages")[2])
     for shown in (NEW_SAYS, first, K_PLACED, NEVER_PLACED + NEVER_LIST):
         shows(text, shown)
     for visits in (K_VISITS[1:], NEVER_VISITS):
@@ -263,10 +274,15 @@ def unused_visit(folder):
     check("a visit not called for", "Visits so far: 0.\nOther visits in visits.csv, not called for so far: 1.\n" in out, out + err)
 
 
+WORKS_OUT = '"python3 desk.py stages" works out stages that agree, if there are any.\n'
+
+
 def stages_note(folder):
     write(folder, "students.csv", "student,stage,line group\nAnna Berg,2,2\nBen Olsen,1,2\nCarla Roth,1,2\n")
     status, out, err = desk(folder)
-    check("a note on the stages", "  Dye house: Anna Berg and Ben Olsen\n  Weaving mill: Anna Berg and Ben Olsen\n" in out, out + err)
+    check("a note on the stages", "  Dye house: Anna Berg and Ben Olsen\n  Weaving mill: Anna Berg and Ben Olsen\n" + WORKS_OUT in out, out + err)
+    desk(folder, "stages")
+    check("no note on stages worked out", desk(folder)[1].endswith("Visits so far: 0.\n"), desk(folder)[1])
 
 
 def withdrawal(folder):
@@ -293,16 +309,16 @@ NEVER_MARKS = [("never", ""), ("", "never"), ("-1000", "Never")]
 class HiddenYear:
     """Full orders that nobody sees but through groups and marks. `None` is no place. `share` is how many of the pairs are never."""
 
-    def __init__(self, seed, share, students=100, workshops=20):
+    def __init__(self, seed, share, stages=3, met=0.5, students=100, workshops=20):
         draw = random.Random(seed)
-        self.stage = {f'Berg, Åse "{n}"' if n % 7 == 0 else f"Student {n}": draw.randint(1, 3) for n in range(1, students + 1)}
+        self.stage = {f'Berg, Åse "{n}"' if n % 7 == 0 else f"Student {n}": draw.randint(1, stages) for n in range(1, students + 1)}
         self.quota = {f"Werkstatt; {n}" if n % 5 == 0 else f"Workshop {n}": draw.randint(0, 7) for n in range(1, workshops + 1)}
-        self.couples = {(s, w): None for s in self.stage for w in self.quota if draw.random() < 0.5}
+        self.couples = {(s, w): None for s in self.stage for w in self.quota if draw.random() < met}
         self.order, self.group, self.line = {}, {}, {}
         for s in self.stage:
             self.rank(draw, s, [w for w in self.quota if (s, w) in self.couples], lambda w: draw.randint(1, 4), draw.randint(2, 5))
         for w in self.quota:
-            self.rank(draw, w, [s for s in self.stage if (s, w) in self.couples], lambda s: self.stage[s], draw.randint(3, 4))
+            self.rank(draw, w, [s for s in self.stage if (s, w) in self.couples], lambda s: self.stage[s], draw.randint(stages, stages + 1))
         self.couples = list(self.couples)
         draw.shuffle(self.couples)
         self.never = {couple: draw.choice(NEVER_MARKS) for couple in self.couples if draw.random() < share}
@@ -315,6 +331,10 @@ class HiddenYear:
         all_options = options + [None]
         draw.shuffle(all_options)
         self.order[who] = sorted(all_options, key=lambda other: line if other is None else self.group[who, other])
+
+    def tables(self):
+        """The groups that count for the stages: of each workshop with quota above 0, for those not above its line group."""
+        return [{s: self.group[w, s] for s in self.stage if (s, w) in self.couples and self.group[w, s] <= self.line[w]} for w in self.quota if self.quota[w]]
 
     def marks(self, s, w):
         """What is written after their visit: each mark, or never instead."""
@@ -364,8 +384,12 @@ def csv_text(rows):
     return text.getvalue()
 
 
+def write_students(folder, year, stage):
+    write(folder, "students.csv", "\ufeff" + csv_text([("student", "stage", "line group")] + [(s, stage[s], year.line[s]) for s in year.stage]))
+
+
 def write_year(folder, year):
-    write(folder, "students.csv", "\ufeff" + csv_text([("student", "stage", "line group")] + [(s, n, year.line[s]) for s, n in year.stage.items()]))
+    write_students(folder, year, year.stage)
     write(folder, "workshops.csv", csv_text([("workshop", "quota", "line group")] + [(w, n, year.line[w]) for w, n in year.quota.items()]))
     rows = [(s, w, year.group[s, w], year.group[w, s]) for s, w in year.couples]
     write(folder, "pairs.csv", csv_text([("student", "workshop", "group from student", "group from workshop")] + rows))
@@ -402,10 +426,11 @@ def drive(desk_once, folder, year):
         add(folder, "visits.csv", csv_text([(*couple, *year.marks(*couple))]))
 
 
-def whole_year(seed, share):
-    year = HiddenYear(seed, share)
+def whole_year(seed, share, prepare=lambda folder, year: None, **shape):
+    year = HiddenYear(seed, share, **shape)
     with tempfile.TemporaryDirectory() as folder:
         write_year(folder, year)
+        prepare(folder, year)
         out, held = drive(InProcess().run, folder, year)
         check(f"year {seed} ends", held is not None, out)
         if held is None:
@@ -435,11 +460,12 @@ class InProcess:
         import desk as module
         self.module = module
 
-    def run(self, folder):
+    def run(self, folder, command="answer"):
         before = os.getcwd()
         os.chdir(folder)
         try:
-            return 0, "\n".join(self.module.answer(PLACE, False)) + "\n", ""
+            lines = self.module.answer(PLACE, False) if command == "answer" else self.module.work_out_stages(STAGES)
+            return 0, "\n".join(lines) + "\n", ""
         except self.module.Stop as stop:
             return 1, "", str(stop)
         finally:
@@ -472,7 +498,8 @@ WRONG = [
      'students.csv, row 1: the column "stage" is missing. The headings are student, line group; needed are student, stage, line group.\n'),
     ("a heading twice", "students.csv", "student,stage,stage,line group\nAnna,1,1,2\n",
      'students.csv, row 1: the column "stage" is there twice. The headings are student, stage, stage, line group; needed are student, stage, line group.\n'),
-    ("an empty cell", "students.csv", students("Anna,,2\n"), f'students.csv, row 2, column "stage": the cell is empty; {RANGE} 1 to 512.{END}'),
+    ("an empty cell", "students.csv", students("Anna,,2\n"),
+     f'students.csv, row 2, column "stage": the cell is empty; {RANGE} 1 to 512. "python3 desk.py stages" works it out.{END}'),
     ("a stage of 0", "students.csv", students("Anna,0,2\n"), f'students.csv, row 2, column "stage": "0" is there; {RANGE} 1 to 512.{END}'),
     ("a word for a number", "students.csv", students("Anna,1,two\n"),
      f'students.csv, row 2, column "line group": "two" is there; {RANGE} 1 to 65.{END}'),
@@ -585,10 +612,10 @@ def wrong_input(folder, name, file, content, message):
     write(folder, file, content)
     for data in ("case.dat", "book.dat"):
         write(folder, data, b"as it was")
-    before = {name: read(folder, name) for name in os.listdir(folder)}
+    before = read_all(folder)
     status, out, err = desk(folder)
     answers(name, (status, out, err), (1, "", message))
-    check(f"{name}: nothing is written", before == {name: read(folder, name) for name in os.listdir(folder)})
+    check(f"{name}: nothing is written", before == read_all(folder))
 
 
 def wrong_inputs():
@@ -644,10 +671,10 @@ def finding_place(folder):
 
 
 def other_folders(folder):
-    before = {name: read(folder, name) for name in os.listdir(folder)}
+    before = read_all(folder)
     answers("new in a used folder", desk(folder, "new"),
             (1, "", "students.csv and workshops.csv and pairs.csv and visits.csv are in this folder already. Nothing was written.\n"))
-    check("new leaves what is there", before == {name: read(folder, name) for name in os.listdir(folder)})
+    check("new leaves what is there", before == read_all(folder))
     write(folder, "case.dat", b"as it was")
     small_files = lambda: resource.setrlimit(resource.RLIMIT_FSIZE, (100, 100))
     answers("no room for the whole case", desk(folder, first=small_files), (1, "", "case.dat and book.dat cannot be written in this folder: File too large.\n"))
@@ -665,14 +692,398 @@ def other_folders(folder):
         check("a full disk", (done.returncode, done.stderr) == (1, b"The answer could not be written: No space left on device.\n"))
 
 
+# ---------------------------------------------------------------- stages
+
+WROTE = """
+Wrote them in students.csv: {} changed, all else is as it was.
+If your spreadsheet has students.csv open, close it there without saving, and open it again.
+"""
+K_STAGES = "Stage 1: Anna Berg\nStage 2: Ben Olsen, Carla Roth\n"
+K_HAS_THEM = K_STAGES + "\nstudents.csv has these stages already. Nothing was written.\n"
+
+# The three stages as they are written, and what is said.
+TYPED = [
+    (("1", "2", "2"), K_HAS_THEM),
+    (("+1", " 2 ", "002"), K_HAS_THEM),
+    (("", "", ""), K_STAGES + WROTE.format("3 cells")),
+    (("", "2", " "), K_STAGES + WROTE.format("2 cells")),
+    (("2", "1", "1"), "Stage 1: Anna Berg (was 2)\nStage 2: Ben Olsen (was 1), Carla Roth (was 1)\n" + WROTE.format("3 cells")),
+    (("1", "2", "512"), "Stage 1: Anna Berg\nStage 2: Ben Olsen, Carla Roth (was 512)\n" + WROTE.format("1 cell")),
+    (("1", "", "3"), "Stage 1: Anna Berg\nStage 2: Ben Olsen, Carla Roth (was 3)\n" + WROTE.format("2 cells")),
+]
+
+# Ways to write students.csv, before and after.
+KEPT = [
+    ("commas", "student,stage,line group\nAnna Berg,,2\nBen Olsen,,2\nCarla Roth,,2\n",
+     "student,stage,line group\nAnna Berg,1,2\nBen Olsen,2,2\nCarla Roth,2,2\n"),
+    ("semicolons, CRLF, a byte order mark", "\ufeffstudent;stage;line group\r\nAnna Berg;3;2\r\nBen Olsen;2;2\r\nCarla Roth;1;2\r\n",
+     "\ufeffstudent;stage;line group\r\nAnna Berg;1;2\r\nBen Olsen;2;2\r\nCarla Roth;2;2\r\n"),
+    ("a byte order mark and commas", "\ufeffstudent,stage,line group\nAnna Berg,,2\nBen Olsen,2,2\nCarla Roth,,2",
+     "\ufeffstudent,stage,line group\nAnna Berg,1,2\nBen Olsen,2,2\nCarla Roth,2,2"),
+    ("tabs, no line feed at the end", "line group\tstage\tstudent\n2\t\tAnna Berg\n2\t\tBen Olsen\n2\t9\tCarla Roth",
+     "line group\tstage\tstudent\n2\t1\tAnna Berg\n2\t2\tBen Olsen\n2\t2\tCarla Roth"),
+    ("quotation marks, other columns, empty rows, other order",
+     '"Phone, home";"note";"STAGE";student;"Line group"\r\n"0;1";"said ""stage;1"";\r\nnext line";"";"Carla  Roth";"2"\r\n'
+     ';;;;\r\n\r\n;1;" 1 "; Ben Olsen ;2\r\n  \u00e4\u2028\u0085 x "y";;"7";"Anna Berg";2;;\r\n\r\n\r\n',
+     '"Phone, home";"note";"STAGE";student;"Line group"\r\n"0;1";"said ""stage;1"";\r\nnext line";"2";"Carla  Roth";"2"\r\n'
+     ';;;;\r\n\r\n;1;"2"; Ben Olsen ;2\r\n  \u00e4\u2028\u0085 x "y";;"1";"Anna Berg";2;;\r\n\r\n\r\n'),
+    ("rows without their last cells", "student,line group,note,stage,more\nAnna Berg,2\r\nBen Olsen,2,,\nCarla Roth,2,x",
+     "student,line group,note,stage,more\nAnna Berg,2,,1\r\nBen Olsen,2,,2\nCarla Roth,2,x,2"),
+    ("the stage as the first and as the last column", "stage,student,line group\n,Anna Berg,2\n,Ben Olsen,2\n,Carla Roth,2\n",
+     "stage,student,line group\n1,Anna Berg,2\n2,Ben Olsen,2\n2,Carla Roth,2\n"),
+    ("line ends of three kinds", "student,line group,stage\nAnna Berg,2,\rBen Olsen,2,\r\nCarla Roth,2,\n",
+     "student,line group,stage\nAnna Berg,2,1\rBen Olsen,2,2\r\nCarla Roth,2,2\n"),
+    ("letters with their accent as two signs", "student,stage,line group,A\u030a\nAnna Berg,,2,A\u030ase\nBen Olsen,,2,\u00c5\nCarla Roth,,2,\n",
+     "student,stage,line group,A\u030a\nAnna Berg,1,2,A\u030ase\nBen Olsen,2,2,\u00c5\nCarla Roth,2,2,\n"),
+]
+
+# Stages that are refused before the program is run: students.csv, and the message.
+WRONG_STAGES = [
+    ("0", f'"0" is there; {RANGE} 1 to 512.'),
+    ("513", f'"513" is there; {RANGE} 1 to 512.'),
+    ("one", f'"one" is there; {RANGE} 1 to 512.'),
+]
+
+NO_STAGES = """No stage numbers agree with the groups of all workshops. Nothing was written.
+That is so where two workshops put the same students in another order, directly or through others.{}
+See whether such a group was typed wrongly in pairs.csv; if so, correct it and run desk.py stages again.
+(A workshop with quota 0 does not count, nor does a student in a group above a workshop's line group.)
+If the groups are right, keep any stages in students.csv, for instance 1 for everybody.
+The placement is as good in any case; only the list of visits may be longer than needed.
+"""
+
+# Groups without stages that agree: name, workshops, pairs (of the workshop's group), the lines that say where.
+CONTRADICTIONS = [
+    ("another order", "Dye house,1,3\nWeaving mill,1,3\n",
+     [("Anna Berg", "Dye house", 1), ("Ben Olsen", "Dye house", 2), ("Anna Berg", "Weaving mill", 3), ("Ben Olsen", "Weaving mill", 2)],
+     ["Dye house: Anna Berg before Ben Olsen", "Weaving mill: Ben Olsen before Anna Berg"]),
+    ("one group and two", "Dye house,1,3\nWeaving mill,1,3\n",
+     [("Carla Roth", "Dye house", 3), ("Ben Olsen", "Dye house", 1), ("Carla Roth", "Weaving mill", 2), ("Ben Olsen", "Weaving mill", 2)],
+     ["Dye house: Ben Olsen before Carla Roth", "Weaving mill: Carla Roth in the same group as Ben Olsen"]),
+    ("through others", "Dye house,1,3\nForge,2,1\nWeaving mill,1,3\n",
+     [("Anna Berg", "Dye house", 1), ("Ben Olsen", "Dye house", 2), ("Ben Olsen", "Forge", 1), ("Carla Roth", "Forge", 1),
+      ("Carla Roth", "Weaving mill", 1), ("Anna Berg", "Weaving mill", 3)],
+     ["Dye house: Anna Berg before Ben Olsen", "Forge: Ben Olsen in the same group as Carla Roth", "Weaving mill: Carla Roth before Anna Berg"]),
+]
+
+# What a program that is not `stages` prints, its status, and the message.
+STAGES_PRINTED = [
+    ("refused 5 4", 1, "workshops.csv, row 3: a stage, quota, group or line group is out of range."),
+    ("refused 2 0", 0, "students.csv, row 2: a kind is not 1 to 3, or a byte that should be zero is not."),
+    ("refused 4 0", 1, "`stages` refused the files, number 4: there is no student, no workshop, or too many of them."),
+    ("refused 6 0", 1, "`stages` refused the files, number 6: a buffer of the program is too short."),
+    ("refused 99 0", 1, "`stages` refused the files, number 99: desk.py does not know this number."),
+    ("refused 12 0", 1, NO_STAGES.format("").rstrip("\n")),
+    ("unread", 2, "`stages` could not read the case that desk.py made for it. Nothing was written."),
+    ("hello", 0, "`stages` printed what desk.py does not know: hello"),
+    ("stage 2 1", 0, "`stages` printed what desk.py does not know: stage 2 1"),
+    ("stage 1 0", 0, "`stages` printed what desk.py does not know: stage 1 0"),
+    ("stage 1 513", 0, "`stages` printed what desk.py does not know: stage 1 513"),
+    ("stage 1 1; echo stage 2 2; echo stage 3 2; echo stage 4 2", 0, "`stages` printed what desk.py does not know: stage 4 2"),
+    ("stage 1 1; echo stage 2 2; echo refused 12 0", 0, "`stages` printed what desk.py does not know: refused 12 0"),
+    ("stage 1 1; echo stage 2 2", 0, "The answer of `stages` was cut off. Nothing was written. Run desk.py stages again."),
+    ("stage 1 1; echo stage 2 2; printf 'stage 3 2'", 0, "The answer of `stages` was cut off. Nothing was written. Run desk.py stages again."),
+    ("stage 1 1; echo stage 2 2; echo stage 3 2", 2, "{fake} ended with status 2. "),
+    ("refused 12 0", 139, "{fake} ended with status 139. "),
+]
+
+
+def stages_of_k(folder):
+    """The stage column right, wrong, and without numbers; whatever is in visits.csv, and without it."""
+    for visits in ("", VISIT_HEAD + "Nobody,Nowhere,x,y\n", None):
+        for typed, said in TYPED:
+            write(folder, "students.csv", students("{0},{3},2\n{1},{4},2\n{2},{5},2\n".format("Anna Berg", "Ben Olsen", "Carla Roth", *typed)))
+            if visits is None and os.path.exists(os.path.join(folder, "visits.csv")):
+                os.remove(os.path.join(folder, "visits.csv"))
+            elif visits is not None:
+                write(folder, "visits.csv", visits)
+            before = read_all(folder)
+            if "Wrote" in said:
+                rows = zip(("Anna Berg", "Ben Olsen", "Carla Roth"), typed, "122")
+                before["students.csv"] = students("".join(f"{name},{cell if cell == stage else stage},2\n" for name, cell, stage in rows)).encode()
+            answers(f"stages {typed}", desk(folder, "stages"), (0, said, ""))
+            check(f"stages {typed}: what is written", read_all(folder) == before, str(read_all(folder)))
+
+
+def stages_kept(folder):
+    """Nothing but the stage cells changes, and nothing changes the second time."""
+    for name, before, after in KEPT:
+        write(folder, "students.csv", before)
+        status, out, err = desk(folder, "stages")
+        check(f"{name}: stages", status == 0 and "Wrote" in out, out + err)
+        check(f"{name}: all else is kept", read(folder, "students.csv") == after.encode(), f"{read(folder, 'students.csv')}\nwanted {after.encode()}")
+        status, out, err = desk(folder, "stages")
+        check(f"{name}: the second time", status == 0 and "Nothing was written" in out and read(folder, "students.csv") == after.encode(), out + err)
+        status, out, err = desk(folder)
+        check(f"{name}: no note", status == 0 and "Note" not in out, out + err)
+
+
+def stages_wrong(folder):
+    for cell, message in WRONG_STAGES:
+        write(folder, "students.csv", students(f"Anna Berg,,2\nBen Olsen,{cell},2\nCarla Roth,,2\n"))
+        before = read_all(folder)
+        answers(f"a stage {cell}", desk(folder, "stages"), (1, "", f'students.csv, row 3, column "stage": {message}{END}'))
+        check(f"a stage {cell}: nothing is written", read_all(folder) == before)
+    write(folder, "students.csv", students("Anna Berg,,\nBen Olsen,,2\nCarla Roth,,2\n"))
+    answers("a line group is still needed", desk(folder, "stages"),
+            (1, "", f'students.csv, row 2, column "line group": the cell is empty; {RANGE} 1 to 65.{END}'))
+    write(folder, "students.csv", "student,line group\nAnna Berg,2\n")
+    check("the stage column is still needed", desk(folder, "stages")[2].startswith('students.csv, row 1: the column "stage" is missing.'))
+    os.remove(os.path.join(folder, "students.csv"))
+    check("no students.csv", desk(folder, "stages")[2].startswith("students.csv is not in this folder"))
+
+
+def no_stages(folder):
+    """Refusal 12, told with the groups; and what does not count."""
+    for name, workshops, couples, lines in CONTRADICTIONS:
+        write(folder, "students.csv", students("Anna Berg,,2\nBen Olsen,7,2\nCarla Roth,,2\n"))
+        write(folder, "workshops.csv", "workshop,quota,line group\n" + workshops)
+        write(folder, "pairs.csv", pairs("".join(f"{s},{w},1,{group}\n" for s, w, group in couples)))
+        before = read_all(folder)
+        answers(name, desk(folder, "stages"), (1, "", NO_STAGES.format(" Here:" + "".join(f"\n  {line}" for line in lines))))
+        check(f"{name}: nothing is written", read_all(folder) == before)
+        for what, mill in (("quota 0", "mill,0,3"), ("beyond the line", "mill,1,1")):
+            write(folder, "students.csv", before["students.csv"])
+            write(folder, "workshops.csv", "workshop,quota,line group\n" + workshops.replace("mill,1,3", mill))
+            status, out, err = desk(folder, "stages")
+            check(f"{name}, with {what}", status == 0 and "Wrote" in out, out + err)
+
+
+def other_stages_programs(folder):
+    fake = os.path.join(folder, "fake")
+    write(folder, "students.csv", students("Anna Berg,,2\nBen Olsen,,2\nCarla Roth,,2\n"))
+    for printed, status, message in STAGES_PRINTED:
+        write(folder, "fake", f"#!/bin/sh\necho {printed}\nexit {status}\n")
+        os.chmod(fake, stat.S_IRWXU)
+        before = read_all(folder)
+        answers(f"stages that prints {printed}", desk(folder, "stages", stages=fake), (1, "", message.format(fake=fake) + "\n"))
+        check(f"stages that prints {printed}: nothing is written", read_all(folder) == before)
+    write(folder, "fake", f"#!/bin/sh\necho Dora,,2 >> {folder}/students.csv\necho stage 1 1\necho stage 2 2\necho stage 3 2\n")
+    wanted = read(folder, "students.csv") + b"Dora,,2\n"
+    answers("changed meanwhile", desk(folder, "stages", stages=fake),
+            (1, "", "students.csv was changed by somebody else at this moment. Nothing was written. Run desk.py stages again.\n"))
+    check("changed meanwhile: kept", read(folder, "students.csv") == wanted)
+    os.chmod(fake, 0)
+    answers("stages is not allowed to run", desk(folder, "stages", stages=fake)[2], f"{fake} may not be run. This allows it: chmod +x {fake}\n")
+    answers("no such stages", desk(folder, "stages", "--stages", "nobody"), (1, "", f"There is no program {os.path.realpath(folder)}/nobody.\n"))
+    check("no program: nothing is written", read(folder, "students.csv") == wanted)
+
+
+def finding_stages(folder):
+    """Beside desk.py, on the PATH, nowhere."""
+    own, before = os.path.join(folder, "desk.py"), read(folder, "students.csv")
+    shutil.copy(DESK, own)
+    env = {name: value for name, value in os.environ.items() if name != "STAGES"}
+
+    def run(path):
+        done = subprocess.run([sys.executable, own, "stages"], cwd=folder, env={**env, "PATH": path}, capture_output=True)
+        return done.stdout.decode() + done.stderr.decode()
+
+    with tempfile.TemporaryDirectory() as other:
+        shutil.copy(STAGES, os.path.join(other, "stages"))
+        answers("stages on the PATH", run(other), K_HAS_THEM)
+        answers("no stages", run("/nowhere"), f"The program `stages` was not found. Copy it to {os.path.realpath(folder)}/stages, or name it: --stages PATH.\n")
+        check("no stages: nothing is written", read(folder, "students.csv") == before)
+    shutil.copy(STAGES, os.path.join(folder, "stages"))
+    answers("stages beside desk.py", run("/nowhere"), K_HAS_THEM)
+
+
+def writing_stages(folder):
+    """Rights, links, a protected file, no room."""
+    path, blank = os.path.join(folder, "students.csv"), students("Anna Berg,,2\nBen Olsen,,2\nCarla Roth,,2\n")
+    right = students("Anna Berg,1,2\nBen Olsen,2,2\nCarla Roth,2,2\n").encode()
+    write(folder, "students.csv", blank)
+    os.chmod(path, 0o600)
+    desk(folder, "stages")
+    check("the rights are kept", stat.S_IMODE(os.stat(path).st_mode) == 0o600 and read(folder, "students.csv") == right)
+    os.chmod(path, 0o444)
+    answers("nothing to write in a protected file", desk(folder, "stages"), (0, K_HAS_THEM, ""))
+    os.remove(path)
+    write(folder, "students.csv", blank)
+    os.chmod(path, 0o444)
+    answers("a protected file", desk(folder, "stages"), (1, "", "students.csv is protected against writing. Nothing was written.\n"))
+    check("a protected file is kept", read(folder, "students.csv") == blank.encode())
+    os.remove(path)
+    with tempfile.TemporaryDirectory() as other:
+        write(other, "shared.csv", blank)
+        os.symlink(os.path.join(other, "shared.csv"), path)
+        desk(folder, "stages")
+        check("the file behind a link", os.path.islink(path) and read(other, "shared.csv") == right and os.listdir(other) == ["shared.csv"])
+    os.remove(path)
+    long = students("Anna Berg,,2\nBen Olsen,,2\nCarla Roth,,2\n").replace("\n", "," + 100 * "x" + "\n")
+    write(folder, "students.csv", long)
+    before = read_all(folder)
+    for limit, message in ((100, "case.dat cannot be written for `stages`: File too large. Nothing was written.\n"),
+                           (300, "students.csv cannot be written in this folder: File too large.\n")):
+        answers(f"room for {limit} bytes", desk(folder, "stages", first=lambda: resource.setrlimit(resource.RLIMIT_FSIZE, (limit, limit))), (1, "", message))
+        check(f"room for {limit} bytes: all is kept", read_all(folder) == before, str(os.listdir(folder)))
+
+
+def only_stages():
+    """The last check before writing finds any other change."""
+    module = InProcess().module
+    old, new = b"student,stage,note\nAnna,,x\nBen,2,y\n", b"student,stage,note\nAnna,1,x\nBen,2,y\n"
+    check("with stages", module.with_stages(old, {2: 1}) == new)
+    for wrong in (new.replace(b"x", b"z"), new.replace(b"Ben,2", b"Ben,1"), new.replace(b"Anna,1", b"Anna,2"), new + b"\n", new[:-8], old):
+        try:
+            module.check_only_stages(old, wrong, 1, {2: 1})
+            check("another change", False, str(wrong))
+        except module.Stop as stop:
+            check("another change", "Nothing was written" in str(stop))
+
+
+# ---------------------------------------------------------------- the program stages
+
+
+def run_stages(folder, **how):
+    done = subprocess.run([STAGES], cwd=folder, stdin=subprocess.DEVNULL, stderr=subprocess.PIPE, **{"stdout": subprocess.PIPE, **how})
+    return done.returncode, done.stdout, done.stderr
+
+
+def stages_program():
+    with tempfile.TemporaryDirectory() as folder:
+        answers("no case.dat", run_stages(folder), (2, b"unread\n", b""))
+        os.mkdir(os.path.join(folder, "case.dat"))
+        answers("case.dat is a folder", run_stages(folder), (2, b"unread\n", b""))
+        os.rmdir(os.path.join(folder, "case.dat"))
+        k = bytes.fromhex(K_CASE)
+        lower = bytes.fromhex(K_CASE.replace("03 00 01 00 02 00 01 00 01 00", "03 00 01 00 02 00 01 00 03 00"))
+        stage_0 = k[:20] + b"\0" + k[21:]
+        for name, case, answer in (("K", k, (0, b"stage 1 1\nstage 2 2\nstage 3 2\n", b"")), ("no bytes", b"", (1, b"refused 4 0\n", b"")),
+                                   ("15 bytes", k[:15], (1, b"refused 1 0\n", b"")), ("another order", lower, (1, b"refused 12 0\n", b"")),
+                                   ("a stage of 0", stage_0, (1, b"refused 5 1\n", b""))):
+            write(folder, "case.dat", case)
+            answers(f"stages on {name}", run_stages(folder), answer)
+        write(folder, "case.dat", k)
+        with open("/dev/full", "wb") as full:
+            check("stages on a full disk", run_stages(folder, stdout=full)[0] == 2)
+        largest = [struct.pack("<BB3H8x", 1, 0, s, 1, 1) for s in range(1, 513)] + [struct.pack("<BB3H8x", 2, 0, w, 512, 513) for w in range(1, 65)]
+        largest += [struct.pack("<BB4H6x", 3, 0, s, w, 1, 513 - s) for s in range(1, 513) for w in range(1, 65)]
+        write(folder, "case.dat", b"".join(largest))
+        answers("stages on the largest case", run_stages(folder), (0, "".join(f"stage {s} {513 - s}\n" for s in range(1, 513)).encode(), b""))
+        with open("/dev/full", "wb") as full:
+            check("many stages on a full disk", run_stages(folder, stdout=full)[0] == 2)
+
+
+# ---------------------------------------------------------------- stages of made-up years
+
+
+def smallest_stages(names, tables):
+    """The smallest stages from 1 that agree, or None: students who must have one stage are put together, and then counted from the front."""
+    same = {name: name for name in names}
+
+    def head(name):
+        while same[name] != name:
+            name = same[name]
+        return name
+
+    levels = [[[s for s in table if table[s] == group] for group in sorted(set(table.values()))] for table in tables]
+    for level in (level for table in levels for level in table):
+        for s in level:
+            same[head(s)] = head(level[0])
+    later = {(head(one[0]), head(two[0])) for table in levels for one, two in zip(table, table[1:])}
+    stage, left = {}, {head(name) for name in names}
+    while left:
+        ready = [one for one in left if not any(two == one and before in left for before, two in later)]
+        if not ready:
+            return None
+        for one in ready:
+            stage[one] = max((stage[before] + 1 for before, two in later if two == one), default=1)
+        left -= set(ready)
+    return {name: stage[head(name)] for name in names}
+
+
+def written_stages(folder):
+    rows = list(csv.reader(io.StringIO(read(folder, "students.csv").decode("utf-8-sig"), newline=""), delimiter=";"))
+    return {row[0]: int(row[1]) for row in rows[1:]}
+
+
+def work_out(folder, year):
+    """Writes the year without stages, or with wrong ones, and works them out, before it is driven."""
+    wanted = smallest_stages(year.stage, year.tables())
+    typed = {"none": dict.fromkeys(year.stage, ""), "all 1": dict.fromkeys(year.stage, 1), "backward": {s: 9 - n for s, n in year.stage.items()}}
+    for name, stage in typed.items():
+        write_students(folder, year, stage)
+        status, out, err = desk(folder)
+        check(f"a year with stages {name}", ('"python3 desk.py stages" works it out.' in err) if name == "none" else (WORKS_OUT in out), out + err)
+        others = {file: data for file, data in read_all(folder).items() if file != "students.csv"}
+        status, out, err = desk(folder, "stages")
+        check(f"a year with stages {name}: worked out", status == 0 and written_stages(folder) == wanted, out + err)
+        check(f"a year with stages {name}: told", [line.split(":")[0] for line in out.split("\n\n")[0].split("\n")]
+              == [f"Stage {n}" for n in sorted(set(wanted.values()))], out)
+        check(f"a year with stages {name}: other files", {file: data for file, data in read_all(folder).items() if file != "students.csv"} == others)
+        status, out, err = desk(folder)
+        check(f"a year with stages {name}: no note any more", status == 0 and "Note" not in out, out + err)
+    check("the year has several stages", len(set(wanted.values())) > 3, str(wanted))
+
+
+def is_contradiction(steps, tables):
+    """Each student comes, at the workshop named, before the next or with her; the round closes, and some one comes before."""
+    closes = all(one[2] == two[1] for one, two in zip(steps, steps[1:] + steps[:1]))
+    known = all(w in tables and one in tables[w] and two in tables[w] for w, one, two, _ in steps)
+    right = known and all((tables[w][one] < tables[w][two]) if before else (tables[w][one] == tables[w][two]) for w, one, two, before in steps)
+    return closes and right and any(step[3] for step in steps)
+
+
+def has_direct(tables):
+    """Two students whom two workshops put in another order, or one workshop in one group and the other not."""
+    sign = lambda table, one, two: (table[one] > table[two]) - (table[one] < table[two])
+    return any(sign(a, one, two) != sign(b, one, two) for a in tables.values() for b in tables.values() for one in a if one in b for two in a if two in b)
+
+
+def small_years():
+    """Small years, with stages and without: against the count above, and what is told of a contradiction is one."""
+    draw, process, met = random.Random(5), InProcess(), {"stages": 0, "direct": 0, "through others": 0}
+    names, workshops = [f"S{n}" for n in range(1, 10)], [f"W{n}" for n in range(1, 9)]
+    for _ in range(400):
+        quota, line = {w: draw.choice((0, 1, 1, 2, 512)) for w in workshops}, {w: draw.randint(3, 6) for w in workshops}
+        share, hidden, slips = 0.1 + draw.random() * 0.4, {s: draw.randint(1, 5) for s in names}, draw.choice((0, 0, 0.2, 1))
+        group = {(s, w): draw.randint(1, 6) if draw.random() < slips else hidden[s] for s in names for w in workshops if draw.random() < share}
+        tables = {w: {s: group[s, w] for s in names if (s, w) in group and group[s, w] <= line[w]} for w in workshops if quota[w]}
+        wanted = smallest_stages(names, tables.values())
+        with tempfile.TemporaryDirectory() as folder:
+            write(folder, "students.csv", csv_text([("student", "stage", "line group")] + [(s, draw.choice(("", 1, 512)), 1) for s in names]))
+            write(folder, "workshops.csv", csv_text([("workshop", "quota", "line group")] + [(w, quota[w], line[w]) for w in workshops]))
+            write(folder, "pairs.csv", pairs("").replace(",", ";") + csv_text([(s, w, 1, n) for (s, w), n in group.items()]))
+            before = read_all(folder)
+            status, out, err = process.run(folder, "stages")
+            if wanted:
+                met["stages"] += 1
+                check("a small year's stages", status == 0 and written_stages(folder) == wanted, f"{before}\n{out}{err}")
+            else:
+                steps = told_steps(err)
+                met["direct" if len(steps) == 2 else "through others"] += 1
+                refused = status == 1 and err.startswith("No stage numbers agree")
+                check("a small year without stages", refused and read_all(folder) == before, f"{before}\n{out}{err}")
+                check("a small year's contradiction", is_contradiction(steps, tables) and (len(steps) == 2) == has_direct(tables), f"{before}\n{err}")
+    check("small years of all kinds", min(met.values()) > 10, str(met))
+    print(f"small years: {met}")
+
+
+def told_steps(err):
+    """The lines of a contradiction as workshop, student, next student, and whether before."""
+    steps = []
+    for line in err.split("\n"):
+        if line.startswith("  "):
+            workshop, text = line[2:].split(": ")
+            one, two = (text.split(" before ") if " before " in text else text.split(" in the same group as "))
+            steps.append((workshop, one, two, " before " in text))
+    return steps
+
+
 def main():
     NEW_FILES.update(new_files())
     for test in (example_k, guide, never, ends_of_a_visit, nevers_of_a_workshop, other_spellings, accents, planned_row, unused_visit, stages_note,
-                 withdrawal, too_many_pairs, refusals, other_programs, finding_place, other_folders):
+                 withdrawal, too_many_pairs, refusals, other_programs, finding_place, other_folders, stages_of_k, stages_kept, stages_wrong, no_stages,
+                 other_stages_programs, finding_stages, writing_stages):
         in_new_folder(test)
     wrong_inputs()
+    only_stages()
+    stages_program()
+    small_years()
     whole_year(1, share=0)
     whole_year(2, share=0.3)
+    whole_year(3, share=0.3, prepare=work_out, stages=6, met=0.25)
     print(f"{tally['passed']} passed, {tally['failed']} failed")
     return 1 if tally["failed"] else 0
 

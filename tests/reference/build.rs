@@ -1,4 +1,4 @@
-//! Tells the linker where the engine's static library is.
+//! Tells the linker where the static libraries of the engine and of the stages are.
 
 use std::env;
 
@@ -12,6 +12,7 @@ fn main() {
             println!("cargo:rerun-if-changed={folder}");
             println!("cargo:rustc-link-search=native={folder}");
             println!("cargo:rustc-link-lib=static=engine");
+            println!("cargo:rustc-link-lib=static=stages");
         }
         Err(_) => println!("cargo:warning=ENGINE_LIB_DIR is not set; linking will fail"),
     }

@@ -21,12 +21,11 @@ use Rattle.format.specs.Refusals.{Room, needed, badForm, badOrder, badCounts, b
 use Rattle.format.specs.Causes.{whole}
 use Rattle.format.specs.Promises.{Valid}
 use Rattle.format.specs.Engine.{marketIn, resultsIn}
-use Rattle.format.proofs.Positions.{places, pair-says, pair-names, stage-at, student-outside-at, quota-at, workshop-outside-at, student-tier-at}
-use Rattle.format.proofs.Positions.{workshop-tier-at}
 use Rattle.format.proofs.Causes.{passed, room-passes}
 use Rattle.format.proofs.Reading.{Passed, entry-found, entry-at, interview-says}
 use Rattle.records.specs.Records.{pairPlace}
-use Rattle.lookup.specs.Clean.{Clean, StudentAt, WorkshopAt, PairAt, EntryAt, indexAt}
+use Rattle.lookup.specs.Clean.{Clean, EntryAt, indexAt}
+use Rattle.lookup.proofs.People.{student-at, workshop-at, pair-at, named-at}
 use Rattle.case_tests.specs.Checked.{CleanCase, pairCount}
 use Rattle.case_tests.proofs.Cases.{clean, few}
 use Rattle.book_tests.specs.Index.{fromOne, lentIndex}
@@ -44,24 +43,6 @@ module _ (case book : List ℕ) (c : CleanCase case (marketIn case .students) (m
 
   abbrev index : List ℕ
   index = lentIndex case book (entryCount book) lent
-
-  pair-at : (s w : ℕ) → marketIn case .paired s w ≡ true → PairAt case s w
-  unfolding marketOf
-  pair-at s w e =
-      let p : Placed case s w (pairPlace case s w) = placed-by case n m c s w e in
-      record {
-        within = p .inside;
-        studentTier = student-tier-at case (clean case n m c) s w (pairPlace case s w) (p .inside) (p .pair);
-        workshopTier = workshop-tier-at case (clean case n m c) s w (pairPlace case s w) (p .inside) (p .pair);
-      }
-
-  named-at : (s w : ℕ) → marketIn case .paired s w ≡ true → ((1 ≤ s) × (s ≤ n)) × ((1 ≤ w) × (w ≤ m))
-  unfolding marketOf
-  named-at s w e =
-      let p : Placed case s w (pairPlace case s w) = placed-by case n m c s w e in
-      let says = pair-says s w (rowAt case (pairPlace case s w)) (p .pair) in
-      let names = pair-names case (clean case n m c) (pairPlace case s w) (p .inside) (says .0) in
-      ((omega (arith, names, says .1), omega (arith, names, says .1)), (omega (arith, names, says .2), omega (arith, names, says .2)))
 
   indexed-at : (s w : ℕ) → marketIn case .paired s w ≡ true → (n + m ≤ pairPlace case s w) × (pairPlace case s w - (n + m) < length index)
   unfolding marketOf
@@ -95,9 +76,9 @@ module _ (case book : List ℕ) (c : CleanCase case (marketIn case .students) (m
       → (resultsIn book .studentScore s w ≡ entryAt book i .studentScore) × (resultsIn book .workshopScore w s ≡ entryAt book i .workshopScore)
       × (resultsIn book .never s w ≡ endsInNever (entryAt book i))
   unfolding resultsOf
-  scores-at zero zero i l e = absurd (omega (arith, named-at 0 0 (entry-pair 0 0 i l e) .0 .0))
-  scores-at zero (suc w) i l e = absurd (omega (arith, named-at 0 (suc w) (entry-pair 0 (suc w) i l e) .0 .0))
-  scores-at (suc s) zero i l e = absurd (omega (arith, named-at (suc s) 0 (entry-pair (suc s) 0 i l e) .1 .0))
+  scores-at zero zero i l e = absurd (omega (arith, named-at case (clean case n m c) 0 0 (entry-pair 0 0 i l e) .0 .0))
+  scores-at zero (suc w) i l e = absurd (omega (arith, named-at case (clean case n m c) 0 (suc w) (entry-pair 0 (suc w) i l e) .0 .0))
+  scores-at (suc s) zero i l e = absurd (omega (arith, named-at case (clean case n m c) (suc s) 0 (entry-pair (suc s) 0 i l e) .1 .0))
   scores-at (suc s) (suc w) i l e =
       let f = entry-found case book passed (suc s) (suc w) i l e in
       (ap (λ r. r .studentScore) f, ap (λ r. r .workshopScore) f, ap endsInNever f)
@@ -139,20 +120,10 @@ module _ (case book : List ℕ) (c : CleanCase case (marketIn case .students) (m
         manyWorkshops = few case n m c .1 .1;
         tabled = tabled;
         linked = linked;
-        student = λ s a b. record {
-          from = a;
-          to = omega (arith, places case (clean case n m c) .whole);
-          stage = stage-at case (clean case n m c) s a b;
-          outside = student-outside-at case (clean case n m c) s a b;
-        };
-        workshop = λ w a b. record {
-          from = a;
-          to = omega (arith, places case (clean case n m c) .whole);
-          quota = quota-at case (clean case n m c) w a b;
-          outside = workshop-outside-at case (clean case n m c) w a b;
-        };
-        pair = pair-at;
-        named = named-at;
+        student = student-at case (clean case n m c);
+        workshop = workshop-at case (clean case n m c);
+        pair = pair-at case (clean case n m c);
+        named = named-at case (clean case n m c);
         indexed = indexed-at;
         met = λ s w met. rw (index-has s w (met-paired s w met)) (entry-named s w (number s w) refl met);
         unmet = λ s w pair unmet. index-has s w pair ∙ eqb-true _ _ (not-false _ (sym (met-number s w) ∙ unmet));

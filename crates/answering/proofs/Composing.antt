@@ -38,7 +38,8 @@ use Rattle.api.proofs.Text.{values-same}
 use Rattle.answering.specs.declared.Prepared.{Prepared}
 use Rattle.answering.specs.Finish.{toPlace, heldAt, placesHeld, CanRead, answerEnd}
 use Rattle.answering.specs.Steps.{StepReady, Halted, Started, Found, Prepares}
-use Rattle.answering.proofs.Places.{head-none, head-same}
+use Rattle.format.proofs.Heads.{head-none}
+use Rattle.answering.proofs.Places.{head-same}
 use Rattle.answering.proofs.Cleaning.{Enough, enough}
 
 abbrev pub Kept : Type 0

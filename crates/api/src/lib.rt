@@ -33,3 +33,17 @@ pub struct Report {
     pub second: u64,
     pub visits: u64,
 }
+
+// The answer of the part that works out the stages, which are in the lent buffer.
+pub enum StagesAnswer {
+    Staged { students: usize },
+    Refused { cause: usize, record: usize },
+}
+
+// A part's answer in numbers: kind 0 is done, 2 a refusal.
+#[repr(C)]
+pub struct PartReport {
+    pub kind: u64,
+    pub first: u64,
+    pub second: u64,
+}

@@ -1,9 +1,9 @@
 -- From the definitions' lists of records to the code's numbers: `getD`, `take`, `any`, `tally` and a first match of `tabulate f n`, by `f`.
 use Prim.Native.Nat.{ℕ, zero, suc, _+_, _≤_, _<_}
-use mathlib.Core.Path.{_≡_, refl, sym, _∙_}
+use mathlib.Core.Path.{_≡_, refl, sym, ap, _∙_}
 use mathlib.Core.Logic.{⊎-elim}
 use mathlib.Core.Bool.{Bool, true, false, cond, _||_}
-use mathlib.Core.List.{List, [], _∷_, _++_}
+use mathlib.Core.List.{List, [], _∷_, _++_, map}
 use mathlib.Core.List.{List·Memᴰ as Mem, List·Memᴰ·head as here, List·Memᴰ·not-nil as not-nil, List·Memᴰ·append-cases as append-cases}
 use mathlib.Core.List.{Memᴰ·append-left as in-left, Memᴰ·append-right as in-right, List·Memᴰ·eq-of-singleton as eq-of-singleton}
 use native.Mathlib.Omega.{arith}
@@ -12,7 +12,7 @@ use lib.ListN.{length, getD, take, set, replicate, length-append, length-set, Li
 use lib.Seq.{getD-at, getD-set-same, getD-set-other, take-append-le, take-all, ext-getD}
 use Rattle.base.specs.Lists.{one, any, tabulate, tally, find}
 use Rattle.base.specs.Below.{anyBelow, countBelow}
-use Rattle.base.proofs.Tests.{less?, eq?, bool-cases, never, or-none}
+use Rattle.base.proofs.Tests.{less?, eq?, bool-cases, never, or-false, or-none}
 
 -- ---- a loop's turn
 pub count-on : (p : ℕ → Bool) (i : ℕ) → countBelow p (i + 1) ≡ countBelow p i + one (p i)
@@ -193,3 +193,39 @@ module _ {A : Type 0} (p : A → Bool) where
   tally-set d [] k v l e b = absurd (omega arith)
   tally-set d (x ∷ xs) zero v l e b = rw (e, b) (omega arith)
   tally-set d (x ∷ xs) (suc k) v l e b = omega (arith, tally-set d xs k v (omega arith) e b)
+
+-- where none passes a search finds nothing
+pub find-none : {A : Type 0} (p : A → Bool) (d : A) (xs : List A) → any p xs ≡ false → find p d xs ≡ d
+unfolding find any
+find-none p d [] e = refl
+find-none p d (x ∷ xs) e = let r : (p x ≡ false) × (any p xs ≡ false) = or-false (p x) _ e in rw (r .0) (find-none p d xs (r .1))
+
+-- what a search finds has what the one that stands for nothing has, and every one that passes
+pub find-has : {A : Type 0} (P : A → Type 0) (p : A → Bool) (d : A) → P d → ((x : A) → p x ≡ true → P x) → (xs : List A) → P (find p d xs)
+unfolding find
+find-has P p d q h [] = q
+find-has P p d q h (x ∷ xs) = ⊎-elim (λ (e : p x ≡ true). rw e (h x e)) (λ (e : p x ≡ false). rw e (find-has P p d q h xs)) (bool-cases (p x))
+
+-- ---- a list of which every element is changed
+
+pub take-map : {A B : Type 0} (f : A → B) (i : ℕ) (xs : List A) → take i (map f xs) ≡ map f (take i xs)
+take-map f zero xs = refl
+take-map f (suc i) [] = refl
+take-map f (suc i) (x ∷ xs) = ap (λ l. f x ∷ l) (take-map f i xs)
+
+-- by a test that does not see the change
+module _ {A : Type 0} (f : A → A) (p : A → Bool) (same : (x : A) → p (f x) ≡ p x) where
+  pub tally-map : (xs : List A) → tally p (map f xs) ≡ tally p xs
+  unfolding tally
+  tally-map [] = refl
+  tally-map (x ∷ xs) = rw (same x, tally-map xs)
+
+  pub any-map : (xs : List A) → any p (map f xs) ≡ any p xs
+  unfolding any
+  any-map [] = refl
+  any-map (x ∷ xs) = rw (same x, any-map xs)
+
+  pub find-map : (d : A) → f d ≡ d → (xs : List A) → find p d (map f xs) ≡ f (find p d xs)
+  unfolding find
+  find-map d e [] = sym e
+  find-map d e (x ∷ xs) = rw (same x) (⊎-elim (λ (q : p x ≡ true). rw q) (λ (q : p x ≡ false). rw q (find-map d e xs)) (bool-cases (p x)))

@@ -1,12 +1,12 @@
--- Counting over 1 to n: search, inclusion, and the exchange (pigeonhole) that stability arguments use.
-use Prim.Native.Nat.{ℕ, zero, suc, _+_, _≤_, _<_}
+-- Counting over 1 to n: search, inclusion, and the exchange (pigeonhole) that stability arguments use; sums, and the largest.
+use Prim.Native.Nat.{ℕ, zero, suc, _+_, _*_, _≤_, _<_}
 use mathlib.Core.Path.{_≡_, refl, sym, subst, ap}
 use mathlib.Core.Logic.{_⊎_, inl, inr, ⊎-elim}
 use mathlib.Core.Bool.{Bool, true, false, not, _&&_}
 use native.Mathlib.Omega.{arith}
 use borrow.Author.Tests.{not-true, not-false}
 use native.Mathlib.Nat.{eq-or-lt-of-le}
-use Rattle.base.specs.Lists.{one, count, total}
+use Rattle.base.specs.Lists.{one, count, total, largest}
 use Rattle.base.proofs.Tests.{bool-cases, never, and-left, and-right}
 
 -- some number of 1 to n passes, or none does
@@ -132,3 +132,22 @@ unfolding total
 total-grows f i zero l = let e : i ≡ 0 = omega arith in omega (arith, ap (total f) e)
 total-grows f i (suc j) l =
     ⊎-elim (λ (e : i ≡ suc j). omega (arith, ap (total f) e)) (λ (less : i < suc j). omega (arith, total-grows f i j (omega arith))) (eq-or-lt-of-le l)
+
+-- n parts of at most m each
+pub total-within : (f : ℕ → ℕ) (n m : ℕ) → ((k : ℕ) → 1 ≤ k → k ≤ n → f k ≤ m) → total f n ≤ n * m
+unfolding total
+total-within f zero m le = omega arith
+total-within f (suc n) m le = omega (arith, le (suc n) (omega arith) (omega arith), total-within f n m (λ k l u. le k l (omega arith)))
+
+module _ (f : ℕ → ℕ) where
+  -- the largest is no more than what no part is more than
+  pub largest-le : (n m : ℕ) → ((k : ℕ) → 1 ≤ k → k ≤ n → f k ≤ m) → largest f n ≤ m
+  unfolding largest
+  largest-le zero m le = omega arith
+  largest-le (suc n) m le = omega (arith, le (suc n) (omega arith) (omega arith), largest-le n m (λ k l u. le k l (omega arith)))
+
+  pub largest-part : (n k : ℕ) → 1 ≤ k → k ≤ n → f k ≤ largest f n
+  unfolding largest
+  largest-part zero k l u = absurd (omega arith)
+  largest-part (suc n) k l u =
+      ⊎-elim (λ (e : k ≡ suc n). rw e (omega arith)) (λ (less : k < suc n). omega (arith, largest-part n k l (omega arith))) (eq-or-lt-of-le u)

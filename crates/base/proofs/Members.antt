@@ -1,4 +1,4 @@
--- Who is in a list that `upto`, `keep` and `pick` give, that the first two name nobody twice, and where `upto` has whom.
+-- Who is in a list that `upto`, `keep` and `pick` give, that the first two name nobody twice, where `upto` has whom, and what `entryFor` gives.
 use Prim.Native.Nat.{ℕ, zero, suc, _+_, _≤_, _<_}
 use mathlib.Core.Path.{_≡_, refl, sym, subst, ap, _∙_}
 use mathlib.Core.Logic.{_⊎_, inl, inr, ⊎-elim}
@@ -9,11 +9,11 @@ use mathlib.Core.List.{Memᴰ·append-left as in-left, Memᴰ·append-right as i
 use mathlib.Core.List.{List·Memᴰ·eq-of-singleton as eq-of-singleton, Memᴰ·cast as same-in}
 use native.Mathlib.Omega.{arith}
 use borrow.Author.Tests.{eq-eqb, ne-eqb}
-use lib.ListN.{length, getD, length-append, length-map, List·getD-append}
-use lib.Seq.{getD-at}
+use lib.ListN.{length, getD, length-append, length-map, List·getD-append, List·getD-eq-default}
+use lib.Seq.{getD-at, ext-getD}
 use native.Mathlib.Nat.{eq-or-lt-of-le}
-use Rattle.base.specs.Lists.{upto, keep, consIf, pick, any, update}
-use Rattle.base.proofs.Tests.{bool-cases, never, or-true, or-left, or-right}
+use Rattle.base.specs.Lists.{upto, keep, consIf, pick, any, update, entryFor}
+use Rattle.base.proofs.Tests.{bool-cases, never, or-true, or-left, or-right, or-false, or-none}
 
 pub in-upto : (n x : ℕ) → 1 ≤ x → x ≤ n → Mem x (upto n)
 unfolding upto
@@ -160,6 +160,41 @@ map-upto-at f (suc n) k l = ap (λ xs. getD xs k 0) (map-append f (upto n) (suc 
 
     before : suc k < suc n → (k < n → getD (map f (upto n)) k 0 ≡ f (suc k)) → getD (map f (upto n) ++ (f (suc n) ∷ [])) k 0 ≡ f (suc k)
     before less more = List·getD-append (map f (upto n)) (f (suc n) ∷ []) 0 k (omega (arith, size)) ∙ more (omega arith)
+
+-- ---- some number of 1 to n passes, or none does
+
+module _ (p : ℕ → Bool) where
+  any-last : (n : ℕ) → any p (upto (suc n)) ≡ (any p (upto n) || p (suc n))
+  unfolding upto any
+  any-last n = any-append p (upto n) (suc n ∷ []) ∙ ap (λ b. any p (upto n) || b) (or-none (p (suc n)))
+
+  pub upto-some : (n : ℕ) → any p (upto n) ≡ true → (k : ℕ) × (1 ≤ k) × (k ≤ n) × (p k ≡ true)
+  unfolding upto any
+  upto-some zero e = never e refl
+  upto-some (suc n) e =
+      ⊎-elim (λ q. let r : (k : ℕ) × (1 ≤ k) × (k ≤ n) × (p k ≡ true) = upto-some n q in (r .0, r .1, omega (arith, r .2), r .3))
+      (λ q. (suc n, omega arith, omega arith, q))
+      (or-true (any p (upto n)) (p (suc n)) (sym (any-last n) ∙ e))
+
+  pub upto-none : (n : ℕ) → any p (upto n) ≡ false → (k : ℕ) → 1 ≤ k → k ≤ n → p k ≡ false
+  upto-none zero e k l u = absurd (omega arith)
+  upto-none (suc n) e k l u =
+      let r : (any p (upto n) ≡ false) × (p (suc n) ≡ false) = or-false (any p (upto n)) (p (suc n)) (sym (any-last n) ∙ e) in
+      ⊎-elim (λ (q : k ≡ suc n). rw q (r .1)) (λ (less : k < suc n). upto-none n (r .0) k l (omega arith)) (eq-or-lt-of-le u)
+
+-- ---- what a list has for a number
+
+pub entry-past : (xs : List ℕ) (s : ℕ) → length xs < s → entryFor xs s ≡ 0
+entry-past xs zero l = refl
+entry-past xs (suc s) l = List·getD-eq-default xs 0 (omega arith)
+
+pub entry-upto : (f : ℕ → ℕ) (n s : ℕ) → 1 ≤ s → s ≤ n → entryFor (map f (upto n)) s ≡ f s
+entry-upto f n zero l u = absurd (omega arith)
+entry-upto f n (suc s) l u = map-upto-at f n s (omega arith)
+
+-- lists of one length that have the same for every number are the same
+pub entry-same : (xs ys : List ℕ) → length xs ≡ length ys → ((s : ℕ) → entryFor xs s ≡ entryFor ys s) → xs ≡ ys
+entry-same xs ys e same = ext-getD 0 xs ys e (λ i l. same (suc i))
 
 -- ---- a function changed at one place
 

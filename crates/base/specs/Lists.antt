@@ -1,8 +1,9 @@
 -- Counting, selecting and searching over numbers 1 to n and over lists, by tests that compute.
-use Prim.Native.Nat.{ℕ, zero, suc, _+_}
+use Prim.Native.Nat.{ℕ, zero, suc, _+_, max}
 use mathlib.Core.Bool.{Bool, true, false, cond, _||_}
 use mathlib.Core.List.{List, [], _∷_, _++_}
 use lib.Dec.{eqb}
+use lib.ListN.{getD}
 
 -- 1 if the test passed, else 0
 abbrev pub one : Bool → ℕ
@@ -18,6 +19,11 @@ count p (suc n) = one (p (suc n)) + count p n
 unfoldable pub total : (ℕ → ℕ) → ℕ → ℕ
 total f zero = 0
 total f (suc n) = f (suc n) + total f n
+
+-- the largest of f 1 to f n, and 0 where there is none
+unfoldable pub largest : (ℕ → ℕ) → ℕ → ℕ
+largest f zero = 0
+largest f (suc n) = max (largest f n) (f (suc n))
 
 -- the list 1 to n
 unfoldable pub upto : ℕ → List ℕ
@@ -62,3 +68,8 @@ pick better x (y ∷ ys) = pick better (cond (better y x) y x) ys
 -- the function f, changed at k to v
 unfoldable pub update : {A : Type 0} → (ℕ → A) → ℕ → A → ℕ → A
 update f k v x = cond (eqb x k) v (f x)
+
+-- what a list has for number s: entry s - 1, and 0 for 0 and past the end
+abbrev pub entryFor : List ℕ → ℕ → ℕ
+entryFor xs zero = 0
+entryFor xs (suc s) = getD xs s 0

@@ -34,6 +34,21 @@ pub fn without_bit(bits: u64, w: usize) -> u64
     bits & !(1u64 << (w - 1))
 }
 
+// What is in either set.
+pub fn union(a: u64, b: u64) -> u64
+    ensures { λ r. ⌜ ((x : ℕ) → member r x ≡ (member a x || member b x)) ⌝ }
+    ensures { λ r. ⌜ (a ≡ 0 → b ≡ 0 → r ≡ 0) ⌝ }
+{
+    a | b
+}
+
+// The members of the first set that the second does not have.
+pub fn minus(a: u64, b: u64) -> u64
+    ensures { λ r. ⌜ ((x : ℕ) → member r x ≡ (member a x && not (member b x))) ⌝ }
+{
+    a & !b
+}
+
 // How many workshops are open.
 pub fn count(bits: u64) -> u32
     ensures { λ r. ⌜ r ≡ count (member bits) 64 ⌝ }

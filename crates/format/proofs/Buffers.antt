@@ -22,11 +22,11 @@ use Rattle.format.proofs.Promises.{heads-fit}
 
 -- ---- one list
 module _ (new old : List ℕ) where
-  head-length : length new ≤ length old → length (withHead new old) ≡ length old
+  pub head-length : length new ≤ length old → length (withHead new old) ≡ length old
   head-length fits = omega (arith, length-append new (drop (length new) old), length-drop (length new) old)
 
   -- past the head the list is the old one
-  past-head : (i : ℕ) → length new ≤ i → getD (withHead new old) i 0 ≡ getD old i 0
+  pub past-head : (i : ℕ) → length new ≤ i → getD (withHead new old) i 0 ≡ getD old i 0
   past-head i l =
       let e : i ≡ length new + (i - length new) = omega arith in
       rw (

@@ -50,7 +50,7 @@ all-pass bad n nope = go (firstBad bad n) refl
 
 -- ---- a table
 
-nothing-more : (c : Cause) (cs : List Cause) → ((i : ℕ) → Finds (c .1) i → ⊥) → NothingFound cs → NothingFound (c ∷ cs)
+pub nothing-more : (c : Cause) (cs : List Cause) → ((i : ℕ) → Finds (c .1) i → ⊥) → NothingFound cs → NothingFound (c ∷ cs)
 nothing-more c cs f rest d m i g = ⊎-elim (λ (e : d ≡ c). f i (rw e at g)) (λ k. rest d k i g) (cases-cons m)
 
 pub table-none : (cs : List Cause) → firstCause cs ≡ none → NothingFound cs
@@ -109,6 +109,25 @@ some-table cs k i r = rw (r .table) (behind (r .before) (r .nothing))
             → firstCause (c ∷ (before ++ ((k, r .test) ∷ r .after))) ≡ some (k, i)
         go none f rest = rw (f, firstCause) rest
         go (some j) f rest = absurd (n c (here refl) j (finds-of (c .1) j f))
+
+-- ---- two tables in one
+
+-- what the first part finds is found, and where it finds nothing the second is left
+pub first-left : (cs ds : List Cause) (r : ℕ × ℕ) → firstCause cs ≡ some r → firstCause (cs ++ ds) ≡ some r
+first-left [] ds r e = some-none r (sym e)
+first-left ((k, t) ∷ cs) ds r e = go (finds t) refl (λ q. first-left cs ds r q)
+  where
+    go : (o : Option ℕ) → finds t ≡ o → (firstCause cs ≡ some r → firstCause (cs ++ ds) ≡ some r) → firstCause ((k, t) ∷ (cs ++ ds)) ≡ some r
+    go none f rest = rw (f, firstCause) (rest (rw (f, firstCause) at e))
+    go (some i) f rest = rw (f, firstCause) (rw (f, firstCause) at e)
+
+pub first-right : (cs ds : List Cause) → firstCause cs ≡ none → firstCause (cs ++ ds) ≡ firstCause ds
+first-right [] ds e = refl
+first-right ((k, t) ∷ cs) ds e = go (finds t) refl (λ q. first-right cs ds q)
+  where
+    go : (o : Option ℕ) → finds t ≡ o → (firstCause cs ≡ none → firstCause (cs ++ ds) ≡ firstCause ds) → firstCause ((k, t) ∷ (cs ++ ds)) ≡ firstCause ds
+    go none f rest = rw (f, firstCause) (rest (rw (f, firstCause) at e))
+    go (some i) f rest = some-none (k, i) (rw (f, firstCause) at e)
 
 -- ---- the engine's table
 module _ (case book : List ℕ) (room : Room) where

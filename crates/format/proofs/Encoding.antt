@@ -74,10 +74,14 @@ next-entry e bs i = rw (word-behind (entryBytes e) bs (8 * suc i) (8 * i) (omega
     field k = word-behind (entryBytes e) bs (8 * suc i + k) (8 * i + k) (omega (arith, entry-length e))
 
 -- ---- all records
+pub case-length : (rs : List Row) → length (caseBytes rs) ≡ 16 * length rs
+unfolding caseBytes
+case-length = coded-length 16 rowBytes rowAt noRow row-length next-row
+
 read-case : (rs : List Row) → rows (caseBytes rs) ≡ rs
 unfolding rows caseBytes
 read-case rs =
-    let n : rowCount (caseBytes rs) ≡ length rs = omega (arith, coded-length 16 rowBytes rowAt noRow row-length next-row rs) in
+    let n : rowCount (caseBytes rs) ≡ length rs = omega (arith, case-length rs) in
     ap (tabulate (rowAt (caseBytes rs))) n ∙ coded 16 rowBytes rowAt noRow row-length next-row rs (λ r m. first-row r)
 
 read-book : (es : List Entry) → ((e : Entry) → Mem e es → EntryFits e) → entries (bookBytes es) ≡ es

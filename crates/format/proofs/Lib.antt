@@ -6,7 +6,10 @@ pub mod PairCount
 pub mod Books
 pub mod Runs
 pub mod Promises
+pub mod Heads
 pub mod Buffers
 pub mod Example
 pub mod Table
 pub mod Encoding
+pub mod Restaged
+pub mod Stages

@@ -6,4 +6,5 @@ pub mod Engine
 pub mod Buffers
 pub mod Printed
 pub mod Promises
+pub mod Stages
 pub mod Table

@@ -12,9 +12,10 @@ use Rattle.base.proofs.Tests.{or-false}
 use Rattle.base.proofs.Signed.{same-test}
 use Rattle.lgs.specs.Market.{allSeats}
 use Rattle.format.specs.Layout.{rows}
-use Rattle.format.specs.Causes.{Cause, finds, firstCause}
+use Rattle.format.specs.Causes.{firstCause}
 use Rattle.format.specs.Refusals.{Room, needed, badRoom, caseCauses, roomCauses, bookCauses, causes, refusal}
 use Rattle.format.specs.Engine.{marketIn}
+use Rattle.format.proofs.Causes.{first-left, first-right}
 use Rattle.case_tests.specs.declared.Checked.{Checked}
 use Rattle.case_tests.specs.declared.Checked.the-variants.{Refused}
 use Rattle.case_tests.specs.Checked.{pairCount, caseRefusal}
@@ -26,27 +27,8 @@ use Rattle.intake.specs.Tested.{Tested}
 pub half-less : (a b : ℕ) → ltb (a / 2) b ≡ ltb a (2 * b)
 half-less a b = same-test (a / 2) b a (2 * b) (λ l. omega arith) (λ l. omega arith)
 
--- ---- two tables in one
-
 none-some : {A : Type 0} (r : ℕ × ℕ) → none ≡ some r → A
 none-some r e = let z : _≡_ {A = ℕ} 0 1 = cc in absurd (omega arith)
-
--- what the first part finds is found, and where it finds nothing the second is left
-first-left : (cs ds : List Cause) (r : ℕ × ℕ) → firstCause cs ≡ some r → firstCause (cs ++ ds) ≡ some r
-first-left [] ds r e = none-some r e
-first-left ((k, t) ∷ cs) ds r e = go (finds t) refl (λ q. first-left cs ds r q)
-  where
-    go : (o : Option ℕ) → finds t ≡ o → (firstCause cs ≡ some r → firstCause (cs ++ ds) ≡ some r) → firstCause ((k, t) ∷ (cs ++ ds)) ≡ some r
-    go none f rest = rw (f, firstCause) (rest (rw (f, firstCause) at e))
-    go (some i) f rest = rw (f, firstCause) (rw (f, firstCause) at e)
-
-first-right : (cs ds : List Cause) → firstCause cs ≡ none → firstCause (cs ++ ds) ≡ firstCause ds
-first-right [] ds e = refl
-first-right ((k, t) ∷ cs) ds e = go (finds t) refl (λ q. first-right cs ds q)
-  where
-    go : (o : Option ℕ) → finds t ≡ o → (firstCause cs ≡ none → firstCause (cs ++ ds) ≡ firstCause ds) → firstCause ((k, t) ∷ (cs ++ ds)) ≡ firstCause ds
-    go none f rest = rw (f, firstCause) (rest (rw (f, firstCause) at e))
-    go (some i) f rest = let g : _≡_ {A = Option (ℕ × ℕ)} (some (k, i)) none = rw (f, firstCause) at e in none-some (k, i) (sym g)
 
 module _ (case book : List ℕ) (room : Room) where
   pub refusal-case : (r : ℕ × ℕ) → caseRefusal case ≡ some r → refusal case book room ≡ some r

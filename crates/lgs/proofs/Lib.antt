@@ -24,3 +24,4 @@ pub mod Ends
 pub mod OptimalExists
 pub mod Agreement
 pub mod Promises
+pub mod Stages

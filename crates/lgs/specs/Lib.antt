@@ -2,3 +2,4 @@ pub mod Market
 pub mod Rule
 pub mod Profiles
 pub mod Promises
+pub mod Stages

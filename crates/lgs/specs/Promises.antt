@@ -3,16 +3,15 @@ use Prim.Native.Nat.{ℕ, zero, suc, _≤_, _<_}
 use mathlib.Core.Bool.{Bool, true, false, _&&_}
 use mathlib.Core.Path.{_≡_}
 use mathlib.Core.List.{List, [], _∷_, _++_}
-use lib.ListN.{length, getD}
-use Rattle.base.specs.Lists.{count, total}
+use lib.ListN.{length}
+use Rattle.base.specs.Lists.{count, total, entryFor}
 use Rattle.lgs.specs.Market.{Market, Results, ConsistentStages}
 use Rattle.lgs.specs.Profiles.{Profile, StrictProfile, RespectsTiers, Fits, StudentOptimal, Determined}
 use Rattle.lgs.specs.Rule.{Interview, interviewed, Step, going, stopped, finished, lazyGaleShapley}
 
 -- the matching that a list of places stands for: student s has entry s - 1, and nobody else has a place
 abbrev pub matchingOf : List ℕ → ℕ → ℕ
-matchingOf places zero = 0
-matchingOf places (suc s) = getD places s 0
+matchingOf = entryFor
 
 -- no interview is listed twice
 abbrev pub NoRepeats : List Interview → Type 0
@@ -50,6 +49,16 @@ module _ (M : Market) (B : Results) where
     pub sure : Determined M Vs O μ
     pub holds : (s : ℕ) → 0 < matchingOf places s → Vs s (matchingOf places s) ≡ true
 
+  -- "With agreeing stages the list is the smallest", with results from any full order that fits the groups and the book: every such set "holds every visit
+  -- on our list", and so "has at least as many visits as the count we return".
+  abbrev pub Smallest : List ℕ → List Interview → Type 0
+  Smallest places vs =
+      (O : Profile)
+      → Fits M B (B .met) O
+      → (Vs : ℕ → ℕ → Bool) (μ : ℕ → ℕ)
+      → SureSet places O Vs μ
+      → ((s w : ℕ) → interviewed vs s w ≡ true → Vs s w ≡ true) × (length vs ≤ pairsIn M Vs)
+
   -- Demand 3. "Let the results come from any full order that fits the groups and the book."
   pub record MinimalInterviews (places : List ℕ) (vs : List Interview) : Type 0 where
     -- "Our list is itself such a set", and its holder is sure of this placement; it "names no pair twice", so it has as many pairs as it is long.
@@ -57,13 +66,7 @@ module _ (M : Market) (B : Results) where
     pub listed : Listed vs
     pub itself : (O : Profile) → Fits M B (B .met) O → SureSet places O (interviewed vs) (matchingOf places)
     pub counted : pairsIn M (interviewed vs) ≡ length vs
-    -- every such set "holds every visit on our list", and so "has at least as many visits as the count we return"
-    pub minimal : ConsistentStages M (M .stage)
-        → (O : Profile)
-        → Fits M B (B .met) O
-        → (Vs : ℕ → ℕ → Bool) (μ : ℕ → ℕ)
-        → SureSet places O Vs μ
-        → ((s w : ℕ) → interviewed vs s w ≡ true → Vs s w ≡ true) × (length vs ≤ pairsIn M Vs)
+    pub minimal : ConsistentStages M (M .stage) → Smallest places vs
 
   -- an answer with a placement (from bytes: `Demand2Placed` and `Demand3` of the crate format)
   pub record Placed (places : List ℕ) (vs : List Interview) : Type 0 where

@@ -1,7 +1,9 @@
-//! The real engine, through its C interface. Nothing else here knows that interface.
+//! The real engine and the real part for the stages, through their C interfaces. Nothing else here
+//! knows these interfaces.
 
 use crate::lending::{Loan, StudentState};
 use crate::model::Outcome;
+use crate::stages;
 
 /// The answer as the engine gives it: a kind, and the values of that kind.
 #[repr(C)]
@@ -33,6 +35,19 @@ extern "C" {
         states: *mut StudentState,
         states_len: usize,
     ) -> Report;
+
+    fn lgs_stages(
+        case: *const u8,
+        case_len: usize,
+        stages: *mut u16,
+        stages_len: usize,
+    ) -> stages::Report;
+}
+
+/// Works out the stages once, into the lent buffer.
+pub fn stages(case: &[u8], loan: &stages::lending::Loan) -> stages::Report {
+    // SAFETY: every pointer comes with the length of the memory it points to.
+    unsafe { lgs_stages(case.as_ptr(), case.len(), loan.stages, loan.room) }
 }
 
 /// Runs the engine once on the lent buffers.

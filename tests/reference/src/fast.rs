@@ -495,13 +495,13 @@ fn book_fields(record: &[u8; BOOK_RECORD]) -> (usize, usize, i16, i16) {
 
 /// A case record as two 64-bit numbers.
 #[derive(Clone, Copy)]
-struct CaseFields {
+pub(crate) struct CaseFields {
     low: u64,
     high: u64,
 }
 
 impl CaseFields {
-    fn of(record: &[u8; CASE_RECORD]) -> CaseFields {
+    pub(crate) fn of(record: &[u8; CASE_RECORD]) -> CaseFields {
         let word = u128::from_le_bytes(*record);
         CaseFields {
             low: word as u64,
@@ -509,11 +509,11 @@ impl CaseFields {
         }
     }
 
-    fn kind(self) -> u8 {
+    pub(crate) fn kind(self) -> u8 {
         self.low as u8
     }
 
-    fn all(self) -> [u16; 4] {
+    pub(crate) fn all(self) -> [u16; 4] {
         [
             (self.low >> 16) as u16,
             (self.low >> 32) as u16,
@@ -523,7 +523,7 @@ impl CaseFields {
     }
 
     /// The kind is known and every byte that should be zero is zero.
-    fn well_formed(self) -> bool {
+    pub(crate) fn well_formed(self) -> bool {
         match self.low as u16 {
             1 | 2 => self.high == 0,
             3 => self.high >> 16 == 0,
@@ -532,11 +532,11 @@ impl CaseFields {
     }
 
     /// A well-formed record of kind 3.
-    fn is_pair(self) -> bool {
+    pub(crate) fn is_pair(self) -> bool {
         (self.low as u16 == 3) & (self.high >> 16 == 0)
     }
 
-    fn in_range(self) -> bool {
+    pub(crate) fn in_range(self) -> bool {
         let [_, second, third, fourth] = self.all();
         let student_group = (1..=MAX_STUDENT_GROUP).contains(&third);
         match self.kind() {
@@ -549,7 +549,7 @@ impl CaseFields {
 
 /// Finds the refusal of a case that is known to be wrong.
 #[cold]
-fn case_refusal(records: &[[u8; CASE_RECORD]]) -> (u16, usize) {
+pub(crate) fn case_refusal(records: &[[u8; CASE_RECORD]]) -> (u16, usize) {
     let fields: Vec<CaseFields> = records.iter().map(CaseFields::of).collect();
     if let Some(place) = fields.iter().position(|fields| !fields.well_formed()) {
         return (2, place);

@@ -39,7 +39,7 @@ pub type Call<'a> = &'a dyn Fn(&[u8], &[u8], &Loan) -> Outcome;
 const GUARD: usize = 64;
 
 /// The bytes of a buffer between two guards, all of them garbage at first.
-struct Guarded {
+pub(crate) struct Guarded {
     memory: Vec<u64>,
     before: Vec<u64>,
     /// Bytes that are lent.
@@ -47,7 +47,7 @@ struct Guarded {
 }
 
 impl Guarded {
-    fn new<T>(entries: usize, garbage: &mut dyn FnMut() -> u64) -> Guarded {
+    pub(crate) fn new<T>(entries: usize, garbage: &mut dyn FnMut() -> u64) -> Guarded {
         let length = entries * size_of::<T>();
         let words = (length + 2 * GUARD).div_ceil(size_of::<u64>());
         let memory: Vec<u64> = std::iter::repeat_with(garbage).take(words).collect();
@@ -58,7 +58,7 @@ impl Guarded {
         }
     }
 
-    fn lend<T>(&mut self) -> *mut T {
+    pub(crate) fn lend<T>(&mut self) -> *mut T {
         let start = self.memory.as_mut_ptr().cast::<u8>();
         start.wrapping_add(GUARD).cast()
     }
@@ -72,7 +72,7 @@ impl Guarded {
     }
 
     /// Both guards are as they were.
-    fn guards_kept(&self) -> bool {
+    pub(crate) fn guards_kept(&self) -> bool {
         let guards = |memory| {
             let (before, rest) = bytes(memory).split_at(GUARD);
             (before, &rest[self.length..])
@@ -81,7 +81,7 @@ impl Guarded {
     }
 
     /// The lent part starts with `head` and is otherwise as it was.
-    fn only_head_changed(&self, head: &[u16]) -> bool {
+    pub(crate) fn only_head_changed(&self, head: &[u16]) -> bool {
         let head: Vec<u8> = head.iter().flat_map(|entry| entry.to_ne_bytes()).collect();
         let rest = GUARD + head.len()..GUARD + self.length;
         self.lent().starts_with(&head)

@@ -12,6 +12,7 @@ pub mod mutants;
 pub mod never;
 pub mod program;
 pub mod proved;
+pub mod stages;
 pub mod tally;
 
 #[cfg(feature = "engine")]

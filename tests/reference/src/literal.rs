@@ -49,7 +49,7 @@ fn refuse_at(number: u16, place: Option<usize>) -> Result<(), Refusal> {
 
 // ---- The case ----
 
-fn read_case(bytes: &[u8]) -> Result<Case, Refusal> {
+pub fn read_case(bytes: &[u8]) -> Result<Case, Refusal> {
     if !bytes.len().is_multiple_of(CASE_RECORD) {
         return refuse(1, 0);
     }
@@ -134,7 +134,7 @@ fn counts_allowed(case: &Case) -> bool {
     (1..=512).contains(&case.students.len()) && (1..=64).contains(&case.workshops.len())
 }
 
-fn decode_case(records: &[&[u8]]) -> Case {
+pub fn decode_case(records: &[&[u8]]) -> Case {
     let mut case = Case::default();
     for record in records {
         match record[0] {

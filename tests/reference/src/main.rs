@@ -11,6 +11,7 @@ use reference::model::*;
 use reference::mutants::{self, Mutant};
 use reference::never::{Kinds, Ties};
 use reference::proved::Proved;
+use reference::stages;
 use reference::tally::{self, Part, Tally};
 use reference::{header, literal, program, proved};
 use std::path::Path;
@@ -146,15 +147,49 @@ fn parts(options: &Options) -> Vec<Part<'_>> {
         part("all strict orders", all_strict_orders),
         part("damaged input", damaged_input),
         part("large cases", large_cases),
+        part("stages, large cases", |tally, options| {
+            let (rng, own) = (options.rng(22), options.rng(122));
+            stages::tests::large_cases(tally, rng, own, options.count(40).max(20));
+        }),
         part("small cases", small_cases),
+        part("stages, small cases", |tally, options| {
+            let (rng, own) = (options.rng(21), options.rng(121));
+            stages::tests::small_cases(tally, rng, own, options.count(100_000));
+        }),
         part("middle cases", middle_cases),
         part("mutants", mutants_told_apart),
         part("visit by visit", visit_by_visit),
         part("byte sweeps", byte_sweeps),
+        part("stages, whole circle", stages_whole_circle),
+        part("stages, byte sweeps", |tally, options| {
+            let (rng, own) = (options.rng(24), options.rng(124));
+            stages::tests::byte_sweeps(tally, rng, own, options.count(100));
+        }),
         part("flaws of engines", flaws_found),
         part("oversized input", oversized_input),
         part("slips break demands", slips_break_demands),
         part("C header", |tally, _| header::run(tally)),
+        part("stages, all numbers", |tally, options| {
+            let (rng, own) = (options.rng(23), options.rng(123));
+            stages::tests::all_numbers(tally, rng, own, options.count(40_000));
+        }),
+        part("stages, damaged cases", |tally, options| {
+            let (rng, own) = (options.rng(25), options.rng(125));
+            stages::tests::damaged_cases(tally, rng, own, options.count(100_000));
+        }),
+        part("stages, mutants", |tally, options| {
+            stages::tests::mutants_told_apart(
+                tally,
+                options.rng(26),
+                options.count(6000).max(2000),
+            );
+        }),
+        part("stages, flaws", |tally, options| {
+            stages::tests::flaws_found(tally, options.rng(27), options.count(3000).max(500));
+        }),
+        part("stages, by hand", |tally, options| {
+            stages::tests::by_hand(tally, options.rng(28));
+        }),
     ];
     match std::env::var_os("PLACE_BIN") {
         Some(path) => parts.push(Part {
@@ -482,6 +517,57 @@ impl Trial<'_> {
             tally.check(caught, || format!("long list passes: {}", self.describe()));
         }
     }
+}
+
+/// Tiny cases get the stages that were worked out; with them the list is the smallest.
+fn stages_whole_circle(tally: &mut Tally, options: &Options) {
+    let mut rng = options.rng(20);
+    let mut comparison = Comparison::new(options.rng(120));
+    let mut of_stages = stages::tests::Comparison::new(options.rng(220));
+    let mut effort = Effort::default();
+    let (mut finished, mut without, mut mended) = (0, 0, 0);
+    while finished < options.count(2000).max(100) {
+        let shape = Shape {
+            agreeing: rng.chance(30),
+            full_books: 100,
+            ..Shape::tiny(&mut rng)
+        };
+        let (case, book) = gen::case_and_book(&mut rng, &shape);
+        let request = stages::Request::of(&case);
+        let stages::Answer::Stages(least) = of_stages.check(tally, &request) else {
+            without += 1;
+            continue;
+        };
+        let Some(world) = World::new(&case) else {
+            continue;
+        };
+        let input = Input {
+            case: stages::gen::with_stages(&request.case, &least),
+            ..case.input(&book)
+        };
+        mended += usize::from(!case.stages_agree());
+        let case = literal::read_case(&input.case).expect("only stages were changed");
+        tally.check(case.stages_agree(), || format!("{least:?} {case:?}"));
+        let answer = comparison.check(tally, &input);
+        let Answer::Placed { places, visits } = answer else {
+            tally.check(false, || format!("a full book: {answer:?}"));
+            continue;
+        };
+        finished += 1;
+        let trial = Trial {
+            world: &world,
+            case: &case,
+            book: &book,
+        };
+        trial.demand_two(tally, &places, &visits);
+        trial.demand_three(tally, &places, &visits, &mut effort);
+    }
+    tally.note(&format!(
+        "{finished} finished runs, {mended} of them with stages that did not agree before; \
+         {without} cases without stages"
+    ));
+    tally.check(mended > 0 && without > 0, || "one kind is rare".into());
+    tally.check(effort.unsure_sets > 0, || "all sets are sure".to_string());
 }
 
 /// Each of these slips gives a placement that breaks demand 2 or demand 3.

@@ -67,7 +67,7 @@ use Rattle.answering.specs.Steps.{Prepares}
 use Rattle.answering.specs.Finish.{toPlace, heldAt, placesHeld, CanRead, answerEnd}
 use Rattle.answering.proofs.Prepared as P
 use Rattle.answering.proofs.Prepared.Laws as P′
-use Rattle.answering.proofs.Places.{head-long}
+use Rattle.format.proofs.Heads.{head-long}
 use Rattle.answering.proofs.Composing.{turn-ready, hand-within, run-ends, can-read, answered}
 use Rattle.answering.proofs.prepare as prepare
 use Rattle.answering.proofs.prepare.Symbol as prepare-def

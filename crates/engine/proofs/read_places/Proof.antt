@@ -59,7 +59,7 @@ use Rattle.api.specs.Answered.{zeroState}
 use Rattle.api.proofs.StudentState as T
 use Rattle.api.proofs.StudentState.Laws as T′
 use Rattle.answering.specs.Finish.{heldAt, placesHeld, CanRead}
-use Rattle.answering.proofs.Places.{head-none, head-long, head-on}
+use Rattle.format.proofs.Heads.{head-none, head-long, head-on}
 use Rattle.answering.proofs.put_place as put
 use Rattle.answering.proofs.put_place.Symbol as put-def
 use Rattle.answering.proofs.put_place.Symbol.{name as #answering·put-place}

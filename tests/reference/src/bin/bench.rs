@@ -1,7 +1,8 @@
 //! Times the engine against the fast reference, in one process and in turns.
 //!
-//! Both get the same case and a book that has every pair. The engine's buffers are zero before the first
-//! run and are not cleared in between; the fast reference keeps its tables.
+//! Both get the same case and a book that has every pair. The engine's buffers are zero before the
+//! first run and are not cleared in between; the fast reference keeps its tables. The stages are
+//! timed in the same way, on cases of their own. With the argument `stages` only they are timed.
 
 use reference::engine;
 use reference::fast::Fast;
@@ -9,6 +10,7 @@ use reference::gen::{self, Rng};
 use reference::lending::{self, Loan, StudentState};
 use reference::literal;
 use reference::model::*;
+use reference::stages;
 use std::hint::black_box;
 use std::process::ExitCode;
 use std::time::Instant;
@@ -186,7 +188,105 @@ fn lines(groups: (usize, usize)) -> Result<(), String> {
     Ok(())
 }
 
+/// The cases for the stages, of the largest size.
+fn cases_for_stages() -> Vec<(&'static str, Case)> {
+    let (n, m) = LARGEST;
+    let mut rng = Rng::new(2025);
+    let rng = &mut rng;
+    let with_conflict = |case: &Case, steps: usize| {
+        let mut case = case.clone();
+        stages::gen::turn_two(&mut case, steps);
+        case
+    };
+    let few = stages::gen::few_groups(rng, n, m, 8);
+    let chain = stages::gen::one_chain(rng, n, m);
+    let passed_on = stages::gen::passed_on(rng, n, m);
+    let mut sparse = few.clone();
+    sparse.pairs.retain(|_| rng.chance(11));
+    vec![
+        ("8 groups, all workshops alike", few.clone()),
+        (
+            "8 groups, two students turned at one workshop",
+            with_conflict(&few, 0),
+        ),
+        ("one chain, all workshops alike", chain.clone()),
+        (
+            "one chain, two students turned at one workshop",
+            with_conflict(&chain, 0),
+        ),
+        ("one chain from workshop to workshop", passed_on.clone()),
+        (
+            "the same, two students turned",
+            with_conflict(&passed_on, 1),
+        ),
+        ("8 groups, 11 of a hundred pairs", sparse),
+        (
+            "parts of one chain, 11 of a hundred pairs",
+            stages::gen::scattered(rng, n, m, 11),
+        ),
+        (
+            "a ring of 512 students, nine at a workshop",
+            stages::gen::long_ring(rng, n, m, stages::gen::Ring::Closed),
+        ),
+    ]
+}
+
+/// Times the stages of one case and prints the line.
+fn line_of_stages(name: &str, case: &Case) -> Result<(), String> {
+    let request = stages::Request::of(case);
+    let expected = stages::answer(&request);
+    stages::lending::check(&engine::stages, &request, &expected, &mut Rng::new(1))
+        .map_err(|what| format!("{name}: {what}"))?;
+    let mut buffer = vec![0; request.room];
+    let mut own = buffer.clone();
+    let mut fast = stages::fast::Fast::default();
+    let (mut part_times, mut fast_times) = (Vec::new(), Vec::new());
+    let loan = stages::lending::Loan {
+        stages: buffer.as_mut_ptr(),
+        room: buffer.len(),
+    };
+    for _ in 0..RUNS {
+        part_times.push(time(|| {
+            black_box(engine::stages(&request.case, &loan));
+        }));
+        fast_times.push(time(|| {
+            black_box(fast.stages(&request.case, &mut own));
+        }));
+    }
+    let (part, fast) = (median(part_times), median(fast_times));
+    let told = match expected.written().iter().max() {
+        Some(most) => format!("{most} stages"),
+        None => "refused 12".to_string(),
+    };
+    println!(
+        "{:6} pairs {told:>10}  lgs_stages {:9.1} us  fast {:9.1} us  ratio {:6.2}  {name}",
+        case.pairs.len(),
+        part / 1000.0,
+        fast / 1000.0,
+        part / fast,
+    );
+    Ok(())
+}
+
+fn lines_of_stages() -> Result<(), String> {
+    println!(
+        "stages of {}x{}, median of {RUNS} runs in turns",
+        LARGEST.0, LARGEST.1
+    );
+    for (name, case) in cases_for_stages() {
+        line_of_stages(name, &case)?;
+    }
+    Ok(())
+}
+
 fn main() -> ExitCode {
+    if let Err(what) = lines_of_stages() {
+        println!("{what}");
+        return ExitCode::FAILURE;
+    }
+    if std::env::args().nth(1).as_deref() == Some("stages") {
+        return ExitCode::SUCCESS;
+    }
     println!("median of {RUNS} runs in turns; every pair in the book, in random order");
     for (d, e) in GROUPS {
         println!("student groups {d}, workshop groups {e}");

@@ -1,0 +1,161 @@
+-- The part that works out the stages (document 02, Paper 2): "reads a case and returns a stage for each student, each as small as agreement with every workshop
+-- permits, starting at 1".
+use Prim.Native.Nat.{ℕ, _≤_}
+use mathlib.Core.Path.{_≡_}
+use mathlib.Core.Bool.{Bool, true, false, cond}
+use mathlib.Core.List.{List, [], _∷_, _++_, map}
+use mathlib.Core.Option.{Option, some, none}
+use lib.ListN.{length, getD}
+use lib.Dec.{ltb}
+use Rattle.lgs.specs.Market.{Market, ConsistentStages}
+use Rattle.lgs.specs.Rule.{Interview}
+use Rattle.lgs.specs.Stages.{stageOf, leastStages, LeastStages, NoStages}
+use Rattle.lgs.specs.Promises.{Smallest}
+use Rattle.format.specs.Layout.{Row, rows, ofKind}
+use Rattle.format.specs.Causes.{Cause, whole, firstCause, NothingFound, FoundFirst}
+use Rattle.format.specs.Encoding.{caseBytes, Bytes}
+use Rattle.format.specs.Refusals.{Room, caseCauses}
+use Rattle.format.specs.Engine.{placed, engine, marketIn, resultsIn}
+use Rattle.format.specs.Buffers.{withHead}
+use Rattle.format.specs.Promises.{Valid}
+
+pub data StagesOutcome : Type 0 where
+  staged : List ℕ → StagesOutcome  -- the stages of students 1 to n
+  unstaged : ℕ → ℕ → StagesOutcome  -- a refusal: number and place
+
+-- ---- The causes. `room` is the length of the lent stages, in entries.
+
+-- 12: "when no stage numbers agree"
+unfoldable pub noneAgree : Option (List ℕ) → Bool
+noneAgree (some stages) = false
+noneAgree none = true
+
+-- 6 "covers their own buffers too (an entry for each thing returned ..)"; the part is lent no scratch
+unfoldable pub stagesRoomCauses : List ℕ → ℕ → List Cause
+stagesRoomCauses case room = (6, whole (ltb room (marketIn case .students))) ∷ []
+
+-- "The stages in the file are only checked for range": 1 to 5 as for the engine. "12 .., tested after 6 .., with place 0".
+unfoldable pub stagesCauses : List ℕ → ℕ → List Cause
+stagesCauses case room = caseCauses case ++ (stagesRoomCauses case room ++ ((12, whole (noneAgree (leastStages (marketIn case)))) ∷ []))
+
+-- ---- The answer.
+
+-- the last line is never used: where there are no least stages, cause 12 finds it
+unfoldable pub stagesUnless : Option (ℕ × ℕ) → Option (List ℕ) → StagesOutcome
+stagesUnless (some r) least = unstaged (r .0) (r .1)
+stagesUnless none (some stages) = staged stages
+stagesUnless none none = unstaged 12 0
+
+-- a refusal, or else the least stages that agree
+unfoldable pub workOut : List ℕ → ℕ → StagesOutcome
+workOut case room = stagesUnless (firstCause (stagesCauses case room)) (leastStages (marketIn case))
+
+-- "a refusal leaves their outputs as found", and entries past the students stay
+unfoldable pub stagesAfter : StagesOutcome → List ℕ → List ℕ
+stagesAfter (staged stages) old = withHead stages old
+stagesAfter (unstaged k i) old = old
+
+-- the values of an answer: how many stages there are; of a refusal its number and place
+unfoldable pub stagesValues : StagesOutcome → List ℕ
+stagesValues (staged stages) = length stages ∷ []
+stagesValues (unstaged k i) = k ∷ i ∷ []
+
+-- ---- The case with other stages.
+
+-- a record's second field replaced
+abbrev pub withSecond : Row → ℕ → Row
+withSecond r x =
+    record {
+      kind = r .kind;
+      pad = r .pad;
+      first = r .first;
+      second = x;
+      third = r .third;
+      fourth = r .fourth;
+      fifth = r .fifth;
+      sixth = r .sixth;
+      seventh = r .seventh;
+    }
+
+-- the record of a student with her stage from the list; any other record as it is
+unfoldable pub withStage : List ℕ → Row → Row
+withStage stages r = cond (ofKind 1 r) (withSecond r (stageOf stages (r .first))) r
+
+-- the case with these stages written into its student records
+unfoldable pub restaged : List ℕ → List ℕ → List ℕ
+restaged stages case = caseBytes (map (withStage stages) (rows case))
+
+-- the market with these stages
+abbrev pub marketWith : Market → List ℕ → Market
+marketWith M stages =
+    record {
+      students = M .students;
+      workshops = M .workshops;
+      stage = stageOf stages;
+      quota = M .quota;
+      paired = M .paired;
+      studentTier = M .studentTier;
+      workshopTier = M .workshopTier;
+    }
+
+-- ---- What is promised.
+
+-- "Desks .. lose the short list when they guess badly": what these stages do, written into the case. `lent` is the engine's room, not the part's.
+pub record ShortList (case stages : List ℕ) : Type 0 where
+  -- bytes where the case's are, and of the case's length
+  pub bytes : Bytes case → Bytes (restaged stages case)
+  pub long : length (restaged stages case) ≡ length case
+  -- valid where the case was, and the same market but for the stages
+  pub valid : (book : List ℕ) (lent : Room) → Valid case book lent → Valid (restaged stages case) book lent
+  pub market : marketIn (restaged stages case) ≡ marketWith (marketIn case) stages
+  -- the stages agree, and so the list of a finished run is the smallest
+  pub agree : ConsistentStages (marketIn (restaged stages case)) (marketIn (restaged stages case) .stage)
+  pub smallest : (book : List ℕ) (lent : Room) (places : List ℕ) (vs : List Interview)
+      → engine (restaged stages case) book lent ≡ placed places vs
+      → Smallest (marketIn (restaged stages case)) (resultsIn book) places vs
+
+-- what holds of an answer, whichever it is; the stages are within cause 5's range, up to 512, so that they can be written into a case
+abbrev pub StagesPromised : List ℕ → ℕ → StagesOutcome → Type 0
+StagesPromised case room (staged stages) =
+    NothingFound (stagesCauses case room)
+    × LeastStages (marketIn case) stages
+    × ((s : ℕ) → stageOf stages s ≤ 512)
+    × ShortList case stages
+StagesPromised case room (unstaged k i) = FoundFirst (stagesCauses case room) k i × (k ≡ 12 → NoStages (marketIn case))
+
+-- "12 when no stage numbers agree, tested after 6 and given for no other reason, with place 0": where the causes before it find nothing, exactly then
+pub record TwelveExactly : Type 0 where
+  pub given : (case : List ℕ) (room : ℕ) (i : ℕ)
+      → workOut case room ≡ unstaged 12 i
+      → (i ≡ 0) × NothingFound (caseCauses case ++ stagesRoomCauses case room) × NoStages (marketIn case)
+  pub whenever : (case : List ℕ) (room : ℕ)
+      → NothingFound (caseCauses case ++ stagesRoomCauses case room)
+      → NoStages (marketIn case)
+      → workOut case room ≡ unstaged 12 0
+
+-- "tested after 6": the numbers of the causes, in the order in which they are tested
+abbrev pub SevenCauses : Type 0
+SevenCauses =
+    (case : List ℕ) (room : ℕ) → map (λ (c : Cause). c .0) (stagesCauses case room) ≡ 1 ∷ 2 ∷ 3 ∷ 4 ∷ 5 ∷ 6 ∷ 12 ∷ []
+
+-- "The stages in the file are only checked for range": any others within it give the same answer
+abbrev pub FileStagesUnread : Type 0
+FileStagesUnread =
+    (case : List ℕ) (room : ℕ) (stages : List ℕ)
+    → NothingFound (caseCauses case)
+    → length stages ≡ marketIn case .students
+    → ((s : ℕ) → 1 ≤ s → s ≤ marketIn case .students → (1 ≤ stageOf stages s) × (stageOf stages s ≤ 512))
+    → workOut (restaged stages case) room ≡ workOut case room
+
+-- the lent stages keep their length and the entries past the students; "a refusal leaves their outputs as found"
+pub record StagesKept (case stages : List ℕ) (a : StagesOutcome) : Type 0 where
+  pub long : length (stagesAfter a stages) ≡ length stages
+  pub past : (i : ℕ) → marketIn case .students ≤ i → getD (stagesAfter a stages) i 0 ≡ getD stages i 0
+  pub asFound : (k i : ℕ) → a ≡ unstaged k i → stagesAfter a stages ≡ stages
+
+abbrev pub LentStagesKept : Type 0
+LentStagesKept = (case stages : List ℕ) → StagesKept case stages (workOut case (length stages))
+
+-- stages with these promises are the only ones
+abbrev pub OnlyStages : Type 0
+OnlyStages = (M : Market) (stages stages′ : List ℕ) → LeastStages M stages → LeastStages M stages′ → stages ≡ stages′

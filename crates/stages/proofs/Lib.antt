@@ -1,0 +1,4 @@
+pub mod Tiers
+pub mod Raises
+pub mod Rounding
+pub mod Working

@@ -1,0 +1,132 @@
+// The workshops in turn, round after round, until nobody is raised.
+use super::raising::raise;
+ghost use mathlib.Core.Path.{_≡_};
+ghost use mathlib.Core.Bool.{true, false};
+ghost use Prim.Native.Nat.{_≤_};
+ghost use lib.ListN.{length, replicate};
+ghost use Rattle.format.specs.Engine.{marketIn};
+ghost use Rattle.stages.specs.Raising.{Ready};
+ghost use Rattle.stages.specs.Rounds.{starting, Going, Stepped, Rounded, Settled};
+
+// Where a round stands: the workshops whose students agree, whether somebody was raised in it, and whether somebody is above the number of students.
+pub struct Progress {
+    pub resting: u64,
+    pub moving: bool,
+    pub high: bool,
+}
+
+// Workshop w's turn: nothing is done where its students agree already.
+fn step(
+    case: &[u8],
+    table: &[u64],
+    students: usize,
+    workshops: usize,
+    w: usize,
+    own: &mut [u16],
+    tiers: &mut [u16],
+    tops: &mut [u16],
+    p: Progress,
+) -> Progress
+    requires { ⌜ Ready (now case) (now table) students workshops ⌝ }
+    requires { ⌜ (1 ≤ w) × (w ≤ workshops) ⌝ }
+    requires { ⌜ (length (now tiers) ≡ 512) × (length (now tops) ≡ 514) ⌝ }
+    requires { ⌜ Going (marketIn (now case)) (now own) p ⌝ }
+    ensures { λ r. ⌜ Going (marketIn (now (case .entry))) (now (own .exit)) r ⌝ }
+    ensures { λ r. ⌜ Stepped (marketIn (now (case .entry))) w (now (own .entry)) (now (own .exit)) p r ⌝ }
+{
+    if p.high | bits::has_bit(p.resting, w) {
+        return p;
+    }
+    let r = raise(
+        case,
+        table,
+        students,
+        workshops,
+        w,
+        &mut *own,
+        &mut *tiers,
+        &mut *tops,
+    );
+    Progress {
+        resting: bits::with_bit(bits::minus(p.resting, r.moved), w),
+        moving: p.moving | (r.moved != 0),
+        high: students < r.top as usize,
+    }
+}
+
+// A round: every workshop has its turn.
+fn round(
+    case: &[u8],
+    table: &[u64],
+    students: usize,
+    workshops: usize,
+    own: &mut [u16],
+    tiers: &mut [u16],
+    tops: &mut [u16],
+    resting: u64,
+) -> Progress
+    requires { ⌜ Ready (now case) (now table) students workshops ⌝ }
+    requires { ⌜ (length (now tiers) ≡ 512) × (length (now tops) ≡ 514) ⌝ }
+    requires { ⌜ Going (marketIn (now case)) (now own) (starting resting) ⌝ }
+    ensures { λ r. ⌜ Going (marketIn (now (case .entry))) (now (own .exit)) r ⌝ }
+    ensures { λ r. ⌜ Rounded (marketIn (now (case .entry))) (now (own .entry)) (now (own .exit)) r ⌝ }
+{
+    let mut p = Progress {
+        resting,
+        moving: false,
+        high: false,
+    };
+    let mut w = 1;
+    while w <= workshops {
+        let next = step(
+            case,
+            table,
+            students,
+            workshops,
+            w,
+            &mut *own,
+            &mut *tiers,
+            &mut *tops,
+            p,
+        );
+        p = next;
+        w += 1;
+    }
+    p
+}
+
+// Rounds until nobody is raised, or somebody is above the number of students: then no stages agree.
+pub fn settle(
+    case: &[u8],
+    table: &[u64],
+    students: usize,
+    workshops: usize,
+    own: &mut [u16],
+    tiers: &mut [u16],
+    tops: &mut [u16],
+) -> bool
+    requires { ⌜ Ready (now case) (now table) students workshops ⌝ }
+    requires { ⌜ (length (now tiers) ≡ 512) × (length (now tops) ≡ 514) ⌝ }
+    requires { ⌜ now own ≡ replicate 512 1 ⌝ }
+    ensures { λ r. ⌜ Settled (marketIn (now (case .entry))) (now (own .exit)) r ⌝ }
+{
+    let mut p = Progress {
+        resting: 0,
+        moving: true,
+        high: false,
+    };
+    while p.moving & !p.high {
+        let next = round(
+            case,
+            table,
+            students,
+            workshops,
+            &mut *own,
+            &mut *tiers,
+            &mut *tops,
+            p.resting,
+        );
+        p = next;
+    }
+    !p.high
+}
