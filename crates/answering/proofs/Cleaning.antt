@@ -1,8 +1,8 @@
 -- A case and a book that no cause refuses, with the index of their pairs, have what the run's code reads.
 -- People and pairs stand where the laws of a clean case (format: Positions) say, and a book record stands where the index says.
 use Prim.Native.Nat.{ℕ, zero, suc, _+_, _*_, _-_, _≤_, _<_}
-use mathlib.Core.Path.{_≡_, refl, sym, ap, _∙_, subst}
-use mathlib.Core.Bool.{Bool, true, false, not}
+use mathlib.Core.Path.{_≡_, refl, sym, ap, _∙_}
+use mathlib.Core.Bool.{true, false, not}
 use mathlib.Core.List.{List}
 use mathlib.Core.List.{List·Memᴰ·head as here, List·Memᴰ·tail as later}
 use mathlib.Core.Option.{Option, some, none}
@@ -16,7 +16,7 @@ use Rattle.base.proofs.Tests.{never, or-false, is-false}
 use Rattle.base.proofs.Below.{any-below}
 use Rattle.base.proofs.Search.{first-below, first-passes, scan-none}
 use Rattle.lgs.specs.Market.{allSeats}
-use Rattle.format.specs.Layout.{rows, rowCount, rowAt, ofKind, entries, entryCount, entryAt, isInterview, isPair, marketOf, resultsOf, endsInNever}
+use Rattle.format.specs.Layout.{rows, rowCount, ofKind, entries, entryCount, entryAt, isInterview, isPair, marketOf, resultsOf, endsInNever}
 use Rattle.format.specs.Refusals.{Room, needed, badForm, badOrder, badCounts, badRange, badRoom, badPair, caseCauses, causes}
 use Rattle.format.specs.Causes.{whole}
 use Rattle.format.specs.Promises.{Valid}

@@ -6,16 +6,16 @@ use mathlib.Core.Bool.{true, false, cond, _||_}
 use mathlib.Core.List.{List}
 use native.Mathlib.Omega.{arith}
 use native.Mathlib.Nat.{le-max-left, le-max-right, max-le, max-eq-right, max-eq-left}
-use lib.Dec.{ltb, eqb}
+use lib.Dec.{ltb}
 use lib.ListN.{length, getD, set, replicate, length-set, length-replicate, getD-replicate, List·getD-eq-default}
 use lib.Seq.{getD-set-same, getD-set-other}
-use borrow.Author.Tests.{eq-eqb, ne-eqb, lt-ltb, le-ltb}
+use borrow.Author.Tests.{ne-eqb, lt-ltb, le-ltb}
 use Rattle.base.specs.Bits.{member}
-use Rattle.base.proofs.Tests.{less?, eq?, or-left, or-right, bool-cases, never}
-use Rattle.lgs.specs.Market.{Market, Rivals, ConsistentStages, workshopOutside}
+use Rattle.base.proofs.Tests.{less?, eq?, or-left, or-right, bool-cases}
+use Rattle.lgs.specs.Market.{Market, Rivals, ConsistentStages}
 use Rattle.lgs.specs.Stages.{stageOf, matters, FromOne}
-use Rattle.lgs.proofs.Stages.{matters-true, matters-is, rivals-matter}
-use Rattle.stages.specs.Raising.{Below, AgreesAt, tierFor, Noted, Stages, climbedOf, Rises, Climbed, Lifted, Fit, Raised}
+use Rattle.lgs.proofs.Stages.{matters-true, rivals-matter}
+use Rattle.stages.specs.Raising.{tierFor, Noted, Stages, climbedOf, Rises, Climbed, Lifted, Fit, Raised}
 
 -- ---- the larger of two
 

@@ -1,9 +1,9 @@
 -- From the case's causes to what the rounds need, and from what they give to the part's answer.
-use Prim.Native.Nat.{ℕ, _≤_, _<_}
+use Prim.Native.Nat.{ℕ, _≤_}
 use mathlib.Core.Path.{_≡_, refl, sym, ap, _∙_}
 use mathlib.Core.Bool.{true, false}
 use mathlib.Core.List.{List}
-use mathlib.Core.Option.{some, none}
+use mathlib.Core.Option.{none}
 use native.Mathlib.Omega.{arith}
 use lib.ListN.{length, take}
 use Rattle.base.proofs.Search.{none-fails}
@@ -13,12 +13,12 @@ use Rattle.format.specs.Layout.{rowAt, rowCount, rows}
 use Rattle.format.specs.Refusals.{badRange, caseCauses}
 use Rattle.format.specs.Engine.{marketIn}
 use Rattle.format.specs.Buffers.{withHead}
-use Rattle.format.specs.Stages.{staged, unstaged, workOut, stagesAfter}
+use Rattle.format.specs.Stages.{unstaged, workOut, stagesAfter}
 use Rattle.format.proofs.Causes.{table-none}
 use Rattle.format.proofs.Positions.{pair-says}
 use Rattle.format.proofs.Reading.{tiers-range}
 use Rattle.format.proofs.Restaged.{case-wf}
-use Rattle.format.proofs.Stages.{out-case, out-room, out-none, out-staged, stages-promised}
+use Rattle.format.proofs.Stages.{out-none, out-staged, stages-promised}
 use Rattle.records.specs.Records.{pairPlace}
 use Rattle.tables.specs.Table.{Made}
 use Rattle.tables.proofs.Reading.{pair-there}

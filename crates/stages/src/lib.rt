@@ -4,7 +4,6 @@ ghost use mathlib.Core.Option.{none};
 ghost use Prim.Native.Nat.{_≤_};
 ghost use lib.ListN.{length, take};
 ghost use Rattle.format.specs.Buffers.{withHead};
-ghost use Rattle.format.specs.Engine.{marketIn};
 ghost use Rattle.format.specs.Stages.{workOut, stagesAfter};
 ghost use Rattle.api.specs.Stages.{stagesAnswerFor, stagesReportOf, StagesAnswered};
 ghost use Rattle.case_tests.specs.Checked.{caseRefusal};

@@ -1,5 +1,4 @@
 -- `bits::union` meets its contract. `|` joins two sets (`member-or`).
-use mathlib.Core.Path.{refl}
 use Rattle.base.proofs.Digits.{member-or}
 use Rattle.bits.proofs.union.Statement.{statement}
 use Rattle.bits.proofs.union.Tie as tie

@@ -1,6 +1,6 @@
 -- `stages::put_stages` meets its contract. The invariant: the first i entries are written.
 use Prim.Native.Nat.{ℕ, _-_, _≤_}
-use mathlib.Core.Path.{_≡_, _∙_, sym, ap}
+use mathlib.Core.Path.{_≡_, _∙_, ap}
 use native.Mathlib.Omega.{arith}
 use lib.ListN.{length, getD, set}
 use Rattle.base.specs.Lists.{tabulate}
@@ -48,8 +48,14 @@ loop-again : tie.Need-loop-again Inv-loop μ-loop
 loop-again c =
     let a = c .before .before .before .args in
     let here = c .before .before .loop in
-    let f : ℕ → ℕ = λ k. getD (a .own .now) k 0 in
-    (omega arith, ap (λ l. set l (here .i) (f (here .i))) (here .inv .1) ∙ head-on f (here .i) (a .stages .now) (omega (arith, c .before .before .before .pre)))
+    let f : ℕ → ℕ = λ k. getD (a .own .now) k 0 in (
+      omega arith,
+      ap (λ l. set l (here .i) (f (here .i))) (here .inv .1) ∙ head-on f (here .i) (a .stages .now) (omega (
+        arith,
+        c .before .before
+            .before .pre,
+      )),
+    )
 
 same-length : tie.Need-same-length Inv-loop μ-loop
 same-length c =
@@ -62,7 +68,8 @@ returns c =
     let a = c .before .before .args in
     let here = c .before .loop in
     let e : here .i ≡ a .n = omega arith in
-    here .inv .1 ∙ ap (λ l. withHead l (a .stages .now)) (ap (tabulate (λ k. getD (a .own .now) k 0)) e ∙ head-taken (a .n) (a .own .now) (c .before .before .pre .0))
+    here .inv .1 ∙ ap (λ l. withHead l (a .stages .now)) (ap (tabulate (λ k. getD (a .own .now) k 0)) e ∙ head-taken (a .n) (a .own .now) (c .before
+    .before .pre .0))
 
 pub put-stages-spec : {M : Type 1} → statement M
 put-stages-spec =

@@ -58,7 +58,8 @@ returns-2 : tie.Need-returns-2
 returns-2 c =
     let a = c .before .before .before .before .before .before .before .before .args in
     let x = c .before .cause .given in
-    let r = as-refused (a .case .now) (caseRefusal (a .case .now)) (x .0 .0) (x .0 .1 .0) (sym (x .1) ∙ c .before .before .before .before .check-case .ensures .0) in
+    let r = as-refused (a .case .now) (caseRefusal (a .case .now)) (x .0 .0) (x .0 .1 .0) (sym (x .1) ∙ c .before .before .before
+    .before .check-case .ensures .0) in
     refused (a .case .now) (a .stages .now) (x .0 .0) (x .0 .1 .0) (out-case (a .case .now) (length (a .stages .now)) (x .0 .0) (x .0 .1 .0) r)
 
 same-length : tie.Need-same-length

@@ -31,7 +31,8 @@ returns c =
     let start = c .before .before .before .before .before .before .before .before .before .before .before .before .before .before .before .before in
     let a = start .args in
     let w = worked (a .case .now) (start .pre .1 .0) (a .students) _ (a .stages .now) (sym (start .pre .0 .students)) (start .pre .1 .1)
-    (rw (c .before .before .before .before .before .if1 .taken) at (c .before .before .before .before .before .before .before .before .before .settle .ensures)) in
+    (rw (c .before .before .before .before .before .if1 .taken) at (c .before .before .before .before .before .before .before .before
+    .before .settle .ensures)) in
     (w .0, c .before .before .put-stages .ensures ∙ w .1)
 
 returns-2 : tie.Need-returns-2

@@ -1,9 +1,8 @@
 -- `stages::raising::climb` meets its contract. The invariant: the tiers before g have climbed (`Climbing`).
 use Prim.Native.Nat.{_≤_, _-_}
-use mathlib.Core.Path.{_≡_, _∙_, sym}
+use mathlib.Core.Path.{_∙_, sym}
 use native.Mathlib.Omega.{arith}
 use lib.ListN.{length-set}
-use borrow.Author.Needs.{needs}
 use Rattle.stages.proofs.Raises.{Climbing, climbing-none, climbing-more, climbed}
 use Rattle.stages.proofs.raising.climb.Statement.{statement}
 use Rattle.stages.proofs.raising.climb.Tie as tie

@@ -4,20 +4,12 @@ use mathlib.Core.Path.{_≡_, refl, _∙_, sym, ap}
 use mathlib.Core.Bool.{_||_}
 use native.Mathlib.Omega.{arith}
 use native.Mathlib.Numerals.{add-one}
-use lib.ListN.{length-set}
-use borrow.Author.Needs.{needs}
 use Rattle.base.specs.Bits.{member}
 use Rattle.format.specs.Engine.{marketIn}
 use Rattle.stages.specs.Raising.{Lifted}
 use Rattle.stages.proofs.Raises.{lifting-none, lifting-more}
 use Rattle.stages.proofs.raising.lift.Statement.{statement}
 use Rattle.stages.proofs.raising.lift.Tie as tie
-use Rattle.stages.proofs.raising.lift.Reads as reads
-use Rattle.stages.proofs.raising.lift.Lts as lts
-use Rattle.bits.proofs.union.Reads as union-reads
-use Rattle.stages.proofs.raising.larger.Reads as larger-reads
-use Rattle.stages.proofs.raising.set_if.Reads as set-if-reads
-use Rattle.tables.proofs.set_of.Reads as set-of-reads
 
 abbrev Inv-loop : tie.InvT-loop
 Inv-loop case table students workshops tiers needs own₀ moved₀ s₀ own moved s =
@@ -26,85 +18,87 @@ Inv-loop case table students workshops tiers needs own₀ moved₀ s₀ own move
 abbrev μ-loop : tie.MeasureT-loop
 μ-loop case table students workshops tiers needs own₀ moved₀ s₀ own moved s = students - s
 
--- src/raising.rt:132:5
 loop-holds : tie.Need-loop-holds Inv-loop μ-loop
 loop-holds c = let start = c .before .before .before .before .before in (omega arith, lifting-none _ _ _ _ (start .pre .1 .0 .0))
 
--- src/raising.rt:133:20
 mul-have : tie.Need-mul-have Inv-loop μ-loop
 mul-have c = omega arith
 
--- src/raising.rt:133:20
 slice-read-have : tie.Need-slice-read-have Inv-loop μ-loop
 slice-read-have c = let start = c .before .before .before .before .before .before .before .before in
     let here = c .before .before .loop in
     omega (arith, start .pre .0 .manyStudents, start .pre .1 .0 .0, start .pre .1 .0 .1, start .pre .1 .0 .2, here .inv .1 .sized)
 
--- src/raising.rt:134:26
 mul-need : tie.Need-mul-need Inv-loop μ-loop
 mul-need c = omega arith
 
--- src/raising.rt:134:26
 shared-slice-read-need : tie.Need-shared-slice-read-need Inv-loop μ-loop
 shared-slice-read-need c = let start = c .before .before .before .before .before .before .before .before .before in
     let here = c .before .before .before .loop in
     omega (arith, start .pre .0 .manyStudents, start .pre .1 .0 .0, start .pre .1 .0 .1, start .pre .1 .0 .2, here .inv .1 .sized)
 
--- src/raising.rt:134:26
 cast-need : tie.Need-cast-need Inv-loop μ-loop
-cast-need c = let start = c .before .before .before .before .before .before .before .before .before in let here = c .before .before .before .loop in omega (arith, start .pre .1 .1 (here .s) (omega arith))
+cast-need c = let start = c .before .before .before .before .before .before .before .before .before in let here = c .before .before
+    .before .loop in omega (arith, start .pre .1 .1 (here .s) (omega arith))
 
--- src/raising.rt:134:20
 mul-need-2 : tie.Need-mul-need-2 Inv-loop μ-loop
 mul-need-2 c = let start = c .before .before .before .before .before .before .before .before .before in
     let here = c .before .before .before .loop in
-    omega (arith, start .pre .0 .manyStudents, start .pre .1 .0 .0, start .pre .1 .0 .1, start .pre .1 .0 .2, here .inv .1 .sized, start .pre .1 .1 (here .s) (omega arith))
+    omega (
+      arith,
+      start .pre .0 .manyStudents,
+      start .pre .1 .0 .0,
+      start .pre .1 .0 .1,
+      start .pre .1 .0 .2,
+      here .inv .1 .sized,
+      start .pre .1 .1
+          (here .s) (omega arith),
+    )
 
--- src/raising.rt:134:20
 shared-slice-read-need-2 : tie.Need-shared-slice-read-need-2 Inv-loop μ-loop
 shared-slice-read-need-2 c = let start = c .before .before .before .before .before .before .before .before .before .before in
     let here = c .before .before .before .before .loop in
-    omega (arith, start .pre .0 .manyStudents, start .pre .1 .0 .0, start .pre .1 .0 .1, start .pre .1 .0 .2, here .inv .1 .sized, start .pre .1 .1 (here .s) (omega arith))
+    omega (
+      arith,
+      start .pre .0 .manyStudents,
+      start .pre .1 .0 .0,
+      start .pre .1 .0 .1,
+      start .pre .1 .0 .2,
+      here .inv .1 .sized,
+      start .pre .1 .1
+          (here .s) (omega arith),
+    )
 
--- src/raising.rt:135:18
 larger-requires : tie.Need-larger-requires Inv-loop μ-loop
 larger-requires c κs = tt
 
--- src/raising.rt:135:9
 mul-own : tie.Need-mul-own Inv-loop μ-loop
 mul-own c = omega arith
 
--- src/raising.rt:135:9
 slice-write-own : tie.Need-slice-write-own Inv-loop μ-loop
 slice-write-own c = let start = c .before .before .before .before .before .before .before .before .before .before .before in
     let here = c .before .before .before .before .before .loop in
     omega (arith, start .pre .0 .manyStudents, start .pre .1 .0 .0, start .pre .1 .0 .1, start .pre .1 .0 .2, here .inv .1 .sized)
 
--- src/raising.rt:136:84
 add-set-of : tie.Need-add-set-of Inv-loop μ-loop
 add-set-of c = omega arith
 
--- src/raising.rt:136:56
 set-of-requires : tie.Need-set-of-requires Inv-loop μ-loop
-set-of-requires c κs = let start = c .before .before .before .before .before .before .before .before .before .before .before in (start .pre .0 .tabled, (omega arith, omega (arith, start .pre .0 .manyStudents)))
+set-of-requires c κs = let start = c .before .before .before .before .before .before .before .before .before .before .before in
+    (start .pre .0 .tabled, (omega arith, omega (arith, start .pre .0 .manyStudents)))
 
--- src/raising.rt:136:36
 set-if-requires : tie.Need-set-if-requires Inv-loop μ-loop
 set-if-requires c κs = tt
 
--- src/raising.rt:136:9
 union-requires : tie.Need-union-requires Inv-loop μ-loop
 union-requires c κs = tt
 
--- src/raising.rt:137:9
 add-s : tie.Need-add-s Inv-loop μ-loop
 add-s c = omega arith
 
--- src/raising.rt:132:5
 loop-less : tie.Need-loop-less Inv-loop μ-loop
 loop-less c = omega arith
 
--- src/raising.rt:132:5
 loop-again : tie.Need-loop-again Inv-loop μ-loop
 loop-again c =
     let start = c .before .before .before .before .before .before .before .before .before .before .before .before .before .before in
@@ -122,7 +116,6 @@ loop-again c =
 same-length : tie.Need-same-length Inv-loop μ-loop
 same-length c = let start = c .before .before .before .before .before .before .before in c .before .loop .inv .1 .sized ∙ sym (start .pre .1 .0 .0)
 
--- src/raising.rt:117:1
 returns : tie.Need-returns Inv-loop μ-loop
 returns c = let start = c .before .before .before .before .before .before .before in let here = c .before .loop in
     let e : here .s ≡ start .args .students = omega arith in rw e at (here .inv .1)

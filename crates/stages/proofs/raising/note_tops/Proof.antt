@@ -4,19 +4,12 @@ use mathlib.Core.Path.{_≡_, _∙_, sym}
 use native.Mathlib.Omega.{arith}
 use native.Mathlib.Numerals.{add-one}
 use lib.ListN.{length}
-use borrow.Author.Needs.{needs}
 use Rattle.lgs.specs.Stages.{stageOf}
 use Rattle.format.specs.Engine.{marketIn}
 use Rattle.stages.specs.Raising.{reachOf, tierFor, Noted}
 use Rattle.stages.proofs.Raises.{all-zero, noting-none, noting-more}
 use Rattle.stages.proofs.raising.note_tops.Statement.{statement}
 use Rattle.stages.proofs.raising.note_tops.Tie as tie
-use Rattle.stages.proofs.raising.note_tops.Reads as reads
-use Rattle.stages.proofs.raising.note_tops.Lts as lts
-use Rattle.records.proofs.clear.Reads as clear-reads
-use Rattle.stages.proofs.raising.larger.Reads as larger-reads
-use Rattle.stages.proofs.raising.reach_of.Reads as reach-of-reads
-use Rattle.stages.proofs.raising.tier_of.Reads as tier-of-reads
 
 abbrev Inv-loop : tie.InvT-loop
 Inv-loop case table students workshops w own tiers₀ tops₀ reach s₀ tiers tops s =
@@ -25,15 +18,12 @@ Inv-loop case table students workshops w own tiers₀ tops₀ reach s₀ tiers t
 abbrev μ-loop : tie.MeasureT-loop
 μ-loop case table students workshops w own tiers₀ tops₀ reach s₀ tiers tops s = students - s
 
--- src/raising.rt:71:9
 reach-of-requires : tie.Need-reach-of-requires Inv-loop μ-loop
 reach-of-requires c κs = let start = c .before .before .before .before .before in (start .pre .0, start .pre .1 .0)
 
--- src/raising.rt:72:5
 clear-requires : tie.Need-clear-requires Inv-loop μ-loop
 clear-requires c κs = tt
 
--- src/raising.rt:74:5
 loop-holds : tie.Need-loop-holds Inv-loop μ-loop
 loop-holds c =
     let start = c .before .before .before .before .before .before .before .before .before .before in
@@ -41,76 +31,64 @@ loop-holds c =
       omega arith,
       c .before .before .before .before .reach-of .ensures,
       noting-none (tierFor (marketIn (start .args .case .now)) (start .args .w)) (stageOf (start .args .own .now)) (start .args .tiers .now)
-          (cleared .last .0) (start .pre .1 .1 .1) (cleared .kept .0 ∙ start .pre .1 .1 .2) (all-zero (cleared .last .0) (length (start .args .tops .now)) (cleared .ensures)),
+          (cleared .last .0) (start .pre .1 .1 .1) (cleared .kept .0 ∙ start .pre .1 .1 .2) (all-zero (cleared .last .0) (length
+          (start .args .tops .now)) (cleared .ensures)),
     )
 
--- src/raising.rt:75:72
 add-tier-of : tie.Need-add-tier-of Inv-loop μ-loop
 add-tier-of c = omega arith
 
--- src/raising.rt:75:13
 tier-of-requires : tie.Need-tier-of-requires Inv-loop μ-loop
 tier-of-requires c κs =
     let start = c .before .before .before .before .before .before .before .before .before .before .before .before in
     (start .pre .0, ((start .pre .1 .0, (omega arith, omega arith)), c .before .before .before .before .before .before .reach-of .ensures))
 
--- src/raising.rt:76:20
 cast-tiers : tie.Need-cast-tiers Inv-loop μ-loop
 cast-tiers c = omega arith
 
--- src/raising.rt:76:9
 mul-tiers : tie.Need-mul-tiers Inv-loop μ-loop
 mul-tiers c = omega arith
 
--- src/raising.rt:76:9
 slice-write-tiers : tie.Need-slice-write-tiers Inv-loop μ-loop
 slice-write-tiers c = let start = c .before .before .before .before .before .before .before .before .before .before .before .before .before in
     let here = c .before .before .loop in
     omega (arith, start .pre .0 .manyStudents, start .pre .1 .1 .0, here .inv .2 .sized, here .inv .2 .sizedTops)
 
--- src/raising.rt:77:29
 mul-larger : tie.Need-mul-larger Inv-loop μ-loop
 mul-larger c = omega arith
 
--- src/raising.rt:77:29
 slice-read-larger : tie.Need-slice-read-larger Inv-loop μ-loop
 slice-read-larger c = let start = c .before .before .before .before .before .before .before .before .before .before .before .before .before .before in
     let here = c .before .before .before .loop in
     omega (arith, start .pre .0 .manyStudents, start .pre .1 .1 .0, here .inv .2 .sized, here .inv .2 .sizedTops)
 
--- src/raising.rt:77:41
 mul-larger-2 : tie.Need-mul-larger-2 Inv-loop μ-loop
 mul-larger-2 c = omega arith
 
--- src/raising.rt:77:41
 shared-slice-read-larger : tie.Need-shared-slice-read-larger Inv-loop μ-loop
-shared-slice-read-larger c = let start = c .before .before .before .before .before .before .before .before .before .before .before .before .before .before .before in
+shared-slice-read-larger c = let start = c .before .before .before .before .before .before .before .before .before .before .before .before .before
+    .before .before in
     let here = c .before .before .before .before .loop in
     omega (arith, start .pre .0 .manyStudents, start .pre .1 .1 .0, here .inv .2 .sized, here .inv .2 .sizedTops)
 
--- src/raising.rt:77:22
 larger-requires : tie.Need-larger-requires Inv-loop μ-loop
 larger-requires c κs = tt
 
--- src/raising.rt:77:9
 mul-tops : tie.Need-mul-tops Inv-loop μ-loop
 mul-tops c = omega arith
 
--- src/raising.rt:77:9
 slice-write-tops : tie.Need-slice-write-tops Inv-loop μ-loop
-slice-write-tops c = let start = c .before .before .before .before .before .before .before .before .before .before .before .before .before .before .before .before in
+slice-write-tops c = let start = c .before .before .before .before .before .before .before .before .before .before .before .before .before .before
+    .before .before in
     let here = c .before .before .before .before .before .loop in
     omega (arith, start .pre .0 .manyStudents, start .pre .1 .1 .0, here .inv .2 .sized, here .inv .2 .sizedTops)
 
--- src/raising.rt:78:9
 add-s : tie.Need-add-s Inv-loop μ-loop
 add-s c = omega arith
 
--- src/raising.rt:74:5
 loop-less : tie.Need-loop-less Inv-loop μ-loop
 loop-less c = omega arith
 
--- src/raising.rt:74:5
 loop-again : tie.Need-loop-again Inv-loop μ-loop
 loop-again c =
     let start = c .before .before .before .before .before .before .before .before .before .before .before .before .before .before .before .before in
@@ -123,15 +101,14 @@ loop-again c =
           (tier .ensures .0 ∙ rw (add-one (here .s))) (tier .ensures .1) (c .larger .ensures),
     )
 
--- src/raising.rt:56:1
 same-length : tie.Need-same-length Inv-loop μ-loop
-same-length c = let start = c .before .before .before .before .before .before .before .before .before .before .before .before in c .before .loop .inv .2 .sized ∙ sym (start .pre .1 .1 .1)
+same-length c = let start = c .before .before .before .before .before .before .before .before .before .before .before .before in c
+    .before .loop .inv .2 .sized ∙ sym (start .pre .1 .1 .1)
 
--- src/raising.rt:56:1
 same-length-2 : tie.Need-same-length-2 Inv-loop μ-loop
-same-length-2 c = let start = c .before .before .before .before .before .before .before .before .before .before .before .before in c .before .loop .inv .2 .sizedTops ∙ sym (start .pre .1 .1 .2)
+same-length-2 c = let start = c .before .before .before .before .before .before .before .before .before .before .before .before in c
+    .before .loop .inv .2 .sizedTops ∙ sym (start .pre .1 .1 .2)
 
--- src/raising.rt:56:1
 returns : tie.Need-returns Inv-loop μ-loop
 returns c =
     let start = c .before .before .before .before .before .before .before .before .before .before .before .before in

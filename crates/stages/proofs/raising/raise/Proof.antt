@@ -1,9 +1,6 @@
 -- `stages::raising::raise` meets its contract. What the three steps give together (`raised`).
-use Prim.Native.Nat.{ℕ, suc, _<_, _≤_}
-use mathlib.Core.Path.{_≡_, _∙_, sym}
-use native.Mathlib.Omega.{arith}
+use Prim.Native.Nat.{suc}
 use borrow.Author.Needs.{needs}
-use lib.ListN.{getD}
 use Rattle.lgs.specs.Stages.{stageOf}
 use Rattle.format.specs.Engine.{marketIn}
 use Rattle.stages.specs.Raising.{tierFor}
@@ -21,16 +18,24 @@ climb-requires : tie.Need-climb-requires
 climb-requires c κs =
     let start = c .before .before .before .before .before .before .before .before .before .before .before .before .before .before in
     let a = start .args in
-    tops-small (tierFor (marketIn (a .case .now)) (a .w)) (stageOf (a .own .now)) (a .students) _ _ (c .before .before .before .before .before .note-tops .ensures) (start .pre .1 .1 .1 .small)
+    tops-small (tierFor (marketIn (a .case .now)) (a .w)) (stageOf (a .own .now)) (a .students) _ _ (c .before .before .before .before
+    .before .note-tops .ensures) (start .pre .1 .1 .1 .small)
 
 lift-requires : tie.Need-lift-requires
 lift-requires c κs =
-    let start = c .before .before .before .before .before .before .before .before .before .before .before .before .before .before .before .before .before .before .before .before in
+    let start = c .before .before .before .before .before .before .before .before .before .before .before .before .before .before .before .before
+    .before .before .before .before in
     let a = start .args in
     let M = marketIn (a .case .now) in
     let noted = c .before .before .before .before .before .before .before .before .before .before .before .note-tops .ensures in
-    let climbed = c .before .before .before .before .before .climb .ensures in
-    (start .pre .0, ((start .pre .1 .1 .1 .sized, noted .sized, climbed .sized), (λ k l. rw (noted .tier k l) (tier-most M (a .w) (suc k) (λ p. start .pre .0 .tier (suc k) (a .w) p .1)))))
+    let climbed = c .before .before .before .before .before .climb .ensures in (
+      start .pre .0,
+      (
+        (start .pre .1 .1 .1 .sized, noted .sized, climbed .sized),
+        (λ k l. rw (noted .tier k l) (tier-most M (a .w) (suc k)
+            (λ p. start .pre .0 .tier (suc k) (a .w) p .1))),
+      ),
+    )
 
 same-length : tie.Need-same-length
 same-length c = search needs
@@ -43,11 +48,14 @@ same-length-3 c = search needs
 
 returns : tie.Need-returns
 returns c =
-    let start = c .before .before .before .before .before .before .before .before .before .before .before .before .before .before .before .before .before .before .before .before .before .before .before in
+    let start = c .before .before .before .before .before .before .before .before .before .before .before .before .before .before .before .before
+    .before .before .before .before .before .before .before in
     let a = start .args in
     let M = marketIn (a .case .now) in
     raised M (a .w) (a .students) (a .own .now) _ _ _ _ _ _ (start .pre .0 .students) (λ s p. start .pre .0 .named s (a .w) p .0)
-    (λ s p. start .pre .0 .tier s (a .w) p .0) (start .pre .1 .1 .1) (c .before .before .before .before .before .before .before .before .before .before .before .before .before .before .note-tops .ensures) (c .before .before .before .before .before .before .before .before .climb .ensures) (c .before .before .lift .ensures)
+    (λ s p. start .pre .0 .tier s (a .w) p .0) (start .pre .1 .1 .1) (c .before .before .before .before .before .before .before .before .before
+    .before .before .before .before .before .note-tops .ensures) (c .before .before .before .before .before .before .before
+    .before .climb .ensures) (c .before .before .lift .ensures)
 
 pub raise-spec : {M : Type 1} → statement M
 raise-spec = tie.close (tie.spec note-tops-requires climb-requires lift-requires same-length same-length-2 same-length-3 returns)

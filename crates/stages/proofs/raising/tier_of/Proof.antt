@@ -34,7 +34,8 @@ returns c =
     let paired = sym (c .before .before .before .before .has-pair .ensures) ∙ c .before .before .before .if1 .taken in
     let e : c .before .workshop-tier .result ≡ M .workshopTier (a .w) (a .s) =
     c .before .workshop-tier .ensures ∙ rw (c .before .before .pair-at .ensures) (sym (start .pre .0 .pair (a .s) (a .w) paired .workshopTier)) in
-    let r : c .if-within .result ≡ tierFor M (a .w) (a .s) = c .if-within .ensures ∙ rw (e, start .pre .1 .1) (tier-known M (a .w) (a .s) paired (start .pre .0 .tier (a .s) (a .w) paired .0)) in
+    let r : c .if-within .result ≡ tierFor M (a .w) (a .s) = c .if-within .ensures ∙ rw (e, start .pre .1 .1) (tier-known M (a .w) (a .s) paired
+    (start .pre .0 .tier (a .s) (a .w) paired .0)) in
     (r, rw r (tier-most M (a .w) (a .s) (λ p. start .pre .0 .tier (a .s) (a .w) p .1)))
 
 returns-2 : tie.Need-returns-2

@@ -2,7 +2,6 @@
 use Prim.Native.Nat.{_+_, _-_, _≤_}
 use mathlib.Core.Path.{_≡_, _∙_, sym}
 use native.Mathlib.Omega.{arith}
-use borrow.Author.Needs.{needs}
 use lib.ListN.{length}
 use Rattle.format.specs.Engine.{marketIn}
 use Rattle.stages.proofs.Rounding.{Rounding, rounding-none, rounding-more, rounded}
@@ -19,8 +18,14 @@ abbrev μ-loop : tie.MeasureT-loop
 loop-holds : tie.Need-loop-holds Inv-loop μ-loop
 loop-holds c =
     let start = c .before .before .before .before .before in
-    let a = start .args in
-    (omega arith, omega arith, start .pre .1 .0 .0, start .pre .1 .0 .1, rounding-none (marketIn (a .case .now)) (a .own .now) (a .resting) (start .pre .1 .1))
+    let a = start .args in (
+      omega arith,
+      omega arith,
+      start .pre .1 .0 .0,
+      start .pre .1 .0 .1,
+      rounding-none (marketIn (a .case .now)) (a .own .now) (a .resting)
+          (start .pre .1 .1),
+    )
 
 step-requires : tie.Need-step-requires Inv-loop μ-loop
 step-requires c κs =
@@ -29,7 +34,8 @@ step-requires c κs =
     (start .pre .0, ((here .inv .0, omega arith), ((here .inv .2, here .inv .3), here .inv .4 .going)))
 
 add-w : tie.Need-add-w Inv-loop μ-loop
-add-w c = let start = c .before .before .before .before .before .before .before .before .before .before .before .before .before .before .before .before .before in omega (arith, start .pre .0 .manyWorkshops)
+add-w c = let start = c .before .before .before .before .before .before .before .before .before .before .before .before .before .before .before
+    .before .before in omega (arith, start .pre .0 .manyWorkshops)
 
 loop-less : tie.Need-loop-less Inv-loop μ-loop
 loop-less c = omega arith

@@ -37,14 +37,17 @@ round-requires c κs =
 
 loop-less : tie.Need-loop-less Inv-loop μ-loop
 loop-less c =
-    let start = c .before .before .before .before .before .before .before .before .before .before .before .before .before .before .before .before .before .before .before in
+    let start = c .before .before .before .before .before .before .before .before .before .before .before .before .before .before .before .before
+    .before .before .before in
     let here = c .before .before .before .before .before .before .before .before .before .before .before .before .before .loop in
     let done = c .before .before .before .before .before .before .round in
-    left-less (marketIn (start .args .case .now)) (here .own) _ (here .p) (done .result) (c .before .before .before .before .before .before .before .before .before .before .if1 .taken) (done .ensures .1) (done .ensures .0)
+    left-less (marketIn (start .args .case .now)) (here .own) _ (here .p) (done .result) (c .before .before .before .before .before .before .before
+    .before .before .before .if1 .taken) (done .ensures .1) (done .ensures .0)
 
 loop-again : tie.Need-loop-again Inv-loop μ-loop
 loop-again c =
-    let start = c .before .before .before .before .before .before .before .before .before .before .before .before .before .before .before .before .before .before .before in
+    let start = c .before .before .before .before .before .before .before .before .before .before .before .before .before .before .before .before
+    .before .before .before in
     let here = c .before .before .before .before .before .before .before .before .before .before .before .before .before .loop in
     let done = c .before .before .before .before .before .before .round in (
       done .kept .1 .1 .1 .1 .1 .0 ∙ here .inv .0,
@@ -58,10 +61,12 @@ same-length c =
     c .before .before .before .before .loop .inv .2 .going .sized ∙ sym (ap length (start .pre .1 .1) ∙ length-replicate {A = ℕ} 512 1)
 
 same-length-2 : tie.Need-same-length-2 Inv-loop μ-loop
-same-length-2 c = let start = c .before .before .before .before .before .before .before .before .before .before in c .before .before .before .before .loop .inv .0 ∙ sym (start .pre .1 .0 .0)
+same-length-2 c = let start = c .before .before .before .before .before .before .before .before .before .before in c .before .before .before
+    .before .loop .inv .0 ∙ sym (start .pre .1 .0 .0)
 
 same-length-3 : tie.Need-same-length-3 Inv-loop μ-loop
-same-length-3 c = let start = c .before .before .before .before .before .before .before .before .before .before in c .before .before .before .before .loop .inv .1 ∙ sym (start .pre .1 .0 .1)
+same-length-3 c = let start = c .before .before .before .before .before .before .before .before .before .before in c .before .before .before
+    .before .loop .inv .1 ∙ sym (start .pre .1 .0 .1)
 
 returns : tie.Need-returns Inv-loop μ-loop
 returns c =

@@ -1,10 +1,9 @@
 -- `stages::rounds::step` meets its contract. Nothing is done (`step-skips`), or the workshop's students are raised (`step-raises`).
-use mathlib.Core.Path.{_≡_, _∙_, sym, ap}
-use mathlib.Core.Bool.{false, _||_}
+use mathlib.Core.Path.{_∙_, sym, ap}
+use mathlib.Core.Bool.{_||_}
 use native.Mathlib.Omega.{arith}
 use borrow.Author.Needs.{needs}
 use lib.Dec.{eqb}
-use Rattle.base.specs.Bits.{member}
 use Rattle.base.proofs.Tests.{or-false}
 use Rattle.format.specs.Engine.{marketIn}
 use Rattle.stages.proofs.Rounding.{step-skips, step-raises}
@@ -43,7 +42,8 @@ minus-requires : tie.Need-minus-requires
 minus-requires c κs = search needs
 
 with-bit-requires : tie.Need-with-bit-requires
-with-bit-requires c κs = let start = c .before .before .before .before .before .before .before .before .before .before .before .before .before .before .before .before .before .before .before in omega (arith, start .pre .0 .manyWorkshops, start .pre .1 .0)
+with-bit-requires c κs = let start = c .before .before .before .before .before .before .before .before .before .before .before .before .before .before
+    .before .before .before .before .before in omega (arith, start .pre .0 .manyWorkshops, start .pre .1 .0)
 
 cast-t21 : tie.Need-cast-t21
 cast-t21 c = search needs
@@ -59,9 +59,11 @@ same-length-3 c = search needs
 
 returns-2 : tie.Need-returns-2
 returns-2 c =
-    let start = c .before .before .before .before .before .before .before .before .before .before .before .before .before .before .before .before .before .before .before .before .before .before .before in
+    let start = c .before .before .before .before .before .before .before .before .before .before .before .before .before .before .before .before
+    .before .before .before .before .before .before .before in
     let a = start .args in
-    let low = or-false (a .p .high) _ (c .before .before .before .before .before .before .before .before .before .before .before .before .before .before .before .if1 .left) .0 in
+    let low = or-false (a .p .high) _ (c .before .before .before .before .before .before .before .before .before .before .before .before .before
+    .before .before .if1 .left) .0 in
     let raised = c .before .before .before .before .before .before .before .before .before .before .before .raise in
     let joined = c .before .before .before .with-bit in
     step-raises (marketIn (a .case .now)) (a .w) (a .students) (a .own .now) _ (a .p) (raised .result .moved) (raised .result .top)
