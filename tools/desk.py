@@ -469,9 +469,16 @@ def check_only_stages(old, new, place, stages):
         raise Stop(f"desk.py cannot write the stages in {STUDENTS} without changing other cells. Nothing was written. Write them there yourself.")
 
 
+def is_open(name):
+    """LibreOffice has its lock file beside this file, or beside the one behind it where the name is a link."""
+    return any(os.path.lexists(os.path.join(folder, f".~lock.{file}#")) for folder, file in map(os.path.split, (name, os.path.realpath(name))))
+
+
 def write_stages(data, stages):
-    """Writes them, if students.csv still has these bytes."""
+    """Writes them, if students.csv is not open in LibreOffice and still has these bytes."""
     new = with_stages(data, stages)
+    if is_open(STUDENTS):
+        raise Stop(f"{STUDENTS} is open in a spreadsheet: save and close it there, then type the command again. Nothing was written.")
     if not (os.access(STUDENTS, os.W_OK) and os.stat(STUDENTS).st_mode & 0o222):
         raise Stop(f"{STUDENTS} is protected against writing. Nothing was written.")
     if read_bytes(STUDENTS) != data:
@@ -662,7 +669,8 @@ def explain_no_stages(year):
     found = [f"  {workshop}: {one} {'before' if before else 'in the same group as'} {two}" for workshop, one, two, before in contradiction(year)]
     return "\n".join(
         ["No stage numbers agree with the groups of all workshops. Nothing was written.",
-         "That is so where two workshops put the same students in another order, directly or through others." + (" Here:" if found else "")]
+         "That is so where workshops put the same students in another order, or in one group here and in two there, directly or through others."
+         + (" Here:" if found else "")]
         + found
         + [f"See whether such a group was typed wrongly in {PAIRS}; if so, correct it and run desk.py stages again.",
            "(A workshop with quota 0 does not count, nor does a student in a group above a workshop's line group.)",
@@ -793,7 +801,7 @@ def work_out_stages(program):
         return lines + [f"{STUDENTS} has these stages already. Nothing was written."]
     write_stages(data, changed)
     return lines + [f"Wrote them in {STUDENTS}: {len(changed)} {'cell' if len(changed) == 1 else 'cells'} changed, all else is as it was.",
-                    f"If your spreadsheet has {STUDENTS} open, close it there without saving, and open it again."]
+                    f"A spreadsheet that still shows {STUDENTS} shows the old stages: open the file again there before you change it."]
 
 
 def tell(lines):

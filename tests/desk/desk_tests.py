@@ -696,8 +696,9 @@ def other_folders(folder):
 
 WROTE = """
 Wrote them in students.csv: {} changed, all else is as it was.
-If your spreadsheet has students.csv open, close it there without saving, and open it again.
+A spreadsheet that still shows students.csv shows the old stages: open the file again there before you change it.
 """
+OPEN = "students.csv is open in a spreadsheet: save and close it there, then type the command again. Nothing was written.\n"
 K_STAGES = "Stage 1: Anna Berg\nStage 2: Ben Olsen, Carla Roth\n"
 K_HAS_THEM = K_STAGES + "\nstudents.csv has these stages already. Nothing was written.\n"
 
@@ -745,7 +746,7 @@ WRONG_STAGES = [
 ]
 
 NO_STAGES = """No stage numbers agree with the groups of all workshops. Nothing was written.
-That is so where two workshops put the same students in another order, directly or through others.{}
+That is so where workshops put the same students in another order, or in one group here and in two there, directly or through others.{}
 See whether such a group was typed wrongly in pairs.csv; if so, correct it and run desk.py stages again.
 (A workshop with quota 0 does not count, nor does a student in a group above a workshop's line group.)
 If the groups are right, keep any stages in students.csv, for instance 1 for everybody.
@@ -919,6 +920,36 @@ def writing_stages(folder):
         check(f"room for {limit} bytes: all is kept", read_all(folder) == before, str(os.listdir(folder)))
 
 
+def open_in_a_spreadsheet(folder):
+    """With LibreOffice's lock file nothing is written, beside students.csv and beside the file behind a link; without it, it goes on."""
+    blank, right = (students("Anna Berg,{},2\nBen Olsen,{},2\nCarla Roth,{},2\n".format(*stages)) for stages in (("", "", ""), "122"))
+    lock, path = ".~lock.students.csv#", os.path.join(folder, "students.csv")
+    write(folder, "students.csv", blank)
+    for content in (",desk,desk,01.09.2025 10:00,file:///home/desk;", ""):
+        write(folder, lock, content)
+        before = read_all(folder)
+        answers("open in a spreadsheet", desk(folder, "stages"), (1, "", OPEN))
+        check("open in a spreadsheet: nothing is written", read_all(folder) == before)
+    check("open in a spreadsheet: the next visit is told", desk(folder)[2].startswith('students.csv, row 2, column "stage": the cell is empty'))
+    os.rename(os.path.join(folder, lock), os.path.join(folder, ".~lock.pairs.csv#"))
+    answers("closed again", desk(folder, "stages"), (0, K_STAGES + WROTE.format("3 cells"), ""))
+    check("closed again: written", read(folder, "students.csv") == right.encode())
+    write(folder, lock, "")
+    answers("open, and nothing to write", desk(folder, "stages"), (0, K_HAS_THEM, ""))
+    os.remove(os.path.join(folder, lock))
+    os.remove(path)
+    with tempfile.TemporaryDirectory() as other:
+        write(other, "shared.csv", blank)
+        os.symlink(os.path.join(other, "shared.csv"), path)
+        for where, name in ((other, ".~lock.shared.csv#"), (folder, lock)):
+            write(where, name, "")
+            answers(f"a link, with {name}", desk(folder, "stages"), (1, "", OPEN))
+            check(f"a link, with {name}: nothing is written", read(other, "shared.csv") == blank.encode())
+            os.remove(os.path.join(where, name))
+        answers("a link, closed again", desk(folder, "stages"), (0, K_STAGES + WROTE.format("3 cells"), ""))
+        check("a link, closed again: written", os.path.islink(path) and read(other, "shared.csv") == right.encode())
+
+
 def only_stages():
     """The last check before writing finds any other change."""
     module = InProcess().module
@@ -1075,7 +1106,7 @@ def main():
     NEW_FILES.update(new_files())
     for test in (example_k, guide, never, ends_of_a_visit, nevers_of_a_workshop, other_spellings, accents, planned_row, unused_visit, stages_note,
                  withdrawal, too_many_pairs, refusals, other_programs, finding_place, other_folders, stages_of_k, stages_kept, stages_wrong, no_stages,
-                 other_stages_programs, finding_stages, writing_stages):
+                 other_stages_programs, finding_stages, writing_stages, open_in_a_spreadsheet):
         in_new_folder(test)
     wrong_inputs()
     only_stages()

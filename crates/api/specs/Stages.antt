@@ -27,7 +27,7 @@ stagesReportOf (Refused cause place) = record { kind = 2; first = cause; second 
 -- the stages at entry are `stages`, and those at exit have a prime
 pub record StagesAnswered (case stages : List ℕ) (a : StagesAnswer) (stages′ : List ℕ) : Type 0 where
   pub answer : a ≡ stagesAnswerFor (workOut case (length stages))
-  -- the refusal's number and values
+  -- how many stages there are, or the refusal's number and place
   pub values : stagesValuesOf a ≡ stagesValues (workOut case (length stages))
   -- "a refusal leaves their outputs as found"
   pub inStages : stages′ ≡ stagesAfter (workOut case (length stages)) stages

@@ -474,6 +474,7 @@ module _ (case stages : List ℕ)
         record {
           bytes = new-bytes;
           long = new-length;
+          records = new-rows;
           valid = new-valid;
           market = new-market;
           agree = new-agree;

@@ -13,7 +13,7 @@ use lib.ListN.{length, replicate}
 use borrow.Author.Tests.{lt-ltb, le-ltb, eq-eqb}
 use Rattle.base.specs.Lists.{any, upto}
 use Rattle.base.proofs.Tests.{never, or-left, or-right, less?}
-use Rattle.lgs.specs.Market.{Market}
+use Rattle.lgs.specs.Market.{Market, ConsistentStages}
 use Rattle.lgs.specs.Stages.{stageOf, matters, asked, raised, moves, settled, leastStages, FromOne, LeastStages, NoStages}
 use Rattle.lgs.proofs.Valid.{WellFormed}
 use Rattle.lgs.proofs.Stages.{least-given, least-none, least-is, none-is, only-stages, outside}
@@ -151,7 +151,12 @@ stages-promised case room = go (workOut case room) (way case room)
 
 pub twelve-exactly : TwelveExactly
 unfolding stagesRoomCauses
-twelve-exactly = record { given = λ case room i. go case room i (workOut case room) (way case room); whenever = always }
+twelve-exactly =
+    record {
+      given = λ case room i. go case room i (workOut case room) (way case room);
+      whenever = λ case room nothing N. let r = passed case room nothing in out-none case room (r .0) (r .1) N;
+      otherwise = λ case room stage nothing C. else case room stage C (passed case room nothing) (workOut case room) (way case room) refl;
+    }
   where
     go : (case : List ℕ) (room i : ℕ) (o : StagesOutcome) → Way case room o → o ≡ unstaged 12 i
         → (i ≡ 0) × NothingFound (caseCauses case ++ stagesRoomCauses case room) × NoStages (marketIn case)
@@ -162,15 +167,27 @@ twelve-exactly = record { given = λ case room i. go case room i (workOut case r
         (sym z, table-none (caseCauses case ++ stagesRoomCauses case room) (before-none case room e u), N)
     go case room i o (byStages stages e u L) q = let z : _≡_ {A = ℕ} 0 1 = cc in absurd (omega arith)
 
-    always : (case : List ℕ) (room : ℕ) → NothingFound (caseCauses case ++ stagesRoomCauses case room) → NoStages (marketIn case)
-        → workOut case room ≡ unstaged 12 0
-    always case room nothing N =
+    -- causes 1 to 6 find nothing
+    passed : (case : List ℕ) (room : ℕ) → NothingFound (caseCauses case ++ stagesRoomCauses case room)
+        → (firstCause (caseCauses case) ≡ none) × (marketIn case .students ≤ room)
+    passed case room nothing =
         let e : firstCause (caseCauses case) ≡ none = none-table (caseCauses case) (λ c m. nothing c (in-left (stagesRoomCauses case room) m)) in
         ⊎-elim
         (λ (l : room < marketIn case .students).
         absurd (nothing _ (in-right (caseCauses case) (here refl)) 0 (lt-ltb room (marketIn case .students) l, refl)))
-        (λ u. out-none case room e u N)
+        (λ u. (e, u))
         (less? room (marketIn case .students))
+
+    else : (case : List ℕ) (room : ℕ) (stage : ℕ → ℕ) → ConsistentStages (marketIn case) stage
+        → (firstCause (caseCauses case) ≡ none) × (marketIn case .students ≤ room)
+        → (o : StagesOutcome) → Way case room o → workOut case room ≡ o → (stages : List ℕ) × (workOut case room ≡ staged stages)
+    else case room stage C r o (byCase k i e) q =
+        let f : _≡_ {A = Option (ℕ × ℕ)} (some (k, i)) none = sym e ∙ r .0 in
+        let z : _≡_ {A = ℕ} 0 1 = cc in
+        absurd (omega arith)
+    else case room stage C r o (byRoom e l) q = absurd (omega (arith, l, r .1))
+    else case room stage C r o (byNone e u N) q = absurd (N stage C)
+    else case room stage C r o (byStages stages e u L) q = (stages, q)
 
 pub only : OnlyStages
 only = only-stages

@@ -102,9 +102,10 @@ marketWith M stages =
 
 -- "Desks .. lose the short list when they guess badly": what these stages do, written into the case. `lent` is the engine's room, not the part's.
 pub record ShortList (case stages : List ℕ) : Type 0 where
-  -- bytes where the case's are, and of the case's length
+  -- bytes where the case's are, and of the case's length; what is read from them are the case's records with these stages
   pub bytes : Bytes case → Bytes (restaged stages case)
   pub long : length (restaged stages case) ≡ length case
+  pub records : rows (restaged stages case) ≡ map (withStage stages) (rows case)
   -- valid where the case was, and the same market but for the stages
   pub valid : (book : List ℕ) (lent : Room) → Valid case book lent → Valid (restaged stages case) book lent
   pub market : marketIn (restaged stages case) ≡ marketWith (marketIn case) stages
@@ -123,7 +124,8 @@ StagesPromised case room (staged stages) =
     × ShortList case stages
 StagesPromised case room (unstaged k i) = FoundFirst (stagesCauses case room) k i × (k ≡ 12 → NoStages (marketIn case))
 
--- "12 when no stage numbers agree, tested after 6 and given for no other reason, with place 0": where the causes before it find nothing, exactly then
+-- "12 when no stage numbers agree, tested after 6 and given for no other reason, with place 0": where the causes before it find nothing, exactly then,
+-- and stages where some agree
 pub record TwelveExactly : Type 0 where
   pub given : (case : List ℕ) (room : ℕ) (i : ℕ)
       → workOut case room ≡ unstaged 12 i
@@ -132,13 +134,17 @@ pub record TwelveExactly : Type 0 where
       → NothingFound (caseCauses case ++ stagesRoomCauses case room)
       → NoStages (marketIn case)
       → workOut case room ≡ unstaged 12 0
+  pub otherwise : (case : List ℕ) (room : ℕ) (stage : ℕ → ℕ)
+      → NothingFound (caseCauses case ++ stagesRoomCauses case room)
+      → ConsistentStages (marketIn case) stage
+      → (stages : List ℕ) × (workOut case room ≡ staged stages)
 
 -- "tested after 6": the numbers of the causes, in the order in which they are tested
 abbrev pub SevenCauses : Type 0
 SevenCauses =
     (case : List ℕ) (room : ℕ) → map (λ (c : Cause). c .0) (stagesCauses case room) ≡ 1 ∷ 2 ∷ 3 ∷ 4 ∷ 5 ∷ 6 ∷ 12 ∷ []
 
--- "The stages in the file are only checked for range": any others within it give the same answer
+-- "The stages in the file are only checked for range": in a case that 1 to 5 pass, any others within it give the same answer
 abbrev pub FileStagesUnread : Type 0
 FileStagesUnread =
     (case : List ℕ) (room : ℕ) (stages : List ℕ)

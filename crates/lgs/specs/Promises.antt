@@ -49,8 +49,8 @@ module _ (M : Market) (B : Results) where
     pub sure : Determined M Vs O μ
     pub holds : (s : ℕ) → 0 < matchingOf places s → Vs s (matchingOf places s) ≡ true
 
-  -- "With agreeing stages the list is the smallest", with results from any full order that fits the groups and the book: every such set "holds every visit
-  -- on our list", and so "has at least as many visits as the count we return".
+  -- The list is the smallest, with results from any full order that fits the groups and the book: every such set "holds every visit on our list", and so
+  -- "has at least as many visits as the count we return".
   abbrev pub Smallest : List ℕ → List Interview → Type 0
   Smallest places vs =
       (O : Profile)

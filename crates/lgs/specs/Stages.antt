@@ -41,9 +41,8 @@ module _ (M : Market) where
   settled zero stages = none
   settled (suc k) stages = cond (moves stages) (settled k (map (raised stages) (upto (M .students)))) (some stages)
 
-  -- "starting at 1". Each round adds to somebody's stage, and stages that agree can do with as many numbers as there are students: who still moves after
-  -- so many rounds never rests. (That this is right, and not only enough, are the theorems `least-given` and `least-none` in proofs/Stages.antt; the
-  -- promise from bytes is crate format's `StagesPromised`.)
+  -- "starting at 1". Where stages agree, the least are not above the number of students, n, so that there are at most n * n rounds that raise somebody;
+  -- more than that means that none agree. (So it is promised: crate format's `StagesPromised` and `TwelveExactly`.)
   unfoldable pub leastStages : Option (List ℕ)
   leastStages = settled (suc (M .students * M .students)) (replicate (M .students) 1)
 

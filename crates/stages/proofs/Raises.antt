@@ -15,7 +15,7 @@ use Rattle.base.proofs.Tests.{less?, eq?, or-left, or-right, bool-cases}
 use Rattle.lgs.specs.Market.{Market, Rivals, ConsistentStages}
 use Rattle.lgs.specs.Stages.{stageOf, matters, FromOne}
 use Rattle.lgs.proofs.Stages.{matters-true, rivals-matter}
-use Rattle.stages.specs.Raising.{tierFor, Noted, Stages, climbedOf, Rises, Climbed, Lifted, Fit, Raised}
+use Rattle.stages.specs.Raising.{tierFor, Noted, Capped, climbedOf, Rises, Climbed, Lifted, Fit, Raised}
 
 -- ---- the larger of two
 
@@ -93,7 +93,7 @@ module _ (T x : ℕ → ℕ) where
           (larger-of (getD tops g 0) (x (suc n))))
 
 -- no tier's largest stage is above 512 where none is
-pub tops-small : (T x : ℕ → ℕ) (n : ℕ) (tiers tops : List ℕ) → Noted T x n tiers tops → ((s : ℕ) → x s ≤ 512) → Stages tops
+pub tops-small : (T x : ℕ → ℕ) (n : ℕ) (tiers tops : List ℕ) → Noted T x n tiers tops → ((s : ℕ) → x s ≤ 512) → Capped tops
 tops-small T x n tiers tops N f =
     record {
       sized = N .sizedTops;
@@ -116,7 +116,7 @@ module _ (tops : List ℕ) where
     pub some : 0 < best → (h : ℕ) × (1 ≤ h) × (h < g) × (0 < getD tops h 0) × (getD now h 0 ≡ best)
     pub small : best ≤ 512 + g
 
-  pub climbing-none : Stages tops → Climbing tops 0 1
+  pub climbing-none : Capped tops → Climbing tops 0 1
   climbing-none S =
       record {
         sized = S .sized;
@@ -129,7 +129,7 @@ module _ (tops : List ℕ) where
         small = omega arith;
       }
 
-  module _ (S : Stages tops) (now : List ℕ) (best g need high : ℕ) (I : Climbing now best g) (l : 1 ≤ g) (u : g < 514)
+  module _ (S : Capped tops) (now : List ℕ) (best g need high : ℕ) (I : Climbing now best g) (l : 1 ≤ g) (u : g < 514)
       (e : need ≡ climbedOf (getD now g 0) best) (m : high ≡ max best need) where
     at-g : getD (set now g need) g 0 ≡ need
     at-g = getD-set-same now g need 0 (omega (arith, I .sized))
@@ -209,7 +209,7 @@ module _ (tops : List ℕ) where
             (w .0, w .1, omega (arith, w .2), w .3, off-g (w .0) (λ r. omega (arith, w .2)) ∙ w .4 ∙ sym b))
             (less? 0 (getD tops g 0))
 
-  pub climbed : Stages tops → (now : List ℕ) (best g : ℕ) → Climbing now best g → 514 ≤ g → Climbed tops (set now 0 0) best
+  pub climbed : Capped tops → (now : List ℕ) (best g : ℕ) → Climbing now best g → 514 ≤ g → Climbed tops (set now 0 0) best
   climbed S now best g I u =
       record {
         sized = length-set now 0 0 ∙ I .sized;

@@ -20,7 +20,7 @@ use Rattle.lgs.proofs.Valid.{WellFormed}
 use Rattle.lgs.proofs.Stages.{outside, below-few, above-none}
 use Rattle.tables.proofs.Laws.{member-zero}
 use Rattle.stages.specs.Raising.{Below, AgreesAt, Raised}
-use Rattle.stages.specs.Rounds.{starting, Tall, Going, Stepped, Rounded, Settled}
+use Rattle.stages.specs.Rounds.{starting, TooHigh, Going, Stepped, Rounded, Settled}
 use Rattle.stages.specs.declared.rounds.Progress.{Progress}
 
 -- where the first round starts
@@ -277,6 +277,6 @@ module _ (M : Market) (wf : WellFormed M) (own : List ℕ) (few : M .students �
   pub settled-none : Settled M own false → NoStages M
   settled-none S =
       let size : length own ≡ 512 = S .sized in
-      let r : Tall M own = S .tall refl in
+      let r : TooHigh M own = S .tall refl in
       above-none M wf (take (M .students) own) (part-below M own few size (S .below)) (r .0) (r .1) (r .2)
       (omega (arith, r .3, part-same M own few size (r .0) (r .1) (r .2)))

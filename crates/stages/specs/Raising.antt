@@ -53,7 +53,7 @@ pub record Noted (T x : ℕ → ℕ) (n : ℕ) (tiers tops : List ℕ) : Type 0 
   pub some : (g : ℕ) → 0 < getD tops g 0 → (k : ℕ) × (k < n) × (T (suc k) ≡ g) × (x (suc k) ≡ getD tops g 0)
 
 -- the list has an entry for each tier, none above 512
-pub record Stages (tops : List ℕ) : Type 0 where
+pub record Capped (tops : List ℕ) : Type 0 where
   pub sized : length tops ≡ 514
   pub small : (g : ℕ) → getD tops g 0 ≤ 512
 

@@ -18,8 +18,8 @@ starting resting = record { resting = resting; moving = false; high = false }
 
 module _ (M : Market) where
   -- somebody has a stage above the number of students
-  abbrev pub Tall : List ℕ → Type 0
-  Tall own = (s : ℕ) × (1 ≤ s) × (s ≤ M .students) × (M .students < stageOf own s)
+  abbrev pub TooHigh : List ℕ → Type 0
+  TooHigh own = (s : ℕ) × (1 ≤ s) × (s ≤ M .students) × (M .students < stageOf own s)
 
   -- between turns: nobody's stage is above that of any assignment that agrees, and the resting workshops agree
   pub record Going (own : List ℕ) (p : Progress) : Type 0 where
@@ -27,7 +27,7 @@ module _ (M : Market) where
     pub fromOne : FromOne M (stageOf own)
     pub below : Below M own
     pub within : p .high ≡ false → (s : ℕ) → stageOf own s ≤ M .students
-    pub tall : p .high ≡ true → Tall own
+    pub tall : p .high ≡ true → TooHigh own
     pub rest : (v : ℕ) → member (p .resting) v ≡ true → AgreesAt M own v
 
   -- one turn, of workshop w
@@ -51,4 +51,4 @@ module _ (M : Market) where
     pub fromOne : FromOne M (stageOf own)
     pub below : Below M own
     pub agree : yes ≡ true → ConsistentStages M (stageOf own)
-    pub tall : yes ≡ false → Tall own
+    pub tall : yes ≡ false → TooHigh own

@@ -6,18 +6,19 @@ ghost use lib.Dec.{ltb};
 ghost use lib.ListN.{length, getD};
 ghost use Rattle.lgs.specs.Stages.{stageOf};
 ghost use Rattle.format.specs.Engine.{marketIn};
-ghost use Rattle.stages.specs.Raising.{Ready, tierFor, reachOf, Stages, Noted, Climbed, Lifted, Fit, Raised, climbedOf};
+ghost use Rattle.lookup.specs.Clean.{WorkshopAt};
+ghost use Rattle.stages.specs.Raising.{Ready, tierFor, reachOf, Capped, Noted, Climbed, Lifted, Fit, Raised, climbedOf};
 
-pub fn larger(a: u16, b: u16) -> u16
+// The larger of two stages.
+fn larger(a: u16, b: u16) -> u16
     ensures { λ r. ⌜ r ≡ max a b ⌝ }
 {
     if a < b { b } else { a }
 }
 
 // How far the workshop's tiers reach: to its outside tier, and nowhere where it has no seats.
-fn reach_of(case: &[u8], table: &[u64], students: usize, workshops: usize, w: usize) -> usize
-    requires { ⌜ Ready (now case) (now table) students workshops ⌝ }
-    requires { ⌜ (1 ≤ w) × (w ≤ workshops) ⌝ }
+fn reach_of(case: &[u8], students: usize, w: usize) -> usize
+    requires { ⌜ WorkshopAt (now case) students w ⌝ }
     ensures { λ r. ⌜ r ≡ reachOf (marketIn (now (case .entry))) w ⌝ }
 {
     if lookup::quota_of(case, students, w) == 0 {
@@ -71,7 +72,7 @@ fn note_tops(
     requires { ⌜ (length (now own) ≡ 512) × (length (now tiers) ≡ 512) × (length (now tops) ≡ 514) ⌝ }
     ensures { λ _. ⌜ Noted (tierFor (marketIn (now (case .entry))) w) (stageOf (now (own .entry))) students (now (tiers .exit)) (now (tops .exit)) ⌝ }
 {
-    let reach = reach_of(case, table, students, workshops, w);
+    let reach = reach_of(case, students, w);
     records::clear(&mut *tops);
     let mut s = 0;
     while s < students {
@@ -95,7 +96,7 @@ fn climbed(top: u16, best: u16) -> u16
 
 // Each tier that has students gets a later stage than those before it. The largest.
 fn climb(tops: &mut [u16]) -> u16
-    requires { ⌜ Stages (now tops) ⌝ }
+    requires { ⌜ Capped (now tops) ⌝ }
     ensures { λ r. ⌜ Climbed (now (tops .entry)) (now (tops .exit)) r ⌝ }
 {
     let mut best = 0;

@@ -19,7 +19,8 @@ abbrev μ-loop : tie.MeasureT-loop
 μ-loop case table students workshops w own tiers₀ tops₀ reach s₀ tiers tops s = students - s
 
 reach-of-requires : tie.Need-reach-of-requires Inv-loop μ-loop
-reach-of-requires c κs = let start = c .before .before .before .before .before in (start .pre .0, start .pre .1 .0)
+reach-of-requires c κs = let start = c .before .before .before .before .before in start .pre .0 .workshop (start .args .w) (start .pre .1 .0 .0)
+    (start .pre .1 .0 .1)
 
 clear-requires : tie.Need-clear-requires Inv-loop μ-loop
 clear-requires c κs = tt

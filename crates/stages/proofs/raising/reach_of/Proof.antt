@@ -7,22 +7,22 @@ use Rattle.stages.proofs.raising.reach_of.Statement.{statement}
 use Rattle.stages.proofs.raising.reach_of.Tie as tie
 
 quota-of-requires : tie.Need-quota-of-requires
-quota-of-requires c κs = let start = c .before .before in start .pre .0 .workshop _ (start .pre .1 .0) (start .pre .1 .1)
+quota-of-requires c κs = search needs
 
 returns : tie.Need-returns
 returns c =
-    let a = c .before .before .before .before .args in
+    let a = c .before .before .before .args in
     reach-none (marketIn (a .case .now)) (a .w) (sym (c .before .quota-of .ensures) ∙ c .if1 .taken)
 
 workshop-outside-requires : tie.Need-workshop-outside-requires
-workshop-outside-requires c κs = let start = c .before .before .before .before in start .pre .0 .workshop _ (start .pre .1 .0) (start .pre .1 .1)
+workshop-outside-requires c κs = search needs
 
 cast-result : tie.Need-cast-result
 cast-result c = search needs
 
 returns-2 : tie.Need-returns-2
 returns-2 c =
-    let a = c .before .before .before .before .before .args in
+    let a = c .before .before .before .before .args in
     c .workshop-outside .ensures
     ∙ reach-outside (marketIn (a .case .now)) (a .w) (λ z. c .before .if1 .left (c .before .before .quota-of .ensures ∙ z))
 
