@@ -930,7 +930,7 @@ def open_in_a_spreadsheet(folder):
         before = read_all(folder)
         answers("open in a spreadsheet", desk(folder, "stages"), (1, "", OPEN))
         check("open in a spreadsheet: nothing is written", read_all(folder) == before)
-    check("open in a spreadsheet: the next visit is told", desk(folder)[2].startswith('students.csv, row 2, column "stage": the cell is empty'))
+    check("open in a spreadsheet: plain desk.py still reads it", desk(folder)[2].startswith('students.csv, row 2, column "stage": the cell is empty'))
     os.rename(os.path.join(folder, lock), os.path.join(folder, ".~lock.pairs.csv#"))
     answers("closed again", desk(folder, "stages"), (0, K_STAGES + WROTE.format("3 cells"), ""))
     check("closed again: written", read(folder, "students.csv") == right.encode())

@@ -20,7 +20,7 @@ use Rattle.lgs.proofs.Valid.{WellFormed}
 use Rattle.lgs.proofs.Stages.{outside, below-few, above-none}
 use Rattle.tables.proofs.Laws.{member-zero}
 use Rattle.stages.specs.Raising.{Below, AgreesAt, Raised}
-use Rattle.stages.specs.Rounds.{starting, TooHigh, Going, Stepped, Rounded, Settled}
+use Rattle.stages.specs.Rounds.{starting, turnOf, TooHigh, Going, Stepped, Rounded, Settled}
 use Rattle.stages.specs.declared.rounds.Progress.{Progress}
 
 -- where the first round starts
@@ -30,6 +30,20 @@ unsettled = record { resting = 0; moving = true; high = false }
 -- after a turn in which students were raised, of n: `moved` has their workshops, `top` is the largest stage asked, and `resting` the workshops that agree
 abbrev pub after : ℕ → Progress → ℕ → ℕ → ℕ → Progress
 after n p moved top resting = record { resting = resting; moving = p .moving || not (eqb moved 0); high = ltb n top }
+
+-- ---- a workshop's turn is one of the round's, and the turn's workshop is that one
+module _ (m : ℕ) where
+  pub turn-from : (back : Bool) (v : ℕ) → 1 ≤ v → 1 ≤ turnOf m back v
+  turn-from true v l = omega arith
+  turn-from false v l = l
+
+  pub turn-to : (back : Bool) (v : ℕ) → 1 ≤ v → v ≤ m → turnOf m back v ≤ m
+  turn-to true v l u = omega arith
+  turn-to false v l u = u
+
+  turn-back : (back : Bool) (v i : ℕ) → 1 ≤ v → v ≤ m → turnOf m back v ≡ i → v ≡ turnOf m back i
+  turn-back true v i l u e = omega arith
+  turn-back false v i l u e = e
 
 module _ (M : Market) where
   -- ---- one turn
@@ -107,20 +121,28 @@ module _ (M : Market) where
     pub step-raises : Going M own′ (after n p moved top resting) × Stepped M w own own′ p (after n p moved top resting)
     step-raises = (raises-going, raises-stepped)
 
-  -- ---- the turns of a round: workshops before w have had theirs
-  pub record Rounding (own₀ own : List ℕ) (w : ℕ) (p : Progress) : Type 0 where
+  -- ---- the turns of a round: those before turn i were taken
+  pub record Rounding (back : Bool) (own₀ own : List ℕ) (i : ℕ) (p : Progress) : Type 0 where
     pub going : Going M own p
     pub grows : (s : ℕ) → stageOf own₀ s ≤ stageOf own s
     pub moving : p .moving ≡ true → total (stageOf own₀) (M .students) < total (stageOf own) (M .students)
-    pub rested : p .moving ≡ false → p .high ≡ false → (v : ℕ) → 1 ≤ v → v < w → member (p .resting) v ≡ true
+    pub rested : p .moving ≡ false → p .high ≡ false → (v : ℕ) → 1 ≤ v → v ≤ M .workshops → turnOf (M .workshops) back v < i
+        → member (p .resting) v ≡ true
 
-  pub rounding-none : (own : List ℕ) (resting : ℕ) → Going M own (starting resting) → Rounding own own 1 (starting resting)
-  rounding-none own resting G =
-      record { going = G; grows = λ s. omega arith; moving = λ m. never m refl; rested = λ m h v l u. absurd (omega arith) }
+  pub rounding-none : (back : Bool) (own : List ℕ) (resting : ℕ) → Going M own (starting resting) → Rounding back own own 1 (starting resting)
+  rounding-none back own resting G =
+      record {
+        going = G;
+        grows = λ s. omega arith;
+        moving = λ m. never m refl;
+        rested = λ m h v l u k. absurd (omega (arith, k, turn-from (M .workshops) back v l));
+      }
 
-  pub rounding-more : (own₀ own own′ : List ℕ) (w : ℕ) (p q : Progress) → Rounding own₀ own w p → Stepped M w own own′ p q → Going M own′ q
-      → Rounding own₀ own′ (w + 1) q
-  rounding-more own₀ own own′ w p q I S G =
+  pub rounding-more : (back : Bool) (own₀ own own′ : List ℕ) (i : ℕ) (p q : Progress) → Rounding back own₀ own i p
+      → Stepped M (turnOf (M .workshops) back i) own own′ p q
+      → Going M own′ q
+      → Rounding back own₀ own′ (i + 1) q
+  rounding-more back own₀ own own′ i p q I S G =
       record {
         going = G;
         grows = λ s. omega (arith, I .grows s, S .grows s);
@@ -133,17 +155,16 @@ module _ (M : Market) where
               total-less (stageOf own) (stageOf own′) (M .students) (r .0) (r .1) (r .2) (S .grows) (r .3),
             ))
             (S .moving m);
-        rested = λ m h v l u.
-            ⊎-elim (λ (e : v ≡ w). rw e (S .rested m h)) (λ (ne : v ≡ w → ⊥). S .kept m h v (I .rested (S .still m) (S .same h) v l (before v w u ne)))
-            (eq? v w);
+        rested = λ m h v l u k.
+            ⊎-elim (λ (b : turnOf (M .workshops) back v < i). S .kept m h v (I .rested (S .still m) (S .same h) v l u b))
+            (λ (b : i ≤ turnOf (M .workshops) back v). rw (turn-back (M .workshops) back v i l u (omega (arith, b, k))) (S .rested m h))
+            (less? (turnOf (M .workshops) back v) i);
       }
-    where
-      before : (v w : ℕ) → v < w + 1 → (v ≡ w → ⊥) → v < w
-      before v w u ne = ⊎-elim (λ (l : v < w). l) (λ (l : w ≤ v). absurd (ne (omega arith))) (less? v w)
 
-  pub rounded : (own₀ own : List ℕ) (w : ℕ) (p : Progress) → Rounding own₀ own w p → M .workshops < w → Going M own p × Rounded M own₀ own p
-  rounded own₀ own w p I all =
-      (I .going, record { grows = I .grows; moving = I .moving; rested = λ m h v l u. I .rested m h v l (omega arith) })
+  pub rounded : (back : Bool) (own₀ own : List ℕ) (i : ℕ) (p : Progress) → Rounding back own₀ own i p → M .workshops < i
+      → Going M own p × Rounded M own₀ own p
+  rounded back own₀ own i p I all =
+      (I .going, record { grows = I .grows; moving = I .moving; rested = λ m h v l u. I .rested m h v l u (omega (arith, all, turn-to (M .workshops) back v l u)) })
 
   -- ---- the rounds
   pub record Settling (own : List ℕ) (p : Progress) : Type 0 where

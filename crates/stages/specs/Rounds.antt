@@ -1,8 +1,8 @@
 -- The workshops in turn, round after round: what holds between turns, and what a turn, a round and all rounds do.
-use Prim.Native.Nat.{ℕ, _≤_, _<_}
+use Prim.Native.Nat.{ℕ, _+_, _-_, _≤_, _<_}
 use mathlib.Core.Path.{_≡_}
 use mathlib.Core.Logic.{_⊎_}
-use mathlib.Core.Bool.{Bool, true, false}
+use mathlib.Core.Bool.{Bool, true, false, cond}
 use mathlib.Core.List.{List}
 use lib.ListN.{length}
 use Rattle.base.specs.Lists.{total}
@@ -15,6 +15,10 @@ use Rattle.stages.specs.declared.rounds.Progress.{Progress}
 -- a round's beginning
 abbrev pub starting : ℕ → Progress
 starting resting = record { resting = resting; moving = false; high = false }
+
+-- the workshop, of m, that has turn i of a round, and also the turn of workshop i
+abbrev pub turnOf : ℕ → Bool → ℕ → ℕ
+turnOf m back i = cond back (m - i + 1) i
 
 module _ (M : Market) where
   -- somebody has a stage above the number of students

@@ -6,7 +6,7 @@ ghost use Prim.Native.Nat.{_≤_};
 ghost use lib.ListN.{length, replicate};
 ghost use Rattle.format.specs.Engine.{marketIn};
 ghost use Rattle.stages.specs.Raising.{Ready};
-ghost use Rattle.stages.specs.Rounds.{starting, Going, Stepped, Rounded, Settled};
+ghost use Rattle.stages.specs.Rounds.{starting, turnOf, Going, Stepped, Rounded, Settled};
 
 // Where a round stands: the workshops whose students agree, whether somebody was raised in it, and whether somebody is above the number of students.
 pub struct Progress {
@@ -54,6 +54,14 @@ fn step(
     }
 }
 
+// The workshop that has turn i of a round: rounds go up and down in turn.
+fn turn_of(workshops: usize, back: bool, i: usize) -> usize
+    requires { ⌜ (1 ≤ i) × (i ≤ workshops) ⌝ }
+    ensures { λ r. ⌜ r ≡ turnOf workshops back i ⌝ }
+{
+    if back { workshops - i + 1 } else { i }
+}
+
 // A round: every workshop has its turn.
 fn round(
     case: &[u8],
@@ -64,6 +72,7 @@ fn round(
     tiers: &mut [u16],
     tops: &mut [u16],
     resting: u64,
+    back: bool,
 ) -> Progress
     requires { ⌜ Ready (now case) (now table) students workshops ⌝ }
     requires { ⌜ (length (now tiers) ≡ 512) × (length (now tops) ≡ 514) ⌝ }
@@ -76,21 +85,21 @@ fn round(
         moving: false,
         high: false,
     };
-    let mut w = 1;
-    while w <= workshops {
+    let mut i = 1;
+    while i <= workshops {
         let next = step(
             case,
             table,
             students,
             workshops,
-            w,
+            turn_of(workshops, back, i),
             &mut *own,
             &mut *tiers,
             &mut *tops,
             p,
         );
         p = next;
-        w += 1;
+        i += 1;
     }
     p
 }
@@ -115,6 +124,7 @@ pub fn settle(
         moving: true,
         high: false,
     };
+    let mut back = false;
     while p.moving & !p.high {
         let next = round(
             case,
@@ -125,8 +135,10 @@ pub fn settle(
             &mut *tiers,
             &mut *tops,
             p.resting,
+            back,
         );
         p = next;
+        back = !back;
     }
     !p.high
 }

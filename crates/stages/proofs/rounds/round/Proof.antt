@@ -1,19 +1,20 @@
 -- `stages::rounds::round` meets its contract. The invariant: the workshops before w have had their turn (`Rounding`).
 use Prim.Native.Nat.{_+_, _-_, _≤_}
-use mathlib.Core.Path.{_≡_, _∙_, sym}
+use mathlib.Core.Path.{_≡_, _∙_, sym, ap}
 use native.Mathlib.Omega.{arith}
 use lib.ListN.{length}
 use Rattle.format.specs.Engine.{marketIn}
-use Rattle.stages.proofs.Rounding.{Rounding, rounding-none, rounding-more, rounded}
+use Rattle.stages.specs.Rounds.{turnOf}
+use Rattle.stages.proofs.Rounding.{turn-from, turn-to, Rounding, rounding-none, rounding-more, rounded}
 use Rattle.stages.proofs.rounds.round.Statement.{statement}
 use Rattle.stages.proofs.rounds.round.Tie as tie
 
 abbrev Inv-loop : tie.InvT-loop
-Inv-loop case table students workshops own₀ tiers₀ tops₀ resting p₀ w₀ own tiers tops p w =
-    (1 ≤ w) × (w ≤ workshops + 1) × (length tiers ≡ 512) × (length tops ≡ 514) × Rounding (marketIn case) own₀ own w p
+Inv-loop case table students workshops own₀ tiers₀ tops₀ resting back p₀ i₀ own tiers tops p i =
+    (1 ≤ i) × (i ≤ workshops + 1) × (length tiers ≡ 512) × (length tops ≡ 514) × Rounding (marketIn case) back own₀ own i p
 
 abbrev μ-loop : tie.MeasureT-loop
-μ-loop case table students workshops own₀ tiers₀ tops₀ resting p₀ w₀ own tiers tops p w = workshops + 1 - w
+μ-loop case table students workshops own₀ tiers₀ tops₀ resting back p₀ i₀ own tiers tops p i = workshops + 1 - i
 
 loop-holds : tie.Need-loop-holds Inv-loop μ-loop
 loop-holds c =
@@ -23,34 +24,42 @@ loop-holds c =
       omega arith,
       start .pre .1 .0 .0,
       start .pre .1 .0 .1,
-      rounding-none (marketIn (a .case .now)) (a .own .now) (a .resting)
-          (start .pre .1 .1),
+      rounding-none (marketIn (a .case .now)) (a .back) (a .own .now) (a .resting) (start .pre .1 .1),
     )
+
+turn-of-requires : tie.Need-turn-of-requires Inv-loop μ-loop
+turn-of-requires c κs = (c .before .loop .inv .0, omega arith)
 
 step-requires : tie.Need-step-requires Inv-loop μ-loop
 step-requires c κs =
-    let start = c .before .before .before .before .before .before .before .before .before .before in
-    let here = c .before .before .before .before .loop in
-    (start .pre .0, ((here .inv .0, omega arith), ((here .inv .2, here .inv .3), here .inv .4 .going)))
+    let start = c .before .before .before .before .before .before .before .before .before .before .before in
+    let here = c .before .before .before .before .before .loop in
+    let turn = c .before .before .before .turn-of in
+    let l = turn-from (start .args .workshops) (start .args .back) (here .i) (here .inv .0) in
+    let u = turn-to (start .args .workshops) (start .args .back) (here .i) (here .inv .0) (omega arith) in
+    (start .pre .0, ((rw (turn .ensures) l, rw (turn .ensures) u), ((here .inv .2, here .inv .3), here .inv .4 .going)))
 
-add-w : tie.Need-add-w Inv-loop μ-loop
-add-w c = let start = c .before .before .before .before .before .before .before .before .before .before .before .before .before .before .before
-    .before .before in omega (arith, start .pre .0 .manyWorkshops)
+add-i : tie.Need-add-i Inv-loop μ-loop
+add-i c = let start = c .before .before .before .before .before .before .before .before .before .before .before .before .before .before .before .before .before .before in omega (arith, start .pre .0 .manyWorkshops)
 
 loop-less : tie.Need-loop-less Inv-loop μ-loop
 loop-less c = omega arith
 
 loop-again : tie.Need-loop-again Inv-loop μ-loop
 loop-again c =
-    let start = c .before .before .before .before .before .before .before .before .before .before .before .before .before .before .before .before .before in
-    let here = c .before .before .before .before .before .before .before .before .before .before .before .loop in
+    let start = c .before .before .before .before .before .before .before .before .before .before .before .before .before .before .before .before .before .before in
+    let a = start .args in
+    let here = c .before .before .before .before .before .before .before .before .before .before .before .before .loop in
     let done = c .before .before .before .before .before .before .step in
-    let M = marketIn (start .args .case .now) in (
+    let M = marketIn (a .case .now) in
+    let e : c .before .before .before .before .before .before .before .before .before .before .turn-of .result ≡ turnOf (M .workshops) (a .back) (here .i) =
+    c .before .before .before .before .before .before .before .before .before .before .turn-of .ensures ∙ ap (λ m. turnOf m (a .back) (here .i)) (sym (start .pre .0 .workshops)) in (
       omega arith,
-      omega (arith, c .before .before .before .before .before .before .before .before .before .before .loop-test .taken),
+      omega (arith, c .before .before .before .before .before .before .before .before .before .before .before .loop-test .taken),
       done .kept .1 .1 .1 .1 .1 .1 .0 ∙ here .inv .2,
       done .kept .1 .1 .1 .1 .1 .1 .1 .0 ∙ here .inv .3,
-      rounding-more M (start .args .own .now) (here .own) _ (here .w) (here .p) (done .result) (here .inv .4) (done .ensures .1) (done .ensures .0),
+      rounding-more M (a .back) (a .own .now) (here .own) _ (here .i) (here .p) (done .result) (here .inv .4)
+          (rw e at (done .ensures .1)) (done .ensures .0),
     )
 
 same-length : tie.Need-same-length Inv-loop μ-loop
@@ -65,8 +74,9 @@ same-length-3 c = let start = c .before .before .before .before .before .before 
 returns : tie.Need-returns Inv-loop μ-loop
 returns c =
     let start = c .before .before .before .before .before .before .before in
+    let a = start .args in
     let here = c .before .loop in
-    rounded (marketIn (start .args .case .now)) (start .args .own .now) (here .own) (here .w) (here .p) (here .inv .4)
+    rounded (marketIn (a .case .now)) (a .back) (a .own .now) (here .own) (here .i) (here .p) (here .inv .4)
     (omega (arith, start .pre .0 .workshops, here .inv .1))
 
 pub round-spec : {M : Type 1} → statement M
@@ -76,8 +86,9 @@ round-spec =
     Inv-loop
     μ-loop
     loop-holds
+    turn-of-requires
     step-requires
-    add-w
+    add-i
     loop-less
     loop-again
     same-length

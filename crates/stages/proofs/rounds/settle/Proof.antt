@@ -11,11 +11,11 @@ use Rattle.stages.proofs.rounds.settle.Statement.{statement}
 use Rattle.stages.proofs.rounds.settle.Tie as tie
 
 abbrev Inv-loop : tie.InvT-loop
-Inv-loop case table students workshops own₀ tiers₀ tops₀ p₀ own tiers tops p =
+Inv-loop case table students workshops own₀ tiers₀ tops₀ p₀ back₀ own tiers tops p back =
     (length tiers ≡ 512) × (length tops ≡ 514) × Settling (marketIn case) own p
 
 abbrev μ-loop : tie.MeasureT-loop
-μ-loop case table students workshops own₀ tiers₀ tops₀ p₀ own tiers tops p = left (marketIn case) own p
+μ-loop case table students workshops own₀ tiers₀ tops₀ p₀ back₀ own tiers tops p back = left (marketIn case) own p
 
 loop-holds : tie.Need-loop-holds Inv-loop μ-loop
 loop-holds c =
