@@ -3,7 +3,7 @@
 use Prim.Native.Nat.{ℕ, zero, suc, _+_, _*_, _≤_, _<_}
 use mathlib.Core.Path.{_≡_, refl, sym, ap, _∙_}
 use mathlib.Core.Logic.{⊎-elim}
-use mathlib.Core.Bool.{true, false, not, cond, _&&_}
+use mathlib.Core.Bool.{Bool, true, false, not, cond, _&&_}
 use mathlib.Core.List.{List, map}
 use mathlib.Core.Option.{Option, some, none}
 use native.Mathlib.Omega.{arith}
@@ -12,7 +12,7 @@ use lib.Dec.{ltb, eqb}
 use lib.ListN.{length, replicate, length-map, length-replicate, getD-replicate}
 use borrow.Author.Tests.{ltb-true, ltb-false, lt-ltb, le-ltb, eq-eqb, ne-eqb, not-true}
 use Rattle.base.specs.Lists.{upto, count, total, largest}
-use Rattle.base.proofs.Tests.{bool-cases, and-left, and-right, less?, eq?}
+use Rattle.base.proofs.Tests.{bool-cases, is-false, and-left, and-right, and-make, less?, eq?}
 use Rattle.base.proofs.Counting.{count-less, count-le, total-less, total-within, largest-le, largest-part}
 use Rattle.base.proofs.Members.{upto-length, upto-some, upto-none, entry-past, entry-upto, entry-same}
 use Rattle.lgs.specs.Market.{Market, Rivals, ConsistentStages, workshopOutside}
@@ -198,48 +198,65 @@ module _ (M : Market) where
       entry-same xs ys (a .whole ∙ sym (b .whole))
       (λ s. le-antisymm (a .least (stageOf ys) (b .fromOne) (b .agree) s) (b .least (stageOf xs) (a .fromOne) (a .agree) s))
 
-  -- stages numbered anew: a student's is one more than the number of students before her
-  abbrev pub ranked : (ℕ → ℕ) → ℕ → ℕ
-  ranked stage s = suc (count (λ t. ltb (stage t) (stage s)) (M .students))
+  -- stages numbered anew: a student's is one more than the number of students before her, of those that a test passes
+  abbrev pub ranked : (ℕ → Bool) → (ℕ → ℕ) → ℕ → ℕ
+  ranked counted stage s = suc (count (λ t. counted t && ltb (stage t) (stage s)) (M .students))
 
 module _ (M : Market) (wf : WellFormed M) where
-  pub rank-agree : (stage : ℕ → ℕ) → ConsistentStages M stage → ConsistentStages M (ranked M stage)
-  rank-agree stage C =
-      record {
-        earlier = λ w s t R l.
-            let r : (1 ≤ s) × (s ≤ M .students) = wf .student s w (R .pair) in
-            let before : stage s < stage t = C .earlier w s t R l in
-            omega (
-              arith,
-              count-less (λ x. ltb (stage x) (stage s)) (λ x. ltb (stage x) (stage t)) (M .students) s
-                  (λ x l u e. lt-ltb (stage x) (stage t) (omega (arith, ltb-true (stage x) (stage s) e))) (r .0) (r .1)
-                  (lt-ltb (stage s) (stage t) before) (le-ltb (stage s) (stage s) (omega arith)),
-            );
-        together = λ w s t R e. ap (λ v. suc (count (λ x. ltb (stage x) v) (M .students))) (C .together w s t R e);
-      }
+  -- for every student there is one that the test passes, with her stage
+  module _ (counted : ℕ → Bool) (stage : ℕ → ℕ) (C : ConsistentStages M stage)
+      (stands : (s : ℕ) → 1 ≤ s → s ≤ M .students → (r : ℕ) × (1 ≤ r) × (r ≤ M .students) × (counted r ≡ true) × (stage r ≡ stage s)) where
+    before : ℕ → ℕ → Bool
+    before s t = counted t && ltb (stage t) (stage s)
 
-  pub rank-few : (stage : ℕ → ℕ) (s : ℕ) → 1 ≤ s → s ≤ M .students → ranked M stage s ≤ M .students
-  rank-few stage s l u =
-      omega (
-        arith,
-        count-less (λ x. ltb (stage x) (stage s)) (λ x. true) (M .students) s (λ x l u e. refl) l u refl (le-ltb (stage s) (stage s) (omega arith)),
-        count-le (λ x. true) (M .students),
-      )
+    not-before : (s r : ℕ) → stage r ≡ stage s → before s r ≡ false
+    unfolding before
+    not-before s r e = is-false _ (λ b. omega (arith, e, ltb-true (stage r) (stage s) (and-right (counted r) _ b)))
+
+    pub rank-agree : ConsistentStages M (ranked M counted stage)
+    unfolding before
+    rank-agree =
+        record {
+          earlier = λ w s t R l.
+              let r : (1 ≤ s) × (s ≤ M .students) = wf .student s w (R .pair) in
+              let x = stands s (r .0) (r .1) in
+              let less : stage s < stage t = C .earlier w s t R l in
+              omega (
+                arith,
+                count-less (before s) (before t) (M .students) (x .0)
+                    (λ y l u e.
+                    and-make (and-left (counted y) _ e)
+                    (lt-ltb (stage y) (stage t) (omega (arith, less, ltb-true (stage y) (stage s) (and-right (counted y) _ e)))))
+                    (x .1) (x .2) (and-make (x .3) (lt-ltb (stage (x .0)) (stage t) (omega (arith, less, x .4)))) (not-before s (x .0) (x .4)),
+              );
+          together = λ w s t R e. ap (λ v. suc (count (λ x. counted x && ltb (stage x) v) (M .students))) (C .together w s t R e);
+        }
+
+    pub rank-few : (s : ℕ) → 1 ≤ s → s ≤ M .students → ranked M counted stage s ≤ count counted (M .students)
+    unfolding before
+    rank-few s l u =
+        let x = stands s l u in
+        count-less (before s) counted (M .students) (x .0) (λ y l u e. and-left (counted y) _ e) (x .1) (x .2) (x .3) (not-before s (x .0) (x .4))
+
+  -- everybody is counted
+  abbrev everybody : ℕ → Bool
+  everybody s = true
 
   pub rank : (stage : ℕ → ℕ) → ConsistentStages M stage
-      → ConsistentStages M (ranked M stage) × FromOne M (ranked M stage) × ((s : ℕ) → 1 ≤ s → s ≤ M .students → ranked M stage s ≤ M .students)
-  rank stage C = (rank-agree stage C, λ s l u. omega arith, rank-few stage)
+      → ConsistentStages M (ranked M everybody stage)
+      × FromOne M (ranked M everybody stage)
+      × ((s : ℕ) → 1 ≤ s → s ≤ M .students → ranked M everybody stage s ≤ M .students)
+  rank stage C = (
+    rank-agree everybody stage C (λ s l u. (s, l, u, refl, refl)),
+    λ s l u. omega arith,
+    λ s l u. omega (arith, rank-few everybody stage C (λ s l u. (s, l, u, refl, refl)) s l u, count-le everybody (M .students)),
+  )
 
   -- where some stages agree, stages below all that agree are no more than the number of students
   pub below-few : (stage : ℕ → ℕ) → ConsistentStages M stage → (xs : List ℕ)
       → ((stage : ℕ → ℕ) → FromOne M stage → ConsistentStages M stage → (s : ℕ) → stageOf xs s ≤ stage s)
       → (s : ℕ) → 1 ≤ s → s ≤ M .students → stageOf xs s ≤ M .students
-  below-few stage C xs below s l u = omega (arith, below (ranked M stage) (λ s l u. omega arith) (rank-agree stage C) s, rank-few stage s l u)
-
-  pub above-none : (xs : List ℕ)
-      → ((stage : ℕ → ℕ) → FromOne M stage → ConsistentStages M stage → (s : ℕ) → stageOf xs s ≤ stage s)
-      → (s : ℕ) → 1 ≤ s → s ≤ M .students → M .students < stageOf xs s → NoStages M
-  above-none xs below s l u more stage C = omega (arith, below-few stage C xs below s l u)
+  below-few stage C xs below s l u = let r = rank stage C in omega (arith, below (ranked M everybody stage) (r .1) (r .0) s, r .2 s l u)
 
   -- ---- at rest they agree
   pub rests-agree : (xs : List ℕ) → moves M xs ≡ false → ConsistentStages M (stageOf xs)

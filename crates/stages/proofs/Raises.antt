@@ -1,21 +1,25 @@
 -- One workshop: the loops over the students and the tiers, and what they give together.
-use Prim.Native.Nat.{ℕ, zero, suc, _+_, _≤_, _<_, max}
+use Prim.Native.Nat.{ℕ, zero, suc, _+_, _-_, _≤_, _<_, max}
 use mathlib.Core.Path.{_≡_, refl, sym, ap, _∙_}
 use mathlib.Core.Logic.{_⊎_, inl, inr, ⊎-elim}
-use mathlib.Core.Bool.{true, false, cond, _||_}
+use mathlib.Core.Bool.{Bool, true, false, not, cond, _||_}
 use mathlib.Core.List.{List}
 use native.Mathlib.Omega.{arith}
 use native.Mathlib.Nat.{le-max-left, le-max-right, max-le, max-eq-right, max-eq-left}
-use lib.Dec.{ltb}
+use lib.Dec.{ltb, eqb}
 use lib.ListN.{length, getD, set, replicate, length-set, length-replicate, getD-replicate, List·getD-eq-default}
 use lib.Seq.{getD-set-same, getD-set-other}
-use borrow.Author.Tests.{ne-eqb, lt-ltb, le-ltb}
+use borrow.Author.Tests.{eq-eqb, ne-eqb, eqb-true, eqb-false, lt-ltb, le-ltb, not-false}
+use Rattle.base.specs.Lists.{count}
+use Rattle.base.specs.Below.{anyBelow}
 use Rattle.base.specs.Bits.{member}
-use Rattle.base.proofs.Tests.{less?, eq?, or-left, or-right, bool-cases}
+use Rattle.base.proofs.Tests.{less?, eq?, or-left, or-right, or-false, bool-cases, never}
+use Rattle.base.proofs.Below.{any-first, any-fails, any-none}
 use Rattle.lgs.specs.Market.{Market, Rivals, ConsistentStages}
 use Rattle.lgs.specs.Stages.{stageOf, matters, FromOne}
-use Rattle.lgs.proofs.Stages.{matters-true, rivals-matter}
-use Rattle.stages.specs.Raising.{tierFor, Noted, Capped, climbedOf, Rises, Climbed, Lifted, Fit, Raised}
+use Rattle.lgs.proofs.Valid.{WellFormed}
+use Rattle.lgs.proofs.Stages.{matters-true, rivals-matter, ranked, rank-agree, rank-few}
+use Rattle.stages.specs.Raising.{tierFor, standsFor, Enough, Noted, Capped, climbedOf, Rises, Climbed, Lifted, Fit, Raised}
 
 -- ---- the larger of two
 
@@ -92,6 +96,41 @@ module _ (T x : ℕ → ℕ) where
           (λ (a : (max (getD tops g 0) (x (suc n)) ≡ x (suc n)) × (getD tops g 0 ≤ x (suc n))). (n, omega arith, sym e, sym (q ∙ a .0)))
           (larger-of (getD tops g 0) (x (suc n))))
 
+  -- student k + 1 is in the tier of student n + 1
+  abbrev same-as : ℕ → ℕ → Bool
+  same-as n k = eqb (T (suc k)) (T (suc n))
+
+  -- a tier has no largest stage yet where its first student comes
+  pub first-there : (tiers tops : List ℕ) (n : ℕ) → Noted T x n tiers tops → ((k : ℕ) → k < n → 1 ≤ x (suc k))
+      → (eqb (T (suc n)) 0 || eqb (getD tops (T (suc n)) 0) 0) ≡ standsFor T (suc n)
+  first-there tiers tops n I low = ap (λ b. eqb (T (suc n)) 0 || b) (rw less-one (⊎-elim had had-not (bool-cases (anyBelow (same-as n) n))))
+    where
+      less-one : suc n - 1 ≡ n
+      less-one = omega arith
+
+      had : anyBelow (same-as n) n ≡ true → eqb (getD tops (T (suc n)) 0) 0 ≡ not (anyBelow (same-as n) n)
+      had b =
+          let f = any-first (same-as n) n b in
+          let e = eqb-true (T (suc (f .0))) (T (suc n)) (f .2) in
+          rw (
+            b,
+            ne-eqb (getD tops (T (suc n)) 0) 0
+                (λ z. omega (arith, z, low (f .0) (f .1), I .high (f .0) (f .1), ap (λ g. getD tops g 0) e)),
+          )
+
+      had-not : anyBelow (same-as n) n ≡ false → eqb (getD tops (T (suc n)) 0) 0 ≡ not (anyBelow (same-as n) n)
+      had-not b =
+          rw (
+            b,
+            eq-eqb (getD tops (T (suc n)) 0) 0
+                (⊎-elim
+                (λ (p : 0 < getD tops (T (suc n)) 0).
+                let k = I .some (T (suc n)) p in
+                absurd (never (eq-eqb (T (suc (k .0))) (T (suc n)) (k .2)) (any-fails (same-as n) n b (k .0) (k .1))))
+                (λ (p : getD tops (T (suc n)) 0 ≤ 0). omega arith)
+                (less? 0 (getD tops (T (suc n)) 0))),
+          )
+
 -- no tier's largest stage is above 512 where none is
 pub tops-small : (T x : ℕ → ℕ) (n : ℕ) (tiers tops : List ℕ) → Noted T x n tiers tops → ((s : ℕ) → x s ≤ 512) → Capped tops
 tops-small T x n tiers tops N f =
@@ -101,6 +140,53 @@ tops-small T x n tiers tops N f =
           ⊎-elim (λ (p : 0 < getD tops g 0). let k = N .some g p in omega (arith, k .3, f (suc (k .0)))) (λ (p : getD tops g 0 ≤ 0). omega arith)
           (less? 0 (getD tops g 0));
     }
+
+-- ---- how many stages there can be: one for each tier of a workshop, and one for each student in none
+
+module _ (M : Market) (wf : WellFormed M) (w : ℕ) where
+  abbrev tier : ℕ → ℕ
+  tier = tierFor M w
+
+  in-tier : (s : ℕ) → (tier s ≡ 0 → ⊥) → matters M w s ≡ true
+  in-tier s n =
+      ⊎-elim (λ (b : matters M w s ≡ true). b) (λ (b : matters M w s ≡ false). absurd (n (rw b))) (bool-cases (matters M w s))
+
+  same-stage : (stage : ℕ → ℕ) → ConsistentStages M stage → (r s : ℕ) → (tier s ≡ 0 → ⊥) → tier r ≡ tier s → stage r ≡ stage s
+  same-stage stage C r s n e =
+      let a = in-tier r (λ z. n (sym e ∙ z)) in
+      let b = in-tier s n in
+      let x = matters-true M w r a in
+      let y = matters-true M w s b in
+      let f : tier r ≡ M .workshopTier w r = rw a in
+      let g : tier s ≡ M .workshopTier w s = rw b in
+      C .together w r s (record { seats = x .0; pair = x .1; pair′ = y .1; within = x .2; within′ = y .2 }) (sym f ∙ e ∙ g)
+
+  stands : (stage : ℕ → ℕ) → ConsistentStages M stage → (s : ℕ) → 1 ≤ s → s ≤ M .students
+      → (r : ℕ) × (1 ≤ r) × (r ≤ M .students) × (standsFor tier r ≡ true) × (stage r ≡ stage s)
+  stands stage C s l u =
+      ⊎-elim (λ (b : standsFor tier s ≡ true). (s, l, u, b, refl)) (λ (b : standsFor tier s ≡ false). another b) (bool-cases (standsFor tier s))
+    where
+      another : standsFor tier s ≡ false → (r : ℕ) × (1 ≤ r) × (r ≤ M .students) × (standsFor tier r ≡ true) × (stage r ≡ stage s)
+      another b =
+          let c = or-false (eqb (tier s) 0) _ b in
+          let f = any-first (λ k. eqb (tier (suc k)) (tier s)) (s - 1) (not-false _ (c .1)) in
+          let r = suc (f .0) in
+          let e : tier r ≡ tier s = eqb-true (tier r) (tier s) (f .2) in
+          let less : suc (f .0) - 1 ≡ f .0 = omega arith in
+          let first : anyBelow (λ k. eqb (tier (suc k)) (tier r)) (suc (f .0) - 1) ≡ false =
+          rw (less, e) (any-none (λ k. eqb (tier (suc k)) (tier s)) (f .0) (f .3)) in
+          (r, omega arith, omega (arith, f .1), or-right (eqb (tier r) 0) _ (ap not first), same-stage stage C r s (eqb-false (tier s) 0 (c .0)) e)
+
+  pub kinds-enough : Enough M (count (standsFor tier) (M .students))
+  kinds-enough =
+      record {
+        within = λ stage C. (
+          ranked M (standsFor tier) stage,
+          rank-agree M wf (standsFor tier) stage C (stands stage C),
+          λ s l u. omega arith,
+          rank-few M wf (standsFor tier) stage C (stands stage C),
+        );
+      }
 
 -- ---- the tiers, from the best on
 

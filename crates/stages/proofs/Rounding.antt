@@ -1,35 +1,38 @@
 -- Turns, rounds and all rounds: what holds between turns, that the rounds come to an end, and what the stages are then.
-use Prim.Native.Nat.{ℕ, zero, suc, _+_, _-_, _*_, _≤_, _<_}
+use Prim.Native.Nat.{ℕ, zero, suc, _+_, _-_, _*_, _≤_, _<_, min}
 use mathlib.Core.Path.{_≡_, refl, sym, ap, _∙_}
 use mathlib.Core.Logic.{inl, inr, ⊎-elim}
 use mathlib.Core.Bool.{Bool, true, false, not, _&&_, _||_}
 use mathlib.Core.List.{List}
 use native.Mathlib.Omega.{arith}
+use native.Mathlib.Nat.{min-le-left, min-eq-left, min-eq-right}
 use lib.Dec.{ltb, eqb}
 use lib.ListN.{length, replicate, take, length-replicate, getD-replicate}
 use lib.Seq.{length-take-le, getD-take}
 use borrow.Author.Tests.{ltb-true, ltb-false, eqb-true, eq-eqb, not-true, not-false}
 use Rattle.base.specs.Lists.{one, total}
 use Rattle.base.specs.Bits.{member}
-use Rattle.base.proofs.Tests.{bool-cases, never, and-left, and-right, and-false, or-true, or-false, eq?, less?}
+use Rattle.base.proofs.Tests.{bool-cases, never, and-left, and-right, and-false, or-true, or-false, less?}
 use Rattle.base.proofs.Counting.{total-le, total-less, total-within}
 use Rattle.base.proofs.Members.{entry-past}
 use Rattle.lgs.specs.Market.{Market, Rivals, ConsistentStages}
 use Rattle.lgs.specs.Stages.{stageOf, FromOne, LeastStages, NoStages}
 use Rattle.lgs.proofs.Valid.{WellFormed}
-use Rattle.lgs.proofs.Stages.{outside, below-few, above-none}
+use Rattle.lgs.proofs.Stages.{outside, ranked, rank, below-few}
 use Rattle.tables.proofs.Laws.{member-zero}
-use Rattle.stages.specs.Raising.{Below, AgreesAt, Raised}
+use Rattle.stages.specs.Raising.{Below, Enough, AgreesAt, Raised}
 use Rattle.stages.specs.Rounds.{starting, turnOf, TooHigh, Going, Stepped, Rounded, Settled}
 use Rattle.stages.specs.declared.rounds.Progress.{Progress}
 
 -- where the first round starts
-abbrev pub unsettled : Progress
-unsettled = record { resting = 0; moving = true; high = false }
+abbrev pub unsettled : ℕ → Progress
+unsettled n = record { resting = 0; moving = true; high = false; limit = n }
 
--- after a turn in which students were raised, of n: `moved` has their workshops, `top` is the largest stage asked, and `resting` the workshops that agree
-abbrev pub after : ℕ → Progress → ℕ → ℕ → ℕ → Progress
-after n p moved top resting = record { resting = resting; moving = p .moving || not (eqb moved 0); high = ltb n top }
+-- after a turn in which students were raised: `moved` has their workshops, `top` is the largest stage asked, `kinds` how many there can be, and `resting`
+-- the workshops that agree
+abbrev pub after : Progress → ℕ → ℕ → ℕ → ℕ → Progress
+after p moved top kinds resting =
+    record { resting = resting; moving = p .moving || not (eqb moved 0); high = ltb (min (p .limit) kinds) top; limit = min (p .limit) kinds }
 
 -- ---- a workshop's turn is one of the round's, and the turn's workshop is that one
 module _ (m : ℕ) where
@@ -76,21 +79,30 @@ module _ (M : Market) where
           (less? (stageOf own s) (stageOf own′ s))
 
   -- the workshop's students are raised
-  module _ (w n : ℕ) (own own′ : List ℕ) (p : Progress) (moved top resting : ℕ) (size : M .students ≡ n) (G : Going M own p) (low : p .high ≡ false)
-      (R : Raised M w n own own′ moved top) (set : (x : ℕ) → member resting x ≡ (eqb x w || (member (p .resting) x && not (member moved x)))) where
-    raises-going : Going M own′ (after n p moved top resting)
+  module _ (w n : ℕ) (own own′ : List ℕ) (p : Progress) (moved top kinds resting : ℕ) (size : M .students ≡ n) (G : Going M own p) (low : p .high ≡ false)
+      (R : Raised M w n own own′ moved top) (E : Enough M kinds) (set : (x : ℕ) → member resting x ≡ (eqb x w || (member (p .resting) x && not (member moved x)))) where
+    -- the smaller of two numbers that are enough
+    both : Enough M (min (p .limit) kinds)
+    both =
+        ⊎-elim (λ (l : p .limit < kinds). rw (min-eq-left {n = p .limit} {m = kinds} (omega arith)) (G .limit))
+        (λ (l : kinds ≤ p .limit). rw (min-eq-right {n = kinds} {m = p .limit} l) E)
+        (less? (p .limit) kinds)
+
+    raises-going : Going M own′ (after p moved top kinds resting)
     raises-going =
         record {
           sized = R .sized;
           fromOne = λ s l u. omega (arith, G .fromOne s l u, R .grows s);
           below = R .below (G .below);
           within = λ h s.
-              let t : top ≤ n = ltb-false n top h in
-              omega (arith, R .within n t (λ s. omega (arith, G .within low s)) s);
+              let t : top ≤ min (p .limit) kinds = ltb-false (min (p .limit) kinds) top h in
+              R .within (M .students) (omega (arith, t, min-le-left (p .limit) kinds, G .few)) (G .within low) s;
           tall = λ h.
-              let t : n < top = ltb-true n top h in
+              let t : min (p .limit) kinds < top = ltb-true (min (p .limit) kinds) top h in
               let r : (s : ℕ) × (1 ≤ s) × (s ≤ n) × (stageOf own′ s ≡ top) = R .tall (omega arith) in
-              (r .0, r .1, omega (arith, r .2), omega (arith, r .3));
+              (min (p .limit) kinds, both, (r .0, r .1, omega (arith, r .2), omega (arith, r .3)));
+          limit = both;
+          few = omega (arith, min-le-left (p .limit) kinds, G .few);
           rest = λ v e.
               ⊎-elim (λ (q : eqb v w ≡ true). rw (eqb-true v w q) (R .agrees))
               (λ (q : (member (p .resting) v && not (member moved v)) ≡ true).
@@ -99,7 +111,7 @@ module _ (M : Market) where
               (or-true (eqb v w) _ (sym (set v) ∙ e));
         }
 
-    raises-stepped : Stepped M w own own′ p (after n p moved top resting)
+    raises-stepped : Stepped M w own own′ p (after p moved top kinds resting)
     raises-stepped =
         record {
           grows = R .grows;
@@ -118,7 +130,7 @@ module _ (M : Market) where
         or-last true = refl
         or-last false = refl
 
-    pub step-raises : Going M own′ (after n p moved top resting) × Stepped M w own own′ p (after n p moved top resting)
+    pub step-raises : Going M own′ (after p moved top kinds resting) × Stepped M w own own′ p (after p moved top kinds resting)
     step-raises = (raises-going, raises-stepped)
 
   -- ---- the turns of a round: those before turn i were taken
@@ -129,8 +141,8 @@ module _ (M : Market) where
     pub rested : p .moving ≡ false → p .high ≡ false → (v : ℕ) → 1 ≤ v → v ≤ M .workshops → turnOf (M .workshops) back v < i
         → member (p .resting) v ≡ true
 
-  pub rounding-none : (back : Bool) (own : List ℕ) (resting : ℕ) → Going M own (starting resting) → Rounding back own own 1 (starting resting)
-  rounding-none back own resting G =
+  pub rounding-none : (back : Bool) (own : List ℕ) (resting limit : ℕ) → Going M own (starting resting limit) → Rounding back own own 1 (starting resting limit)
+  rounding-none back own resting limit G =
       record {
         going = G;
         grows = λ s. omega arith;
@@ -171,8 +183,8 @@ module _ (M : Market) where
     pub going : Going M own p
     pub rested : p .moving ≡ false → p .high ≡ false → (v : ℕ) → 1 ≤ v → v ≤ M .workshops → member (p .resting) v ≡ true
 
-  pub settling-none : (own : List ℕ) → own ≡ replicate 512 1 → 1 ≤ M .students → M .students ≤ 512 → Settling own unsettled
-  settling-none own e some few =
+  pub settling-none : WellFormed M → (n : ℕ) → M .students ≡ n → (own : List ℕ) → own ≡ replicate 512 1 → 1 ≤ n → n ≤ 512 → Settling own (unsettled n)
+  settling-none wf n size own e some few =
       record {
         going = record {
           sized = ap length e ∙ length-replicate {A = ℕ} 512 1;
@@ -181,6 +193,12 @@ module _ (M : Market) where
           within = λ h s. omega (arith, small s);
           tall = λ h. never h refl;
           rest = λ v r. never r (member-zero v);
+          limit = record {
+            within = λ stage C.
+                let r = rank M wf stage C in
+                (ranked M (λ s. true) stage, r .0, r .1, λ s l u. omega (arith, r .2 s l u, size));
+          };
+          few = omega arith;
         };
         rested = λ m h. never refl m;
       }
@@ -197,7 +215,7 @@ module _ (M : Market) where
           (less? s 512)
 
   -- what a round starts from
-  pub going-again : (own : List ℕ) (p : Progress) → Going M own p → p .high ≡ false → Going M own (starting (p .resting))
+  pub going-again : (own : List ℕ) (p : Progress) → Going M own p → p .high ≡ false → Going M own (starting (p .resting) (p .limit))
   going-again own p G low =
       record {
         sized = G .sized;
@@ -206,6 +224,8 @@ module _ (M : Market) where
         within = λ h. G .within low;
         tall = λ h. never h refl;
         rest = G .rest;
+        limit = G .limit;
+        few = G .few;
       }
 
   pub settling-more : (own own′ : List ℕ) (q : Progress) → Rounded M own own′ q → Going M own′ q → Settling own′ q
@@ -295,9 +315,10 @@ module _ (M : Market) (wf : WellFormed M) (own : List ℕ) (few : M .students �
         least = least;
       }
 
-  pub settled-none : Settled M own false → NoStages M
-  settled-none S =
-      let size : length own ≡ 512 = S .sized in
-      let r : TooHigh M own = S .tall refl in
-      above-none M wf (take (M .students) own) (part-below M own few size (S .below)) (r .0) (r .1) (r .2)
-      (omega (arith, r .3, part-same M own few size (r .0) (r .1) (r .2)))
+-- who is above what is enough for any assignment is above one that agrees
+pub settled-none : (M : Market) (own : List ℕ) → Settled M own false → NoStages M
+settled-none M own S stage C =
+    let r : TooHigh M own = S .tall refl in
+    let t = r .1 .within stage C in
+    let s = r .2 in
+    omega (arith, S .below .least (t .0) (t .2) (t .1) (s .0) (s .1) (s .2), t .3 (s .0) (s .1) (s .2), s .3)

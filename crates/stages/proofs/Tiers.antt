@@ -3,14 +3,17 @@ use Prim.Native.Nat.{ℕ, _≤_, _<_}
 use mathlib.Core.Path.{_≡_}
 use mathlib.Core.Logic.{⊎-elim}
 use mathlib.Core.Bool.{true, false, cond}
+use mathlib.Core.List.{List}
 use native.Mathlib.Omega.{arith}
 use lib.Dec.{ltb}
 use borrow.Author.Tests.{eq-eqb, ne-eqb, lt-ltb, le-ltb}
 use Rattle.base.proofs.Tests.{bool-cases, eq?, less?, is-false, never}
 use Rattle.lgs.specs.Market.{Market, workshopOutside}
 use Rattle.lgs.specs.Stages.{matters}
+use Rattle.lgs.proofs.Valid.{WellFormed}
 use Rattle.lgs.proofs.Stages.{matters-true, matters-is}
-use Rattle.stages.specs.Raising.{reachOf, tierFor}
+use Rattle.format.specs.Engine.{marketIn}
+use Rattle.stages.specs.Raising.{Ready, reachOf, tierFor}
 
 module _ (M : Market) (w : ℕ) where
   -- a workshop without seats reaches nowhere
@@ -48,3 +51,12 @@ module _ (M : Market) (w : ℕ) where
     tier-most f =
         ⊎-elim (λ (b : matters M w s ≡ true). rw b (f (matters-true M w s b .1))) (λ (b : matters M w s ≡ false). rw b (omega arith))
         (bool-cases (matters M w s))
+
+-- the market of a case that is ready is well formed
+pub ready-wf : (case table : List ℕ) (n m : ℕ) → Ready case table n m → WellFormed (marketIn case)
+ready-wf case table n m r =
+    record {
+      student = λ s w p. let k = r .named s w p in (k .0 .0, omega (arith, k .0 .1, r .students));
+      workshop = λ s w p. let k = r .named s w p in (k .1 .0, omega (arith, k .1 .1, r .workshops));
+      tier = r .studentTier;
+    }

@@ -51,6 +51,9 @@ module _ (case : List ℕ) (e : caseRefusal case ≡ none) where
       let range = tiers-range case i (there .0) (none-fails (badRange (rows case)) (rowCount case) (sound .range) i (there .0)) (says .0) .1 in
       rw (pair-at case c s w p .workshopTier) range
 
+  wf : WellFormed (marketIn case)
+  wf = case-wf case (table-none (caseCauses case) e)
+
   pub ready : (table : List ℕ) (n m : ℕ) → n ≡ marketIn case .students → m ≡ marketIn case .workshops → Made case table → Ready case table n m
   ready table n m a b made =
       rw (a, b)
@@ -64,13 +67,11 @@ module _ (case : List ℕ) (e : caseRefusal case ≡ none) where
         workshop = workshop-at case (clean case _ _ sound);
         pair = pair-at case (clean case _ _ sound);
         named = named-at case (clean case _ _ sound);
+        studentTier = wf .tier;
         tier = tier-range;
       })
 
   -- ---- after them
-
-  wf : WellFormed (marketIn case)
-  wf = case-wf case (table-none (caseCauses case) e)
 
   pub worked : (n : ℕ) (own stages : List ℕ) → n ≡ marketIn case .students → n ≤ length stages → Settled (marketIn case) own true
       → (Staged n ≡ stagesAnswerFor (workOut case (length stages))) × (withHead (take n own) stages ≡ stagesAfter (workOut case (length stages)) stages)
@@ -86,7 +87,7 @@ module _ (case : List ℕ) (e : caseRefusal case ≡ none) where
   unfolding stagesAnswerFor stagesAfter
   unworked n own stages a l S =
       let M = marketIn case in
-      let out = out-none case (length stages) e (omega (arith, a, l)) (settled-none M wf own (counts .0 .1) S) in
+      let out = out-none case (length stages) e (omega (arith, a, l)) (settled-none M own S) in
       (rw out, rw out)
 
 -- ---- the answer

@@ -1,11 +1,12 @@
 -- One workshop: what it asks of the students who matter to it, and what raising them to that leaves.
-use Prim.Native.Nat.{ℕ, suc, _+_, _≤_, _<_, max}
+use Prim.Native.Nat.{ℕ, suc, _+_, _-_, _≤_, _<_, max}
 use mathlib.Core.Path.{_≡_}
 use mathlib.Core.Logic.{_⊎_}
-use mathlib.Core.Bool.{true, cond}
+use mathlib.Core.Bool.{Bool, true, not, cond, _||_}
 use mathlib.Core.List.{List}
 use lib.Dec.{eqb}
 use lib.ListN.{length, getD}
+use Rattle.base.specs.Below.{anyBelow}
 use Rattle.base.specs.Bits.{member}
 use Rattle.lgs.specs.Market.{Market, Rivals, ConsistentStages, workshopOutside}
 use Rattle.lgs.specs.Stages.{stageOf, matters, FromOne}
@@ -24,6 +25,7 @@ pub record Ready (case table : List ℕ) (n m : ℕ) : Type 0 where
   pub workshop : (w : ℕ) → 1 ≤ w → w ≤ m → WorkshopAt case n w
   pub pair : (s w : ℕ) → marketIn case .paired s w ≡ true → PairAt case s w
   pub named : (s w : ℕ) → marketIn case .paired s w ≡ true → ((1 ≤ s) × (s ≤ n)) × ((1 ≤ w) × (w ≤ m))
+  pub studentTier : (s w : ℕ) → marketIn case .paired s w ≡ true → 1 ≤ marketIn case .studentTier s w
   pub tier : (s w : ℕ) → marketIn case .paired s w ≡ true → (1 ≤ marketIn case .workshopTier w s) × (marketIn case .workshopTier w s ≤ 513)
 
 module _ (M : Market) where
@@ -39,6 +41,11 @@ module _ (M : Market) where
   pub record Below (own : List ℕ) : Type 0 where
     pub least : (stage : ℕ → ℕ) → FromOne M stage → ConsistentStages M stage → (s : ℕ) → 1 ≤ s → s ≤ M .students → stageOf own s ≤ stage s
 
+  -- stages that agree can do with the numbers 1 to k
+  pub record Enough (k : ℕ) : Type 0 where
+    pub within : (stage : ℕ → ℕ) → ConsistentStages M stage
+        → (stage′ : ℕ → ℕ) × ConsistentStages M stage′ × FromOne M stage′ × ((s : ℕ) → 1 ≤ s → s ≤ M .students → stage′ s ≤ k)
+
   -- the stages agree at workshop w
   pub record AgreesAt (own : List ℕ) (w : ℕ) : Type 0 where
     pub earlier : (s t : ℕ) → Rivals M w s t → M .workshopTier w s < M .workshopTier w t → stageOf own s < stageOf own t
@@ -51,6 +58,10 @@ pub record Noted (T x : ℕ → ℕ) (n : ℕ) (tiers tops : List ℕ) : Type 0 
   pub tier : (k : ℕ) → k < n → getD tiers k 0 ≡ T (suc k)
   pub high : (k : ℕ) → k < n → x (suc k) ≤ getD tops (T (suc k)) 0
   pub some : (g : ℕ) → 0 < getD tops g 0 → (k : ℕ) × (k < n) × (T (suc k) ≡ g) × (x (suc k) ≡ getD tops g 0)
+
+-- the student stands for her tier (T): she is in none, or no earlier student is in it
+abbrev pub standsFor : (ℕ → ℕ) → ℕ → Bool
+standsFor T s = eqb (T s) 0 || not (anyBelow (λ k. eqb (T (suc k)) (T s)) (s - 1))
 
 -- the list has an entry for each tier, none above 512
 pub record Capped (tops : List ℕ) : Type 0 where

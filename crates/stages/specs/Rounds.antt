@@ -9,21 +9,21 @@ use Rattle.base.specs.Lists.{total}
 use Rattle.base.specs.Bits.{member}
 use Rattle.lgs.specs.Market.{Market, ConsistentStages}
 use Rattle.lgs.specs.Stages.{stageOf, FromOne}
-use Rattle.stages.specs.Raising.{Below, AgreesAt}
+use Rattle.stages.specs.Raising.{Below, Enough, AgreesAt}
 use Rattle.stages.specs.declared.rounds.Progress.{Progress}
 
 -- a round's beginning
-abbrev pub starting : ℕ → Progress
-starting resting = record { resting = resting; moving = false; high = false }
+abbrev pub starting : ℕ → ℕ → Progress
+starting resting limit = record { resting = resting; moving = false; high = false; limit = limit }
 
 -- the workshop, of m, that has turn i of a round, and also the turn of workshop i
 abbrev pub turnOf : ℕ → Bool → ℕ → ℕ
 turnOf m back i = cond back (m - i + 1) i
 
 module _ (M : Market) where
-  -- somebody has a stage above the number of students
+  -- somebody has a stage above what stages that agree can do with
   abbrev pub TooHigh : List ℕ → Type 0
-  TooHigh own = (s : ℕ) × (1 ≤ s) × (s ≤ M .students) × (M .students < stageOf own s)
+  TooHigh own = (k : ℕ) × Enough M k × ((s : ℕ) × (1 ≤ s) × (s ≤ M .students) × (k < stageOf own s))
 
   -- between turns: nobody's stage is above that of any assignment that agrees, and the resting workshops agree
   pub record Going (own : List ℕ) (p : Progress) : Type 0 where
@@ -33,6 +33,8 @@ module _ (M : Market) where
     pub within : p .high ≡ false → (s : ℕ) → stageOf own s ≤ M .students
     pub tall : p .high ≡ true → TooHigh own
     pub rest : (v : ℕ) → member (p .resting) v ≡ true → AgreesAt M own v
+    pub limit : Enough M (p .limit)
+    pub few : p .limit ≤ M .students
 
   -- one turn, of workshop w
   pub record Stepped (w : ℕ) (old new : List ℕ) (p q : Progress) : Type 0 where

@@ -4,10 +4,11 @@ ghost use mathlib.Core.Bool.{cond};
 ghost use Prim.Native.Nat.{ℕ, _≤_, _<_, max};
 ghost use lib.Dec.{ltb};
 ghost use lib.ListN.{length, getD};
+ghost use Rattle.base.specs.Lists.{count};
 ghost use Rattle.lgs.specs.Stages.{stageOf};
 ghost use Rattle.format.specs.Engine.{marketIn};
 ghost use Rattle.lookup.specs.Clean.{WorkshopAt};
-ghost use Rattle.stages.specs.Raising.{Ready, tierFor, reachOf, Capped, Noted, Climbed, Lifted, Fit, Raised, climbedOf};
+ghost use Rattle.stages.specs.Raising.{Ready, tierFor, reachOf, standsFor, Enough, Capped, Noted, Climbed, Lifted, Fit, Raised, climbedOf};
 
 // The larger of two stages.
 fn larger(a: u16, b: u16) -> u16
@@ -56,7 +57,7 @@ fn tier_of(
     0
 }
 
-// The tier of each student, and the largest stage in each tier.
+// The tier of each student, and the largest stage in each tier. How many tiers there are, and students in none.
 fn note_tops(
     case: &[u8],
     table: &[u64],
@@ -66,21 +67,27 @@ fn note_tops(
     own: &[u16],
     tiers: &mut [u16],
     tops: &mut [u16],
-)
+) -> usize
     requires { ⌜ Ready (now case) (now table) students workshops ⌝ }
     requires { ⌜ (1 ≤ w) × (w ≤ workshops) ⌝ }
-    requires { ⌜ (length (now own) ≡ 512) × (length (now tiers) ≡ 512) × (length (now tops) ≡ 514) ⌝ }
+    requires { ⌜ (length (now tiers) ≡ 512) × (length (now tops) ≡ 514) ⌝ }
+    requires { ⌜ Fit (marketIn (now case)) (now own) ⌝ }
+    ensures { λ r. ⌜ r ≡ count (standsFor (tierFor (marketIn (now (case .entry))) w)) students ⌝ }
     ensures { λ _. ⌜ Noted (tierFor (marketIn (now (case .entry))) w) (stageOf (now (own .entry))) students (now (tiers .exit)) (now (tops .exit)) ⌝ }
 {
     let reach = reach_of(case, students, w);
     records::clear(&mut *tops);
+    let mut kinds = 0;
     let mut s = 0;
     while s < students {
         let tier = tier_of(case, table, students, workshops, w, reach, s + 1);
+        let top = tops[tier];
         tiers[s] = tier as u16;
-        tops[tier] = larger(tops[tier], own[s]);
+        tops[tier] = larger(top, own[s]);
+        kinds += records::one_if((tier == 0) | (top == 0));
         s += 1;
     }
+    kinds
 }
 
 // The stage of a tier whose students have at most `top`, where better tiers have at most `best`: an empty tier has 0.
@@ -147,10 +154,11 @@ fn lift(
     moved
 }
 
-// The workshops of those raised, and the largest stage of those who matter to the workshop.
+// The workshops of those raised, the largest stage of those who matter to the workshop, and how many stages there can be in all.
 pub struct Upshot {
     pub moved: u64,
     pub top: u16,
+    pub kinds: usize,
 }
 
 // The students are raised to what workshop w asks. `tiers` and `tops` are room to work in.
@@ -169,8 +177,9 @@ pub fn raise(
     requires { ⌜ (length (now tiers) ≡ 512) × (length (now tops) ≡ 514) ⌝ }
     requires { ⌜ Fit (marketIn (now case)) (now own) ⌝ }
     ensures { λ r. ⌜ Raised (marketIn (now (case .entry))) w students (now (own .entry)) (now (own .exit)) (r .moved) (r .top) ⌝ }
+    ensures { λ r. ⌜ Enough (marketIn (now (case .entry))) (r .kinds) ⌝ }
 {
-    note_tops(
+    let kinds = note_tops(
         case,
         table,
         students,
@@ -190,5 +199,5 @@ pub fn raise(
         &tops[..],
         &mut *own,
     );
-    Upshot { moved, top }
+    Upshot { moved, top, kinds }
 }

@@ -2,17 +2,25 @@
 use super::raising::raise;
 ghost use mathlib.Core.Path.{_≡_};
 ghost use mathlib.Core.Bool.{true, false};
-ghost use Prim.Native.Nat.{_≤_};
+ghost use Prim.Native.Nat.{_≤_, min};
 ghost use lib.ListN.{length, replicate};
 ghost use Rattle.format.specs.Engine.{marketIn};
 ghost use Rattle.stages.specs.Raising.{Ready};
 ghost use Rattle.stages.specs.Rounds.{starting, turnOf, Going, Stepped, Rounded, Settled};
 
-// Where a round stands: the workshops whose students agree, whether somebody was raised in it, and whether somebody is above the number of students.
+// Where a round stands: the workshops whose students agree, whether somebody was raised in it, how many stages there can be at most, and whether somebody
+// is above that.
 pub struct Progress {
     pub resting: u64,
     pub moving: bool,
     pub high: bool,
+    pub limit: usize,
+}
+
+fn smaller(a: usize, b: usize) -> usize
+    ensures { λ r. ⌜ r ≡ min a b ⌝ }
+{
+    if a < b { a } else { b }
 }
 
 // Workshop w's turn: nothing is done where its students agree already.
@@ -47,10 +55,12 @@ fn step(
         &mut *tiers,
         &mut *tops,
     );
+    let limit = smaller(p.limit, r.kinds);
     Progress {
         resting: bits::with_bit(bits::minus(p.resting, r.moved), w),
         moving: p.moving | (r.moved != 0),
-        high: students < r.top as usize,
+        high: limit < r.top as usize,
+        limit,
     }
 }
 
@@ -72,11 +82,12 @@ fn round(
     tiers: &mut [u16],
     tops: &mut [u16],
     resting: u64,
+    limit: usize,
     back: bool,
 ) -> Progress
     requires { ⌜ Ready (now case) (now table) students workshops ⌝ }
     requires { ⌜ (length (now tiers) ≡ 512) × (length (now tops) ≡ 514) ⌝ }
-    requires { ⌜ Going (marketIn (now case)) (now own) (starting resting) ⌝ }
+    requires { ⌜ Going (marketIn (now case)) (now own) (starting resting limit) ⌝ }
     ensures { λ r. ⌜ Going (marketIn (now (case .entry))) (now (own .exit)) r ⌝ }
     ensures { λ r. ⌜ Rounded (marketIn (now (case .entry))) (now (own .entry)) (now (own .exit)) r ⌝ }
 {
@@ -84,6 +95,7 @@ fn round(
         resting,
         moving: false,
         high: false,
+        limit,
     };
     let mut i = 1;
     while i <= workshops {
@@ -104,7 +116,7 @@ fn round(
     p
 }
 
-// Rounds until nobody is raised, or somebody is above the number of students: then no stages agree.
+// Rounds until nobody is raised, or somebody is above the number of stages that there can be: then no stages agree.
 pub fn settle(
     case: &[u8],
     table: &[u64],
@@ -123,6 +135,7 @@ pub fn settle(
         resting: 0,
         moving: true,
         high: false,
+        limit: students,
     };
     let mut back = false;
     while p.moving & !p.high {
@@ -135,6 +148,7 @@ pub fn settle(
             &mut *tiers,
             &mut *tops,
             p.resting,
+            p.limit,
             back,
         );
         p = next;

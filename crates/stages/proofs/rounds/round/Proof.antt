@@ -10,11 +10,11 @@ use Rattle.stages.proofs.rounds.round.Statement.{statement}
 use Rattle.stages.proofs.rounds.round.Tie as tie
 
 abbrev Inv-loop : tie.InvT-loop
-Inv-loop case table students workshops own₀ tiers₀ tops₀ resting back p₀ i₀ own tiers tops p i =
+Inv-loop case table students workshops own₀ tiers₀ tops₀ resting limit back p₀ i₀ own tiers tops p i =
     (1 ≤ i) × (i ≤ workshops + 1) × (length tiers ≡ 512) × (length tops ≡ 514) × Rounding (marketIn case) back own₀ own i p
 
 abbrev μ-loop : tie.MeasureT-loop
-μ-loop case table students workshops own₀ tiers₀ tops₀ resting back p₀ i₀ own tiers tops p i = workshops + 1 - i
+μ-loop case table students workshops own₀ tiers₀ tops₀ resting limit back p₀ i₀ own tiers tops p i = workshops + 1 - i
 
 loop-holds : tie.Need-loop-holds Inv-loop μ-loop
 loop-holds c =
@@ -24,7 +24,7 @@ loop-holds c =
       omega arith,
       start .pre .1 .0 .0,
       start .pre .1 .0 .1,
-      rounding-none (marketIn (a .case .now)) (a .back) (a .own .now) (a .resting) (start .pre .1 .1),
+      rounding-none (marketIn (a .case .now)) (a .back) (a .own .now) (a .resting) (a .limit) (start .pre .1 .1),
     )
 
 turn-of-requires : tie.Need-turn-of-requires Inv-loop μ-loop
@@ -40,20 +40,23 @@ step-requires c κs =
     (start .pre .0, ((rw (turn .ensures) l, rw (turn .ensures) u), ((here .inv .2, here .inv .3), here .inv .4 .going)))
 
 add-i : tie.Need-add-i Inv-loop μ-loop
-add-i c = let start = c .before .before .before .before .before .before .before .before .before .before .before .before .before .before .before .before .before .before in omega (arith, start .pre .0 .manyWorkshops)
+add-i c = let start = c .before .before .before .before .before .before .before .before .before .before .before .before .before .before .before
+    .before .before .before in omega (arith, start .pre .0 .manyWorkshops)
 
 loop-less : tie.Need-loop-less Inv-loop μ-loop
 loop-less c = omega arith
 
 loop-again : tie.Need-loop-again Inv-loop μ-loop
 loop-again c =
-    let start = c .before .before .before .before .before .before .before .before .before .before .before .before .before .before .before .before .before .before in
+    let start = c .before .before .before .before .before .before .before .before .before .before .before .before .before .before .before .before
+    .before .before in
     let a = start .args in
     let here = c .before .before .before .before .before .before .before .before .before .before .before .before .loop in
     let done = c .before .before .before .before .before .before .step in
     let M = marketIn (a .case .now) in
     let e : c .before .before .before .before .before .before .before .before .before .before .turn-of .result ≡ turnOf (M .workshops) (a .back) (here .i) =
-    c .before .before .before .before .before .before .before .before .before .before .turn-of .ensures ∙ ap (λ m. turnOf m (a .back) (here .i)) (sym (start .pre .0 .workshops)) in (
+    c .before .before .before .before .before .before .before .before .before .before .turn-of .ensures ∙ ap (λ m. turnOf m (a .back) (here .i)) (sym
+    (start .pre .0 .workshops)) in (
       omega arith,
       omega (arith, c .before .before .before .before .before .before .before .before .before .before .before .loop-test .taken),
       done .kept .1 .1 .1 .1 .1 .1 .0 ∙ here .inv .2,

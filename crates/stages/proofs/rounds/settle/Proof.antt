@@ -6,6 +6,7 @@ use borrow.Author.Tests.{not-true}
 use lib.ListN.{length, length-replicate}
 use Rattle.base.proofs.Tests.{and-right}
 use Rattle.format.specs.Engine.{marketIn}
+use Rattle.stages.proofs.Tiers.{ready-wf}
 use Rattle.stages.proofs.Rounding.{Settling, settling-none, going-again, settling-more, settled, left, left-less}
 use Rattle.stages.proofs.rounds.settle.Statement.{statement}
 use Rattle.stages.proofs.rounds.settle.Tie as tie
@@ -24,8 +25,8 @@ loop-holds c =
     let r = start .pre .0 in (
       start .pre .1 .0 .0,
       start .pre .1 .0 .1,
-      settling-none (marketIn (a .case .now)) (a .own .now) (start .pre .1 .1) (omega (arith, r .students, r .someStudents))
-          (omega (arith, r .students, r .manyStudents)),
+      settling-none (marketIn (a .case .now)) (ready-wf (a .case .now) (a .table .now) (a .students) (a .workshops) r) (a .students) (r .students)
+          (a .own .now) (start .pre .1 .1) (r .someStudents) (r .manyStudents),
     )
 
 round-requires : tie.Need-round-requires Inv-loop μ-loop

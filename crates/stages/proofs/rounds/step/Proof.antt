@@ -38,15 +38,20 @@ raise-requires c κs =
       ),
     )
 
+smaller-requires : tie.Need-smaller-requires
+smaller-requires c κs = search needs
+
 minus-requires : tie.Need-minus-requires
 minus-requires c κs = search needs
 
 with-bit-requires : tie.Need-with-bit-requires
-with-bit-requires c κs = let start = c .before .before .before .before .before .before .before .before .before .before .before .before .before .before
-    .before .before .before .before .before in omega (arith, start .pre .0 .manyWorkshops, start .pre .1 .0)
+with-bit-requires c κs =
+    let start = c .before .before .before .before .before .before .before .before .before .before .before .before .before .before .before .before
+    .before .before .before .before in
+    omega (arith, start .pre .0 .manyWorkshops, start .pre .1 .0)
 
-cast-t21 : tie.Need-cast-t21
-cast-t21 c = search needs
+cast-t22 : tie.Need-cast-t22
+cast-t22 c = search needs
 
 same-length : tie.Need-same-length
 same-length c = search needs
@@ -60,15 +65,16 @@ same-length-3 c = search needs
 returns-2 : tie.Need-returns-2
 returns-2 c =
     let start = c .before .before .before .before .before .before .before .before .before .before .before .before .before .before .before .before
-    .before .before .before .before .before .before .before in
+    .before .before .before .before .before .before .before .before in
     let a = start .args in
     let low = or-false (a .p .high) _ (c .before .before .before .before .before .before .before .before .before .before .before .before .before
-    .before .before .if1 .left) .0 in
-    let raised = c .before .before .before .before .before .before .before .before .before .before .before .raise in
+    .before .before .before .if1 .left) .0 in
+    let raised = c .before .before .before .before .before .before .before .before .before .before .before .before .raise in
     let joined = c .before .before .before .with-bit in
-    step-raises (marketIn (a .case .now)) (a .w) (a .students) (a .own .now) _ (a .p) (raised .result .moved) (raised .result .top)
-    (c .before .before .before .with-bit .result) (start .pre .0 .students) (start .pre .1 .1 .1) low (raised .ensures)
-    (λ x. joined .ensures .1 x ∙ ap (λ b. eqb x (a .w) || b) (c .before .before .before .before .minus .ensures x))
+    rw (c .before .before .before .before .before .smaller .ensures)
+    (step-raises (marketIn (a .case .now)) (a .w) (a .students) (a .own .now) _ (a .p) (raised .result .moved) (raised .result .top)
+    (raised .result .kinds) (joined .result) (start .pre .0 .students) (start .pre .1 .1 .1) low (raised .ensures .0) (raised .ensures .1)
+    (λ x. joined .ensures .1 x ∙ ap (λ b. eqb x (a .w) || b) (c .before .before .before .before .minus .ensures x)))
 
 pub step-spec : {M : Type 1} → statement M
 step-spec =
@@ -77,9 +83,10 @@ step-spec =
     has-bit-requires
     returns
     raise-requires
+    smaller-requires
     minus-requires
     with-bit-requires
-    cast-t21
+    cast-t22
     same-length
     same-length-2
     same-length-3
