@@ -141,8 +141,8 @@ module _ (M : Market) where
     pub rested : p .moving ≡ false → p .high ≡ false → (v : ℕ) → 1 ≤ v → v ≤ M .workshops → turnOf (M .workshops) back v < i
         → member (p .resting) v ≡ true
 
-  pub rounding-none : (back : Bool) (own : List ℕ) (resting limit : ℕ) → Going M own (starting resting limit) → Rounding back own own 1 (starting resting limit)
-  rounding-none back own resting limit G =
+  pub rounding-none : (back : Bool) (own : List ℕ) (last : Progress) → Going M own (starting last) → Rounding back own own 1 (starting last)
+  rounding-none back own last G =
       record {
         going = G;
         grows = λ s. omega arith;
@@ -215,7 +215,7 @@ module _ (M : Market) where
           (less? s 512)
 
   -- what a round starts from
-  pub going-again : (own : List ℕ) (p : Progress) → Going M own p → p .high ≡ false → Going M own (starting (p .resting) (p .limit))
+  pub going-again : (own : List ℕ) (p : Progress) → Going M own p → p .high ≡ false → Going M own (starting p)
   going-again own p G low =
       record {
         sized = G .sized;

@@ -13,8 +13,8 @@ use Rattle.stages.specs.Raising.{Below, Enough, AgreesAt}
 use Rattle.stages.specs.declared.rounds.Progress.{Progress}
 
 -- a round's beginning
-abbrev pub starting : ℕ → ℕ → Progress
-starting resting limit = record { resting = resting; moving = false; high = false; limit = limit }
+abbrev pub starting : Progress → Progress
+starting last = record { resting = last .resting; moving = false; high = false; limit = last .limit }
 
 -- the workshop, of m, that has turn i of a round, and also the turn of workshop i
 abbrev pub turnOf : ℕ → Bool → ℕ → ℕ

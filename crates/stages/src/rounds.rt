@@ -72,6 +72,18 @@ fn turn_of(workshops: usize, back: bool, i: usize) -> usize
     if back { workshops - i + 1 } else { i }
 }
 
+// Where the next round begins.
+fn again(p: Progress) -> Progress
+    ensures { λ r. ⌜ r ≡ starting p ⌝ }
+{
+    Progress {
+        resting: p.resting,
+        moving: false,
+        high: false,
+        limit: p.limit,
+    }
+}
+
 // A round: every workshop has its turn.
 fn round(
     case: &[u8],
@@ -81,22 +93,16 @@ fn round(
     own: &mut [u16],
     tiers: &mut [u16],
     tops: &mut [u16],
-    resting: u64,
-    limit: usize,
+    last: Progress,
     back: bool,
 ) -> Progress
     requires { ⌜ Ready (now case) (now table) students workshops ⌝ }
     requires { ⌜ (length (now tiers) ≡ 512) × (length (now tops) ≡ 514) ⌝ }
-    requires { ⌜ Going (marketIn (now case)) (now own) (starting resting limit) ⌝ }
+    requires { ⌜ Going (marketIn (now case)) (now own) (starting last) ⌝ }
     ensures { λ r. ⌜ Going (marketIn (now (case .entry))) (now (own .exit)) r ⌝ }
     ensures { λ r. ⌜ Rounded (marketIn (now (case .entry))) (now (own .entry)) (now (own .exit)) r ⌝ }
 {
-    let mut p = Progress {
-        resting,
-        moving: false,
-        high: false,
-        limit,
-    };
+    let mut p = again(last);
     let mut i = 1;
     while i <= workshops {
         let next = step(
@@ -147,8 +153,7 @@ pub fn settle(
             &mut *own,
             &mut *tiers,
             &mut *tops,
-            p.resting,
-            p.limit,
+            p,
             back,
         );
         p = next;

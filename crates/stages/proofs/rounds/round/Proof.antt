@@ -10,21 +10,24 @@ use Rattle.stages.proofs.rounds.round.Statement.{statement}
 use Rattle.stages.proofs.rounds.round.Tie as tie
 
 abbrev Inv-loop : tie.InvT-loop
-Inv-loop case table students workshops own₀ tiers₀ tops₀ resting limit back p₀ i₀ own tiers tops p i =
+Inv-loop case table students workshops own₀ tiers₀ tops₀ back p₀ i₀ own tiers tops p i =
     (1 ≤ i) × (i ≤ workshops + 1) × (length tiers ≡ 512) × (length tops ≡ 514) × Rounding (marketIn case) back own₀ own i p
 
 abbrev μ-loop : tie.MeasureT-loop
-μ-loop case table students workshops own₀ tiers₀ tops₀ resting limit back p₀ i₀ own tiers tops p i = workshops + 1 - i
+μ-loop case table students workshops own₀ tiers₀ tops₀ back p₀ i₀ own tiers tops p i = workshops + 1 - i
+
+again-requires : tie.Need-again-requires Inv-loop μ-loop
+again-requires c κs = tt
 
 loop-holds : tie.Need-loop-holds Inv-loop μ-loop
 loop-holds c =
-    let start = c .before .before .before .before .before in
+    let start = c .before .before .before .before .before .before in
     let a = start .args in (
       omega arith,
       omega arith,
       start .pre .1 .0 .0,
       start .pre .1 .0 .1,
-      rounding-none (marketIn (a .case .now)) (a .back) (a .own .now) (a .resting) (a .limit) (start .pre .1 .1),
+      rw (c .again .ensures) (rounding-none (marketIn (a .case .now)) (a .back) (a .own .now) (a .last) (start .pre .1 .1)),
     )
 
 turn-of-requires : tie.Need-turn-of-requires Inv-loop μ-loop
@@ -32,7 +35,7 @@ turn-of-requires c κs = (c .before .loop .inv .0, omega arith)
 
 step-requires : tie.Need-step-requires Inv-loop μ-loop
 step-requires c κs =
-    let start = c .before .before .before .before .before .before .before .before .before .before .before in
+    let start = c .before .before .before .before .before .before .before .before .before .before .before .before in
     let here = c .before .before .before .before .before .loop in
     let turn = c .before .before .before .turn-of in
     let l = turn-from (start .args .workshops) (start .args .back) (here .i) (here .inv .0) in
@@ -41,7 +44,7 @@ step-requires c κs =
 
 add-i : tie.Need-add-i Inv-loop μ-loop
 add-i c = let start = c .before .before .before .before .before .before .before .before .before .before .before .before .before .before .before
-    .before .before .before in omega (arith, start .pre .0 .manyWorkshops)
+    .before .before .before .before in omega (arith, start .pre .0 .manyWorkshops)
 
 loop-less : tie.Need-loop-less Inv-loop μ-loop
 loop-less c = omega arith
@@ -49,7 +52,7 @@ loop-less c = omega arith
 loop-again : tie.Need-loop-again Inv-loop μ-loop
 loop-again c =
     let start = c .before .before .before .before .before .before .before .before .before .before .before .before .before .before .before .before
-    .before .before in
+    .before .before .before in
     let a = start .args in
     let here = c .before .before .before .before .before .before .before .before .before .before .before .before .loop in
     let done = c .before .before .before .before .before .before .step in
@@ -66,17 +69,18 @@ loop-again c =
     )
 
 same-length : tie.Need-same-length Inv-loop μ-loop
-same-length c = let start = c .before .before .before .before .before .before .before in c .before .loop .inv .4 .going .sized ∙ sym (start .pre .1 .1 .sized)
+same-length c = let start = c .before .before .before .before .before .before .before .before in c .before .loop .inv .4 .going .sized ∙ sym
+    (start .pre .1 .1 .sized)
 
 same-length-2 : tie.Need-same-length-2 Inv-loop μ-loop
-same-length-2 c = let start = c .before .before .before .before .before .before .before in c .before .loop .inv .2 ∙ sym (start .pre .1 .0 .0)
+same-length-2 c = let start = c .before .before .before .before .before .before .before .before in c .before .loop .inv .2 ∙ sym (start .pre .1 .0 .0)
 
 same-length-3 : tie.Need-same-length-3 Inv-loop μ-loop
-same-length-3 c = let start = c .before .before .before .before .before .before .before in c .before .loop .inv .3 ∙ sym (start .pre .1 .0 .1)
+same-length-3 c = let start = c .before .before .before .before .before .before .before .before in c .before .loop .inv .3 ∙ sym (start .pre .1 .0 .1)
 
 returns : tie.Need-returns Inv-loop μ-loop
 returns c =
-    let start = c .before .before .before .before .before .before .before in
+    let start = c .before .before .before .before .before .before .before .before in
     let a = start .args in
     let here = c .before .loop in
     rounded (marketIn (a .case .now)) (a .back) (a .own .now) (here .own) (here .i) (here .p) (here .inv .4)
@@ -88,6 +92,7 @@ round-spec =
     (tie.spec
     Inv-loop
     μ-loop
+    again-requires
     loop-holds
     turn-of-requires
     step-requires
