@@ -80,7 +80,8 @@ module _ (M : Market) where
 
   -- the workshop's students are raised
   module _ (w n : ℕ) (own own′ : List ℕ) (p : Progress) (moved top kinds resting : ℕ) (size : M .students ≡ n) (G : Going M own p) (low : p .high ≡ false)
-      (R : Raised M w n own own′ moved top) (E : Enough M kinds) (set : (x : ℕ) → member resting x ≡ (eqb x w || (member (p .resting) x && not (member moved x)))) where
+      (R : Raised M w n own own′ moved top) (E : Enough M kinds)
+      (set : (x : ℕ) → member resting x ≡ (eqb x w || (member (p .resting) x && not (member moved x)))) where
     -- the smaller of two numbers that are enough
     both : Enough M (min (p .limit) kinds)
     both =
@@ -176,7 +177,8 @@ module _ (M : Market) where
   pub rounded : (back : Bool) (own₀ own : List ℕ) (i : ℕ) (p : Progress) → Rounding back own₀ own i p → M .workshops < i
       → Going M own p × Rounded M own₀ own p
   rounded back own₀ own i p I all =
-      (I .going, record { grows = I .grows; moving = I .moving; rested = λ m h v l u. I .rested m h v l u (omega (arith, all, turn-to (M .workshops) back v l u)) })
+      let last = turn-to (M .workshops) back in
+      (I .going, record { grows = I .grows; moving = I .moving; rested = λ m h v l u. I .rested m h v l u (omega (arith, all, last v l u)) })
 
   -- ---- the rounds
   pub record Settling (own : List ℕ) (p : Progress) : Type 0 where

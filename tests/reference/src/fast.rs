@@ -205,21 +205,8 @@ impl Fast {
         let mut last = 0;
         for record in records {
             let fields = CaseFields::of(record);
-            let [student, workshop, student_group, workshop_group] = fields.all();
-            let key = u32::from(student) << 16 | u32::from(workshop);
-            // Number 0 wraps to a number that is too high.
-            let s = usize::from(student.wrapping_sub(1));
-            let w = usize::from(workshop.wrapping_sub(1));
-            // One branch for all causes.
-            let bad = !fields.is_pair()
-                | (key <= last)
-                | (s >= students)
-                | (w >= workshops)
-                | !(1..=MAX_STUDENT_GROUP).contains(&student_group)
-                | !(1..=MAX_WORKSHOP_GROUP).contains(&workshop_group);
-            if bad {
-                return None;
-            }
+            let [_, _, student_group, workshop_group] = fields.all();
+            let (key, s, w) = fields.pair_after(last, students, workshops)?;
             last = key;
             let cell = &mut self.cells[s * workshops + w];
             cell.student_group = student_group;
@@ -534,6 +521,30 @@ impl CaseFields {
     /// A well-formed record of kind 3.
     pub(crate) fn is_pair(self) -> bool {
         (self.low as u16 == 3) & (self.high >> 16 == 0)
+    }
+
+    /// A good pair that comes after the one with the key `last`: its own key, and its student and
+    /// workshop from 0.
+    #[inline(always)]
+    pub(crate) fn pair_after(
+        self,
+        last: u32,
+        students: usize,
+        workshops: usize,
+    ) -> Option<(u32, usize, usize)> {
+        let [student, workshop, student_group, workshop_group] = self.all();
+        let key = u32::from(student) << 16 | u32::from(workshop);
+        // Number 0 wraps to a number that is too high.
+        let s = usize::from(student.wrapping_sub(1));
+        let w = usize::from(workshop.wrapping_sub(1));
+        // One branch for all causes.
+        let bad = !self.is_pair()
+            | (key <= last)
+            | (s >= students)
+            | (w >= workshops)
+            | !(1..=MAX_STUDENT_GROUP).contains(&student_group)
+            | !(1..=MAX_WORKSHOP_GROUP).contains(&workshop_group);
+        (!bad).then_some((key, s, w))
     }
 
     pub(crate) fn in_range(self) -> bool {

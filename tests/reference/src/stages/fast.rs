@@ -148,21 +148,8 @@ impl Fast {
         let mut last = 0;
         for record in records {
             let fields = CaseFields::of(record);
-            let [student, workshop, student_group, group] = fields.all();
-            let key = u32::from(student) << 16 | u32::from(workshop);
-            // Number 0 wraps to a number that is too high.
-            let s = usize::from(student.wrapping_sub(1));
-            let w = usize::from(workshop.wrapping_sub(1));
-            // One branch for all causes.
-            let bad = !fields.is_pair()
-                | (key <= last)
-                | (s >= students)
-                | (w >= workshops)
-                | !(1..=MAX_STUDENT_GROUP).contains(&student_group)
-                | !(1..=MAX_WORKSHOP_GROUP).contains(&group);
-            if bad {
-                return None;
-            }
+            let [_, _, _, group] = fields.all();
+            let (key, s, w) = fields.pair_after(last, students, workshops)?;
             last = key;
             if group > self.last_counted[w] {
                 continue;
