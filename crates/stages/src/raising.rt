@@ -1,4 +1,4 @@
-// One workshop: what it asks of the students who matter to it, and those raised to that.
+// One workshop: what it asks of the students who matter to it, and those raised to that. `own` has each student's stage so far.
 ghost use mathlib.Core.Path.{_≡_};
 ghost use mathlib.Core.Bool.{cond};
 ghost use Prim.Native.Nat.{ℕ, _≤_, _<_, max};
@@ -118,6 +118,7 @@ fn climb(tops: &mut [u16]) -> u16
     best
 }
 
+// The set, or the empty one.
 fn set_if(b: bool, set: u64) -> u64
     ensures { λ r. ⌜ r ≡ cond b set 0 ⌝ }
 {

@@ -1,4 +1,4 @@
-// The workshops in turn, round after round, until nobody is raised.
+// The workshops in turn, round after round, until nobody is raised. `own` has each student's stage so far; `tiers` and `tops` are room to work in.
 use super::raising::raise;
 ghost use mathlib.Core.Path.{_≡_};
 ghost use mathlib.Core.Bool.{true, false};
@@ -17,6 +17,7 @@ pub struct Progress {
     pub limit: usize,
 }
 
+// The smaller of two limits.
 fn smaller(a: usize, b: usize) -> usize
     ensures { λ r. ⌜ r ≡ min a b ⌝ }
 {
