@@ -9,7 +9,7 @@ use mathlib.Core.List.{Memᴰ·append-left as in-left, Memᴰ·append-right as i
 use mathlib.Core.List.{List·Memᴰ·eq-of-singleton as eq-of-singleton, Memᴰ·cast as same-in}
 use native.Mathlib.Omega.{arith}
 use borrow.Author.Tests.{eq-eqb, ne-eqb}
-use lib.ListN.{length, getD, length-append, length-map, List·getD-append, List·getD-eq-default}
+use lib.ListN.{length, getD, replicate, length-append, length-map, List·getD-append, List·getD-eq-default}
 use lib.Seq.{getD-at, ext-getD}
 use native.Mathlib.Nat.{eq-or-lt-of-le}
 use Rattle.base.specs.Lists.{upto, keep, consIf, pick, any, update, entryFor}
@@ -205,3 +205,9 @@ update-at f k v x e = rw (eq-eqb x k e)
 pub update-off : {A : Type 0} (f : ℕ → A) (k : ℕ) (v : A) (x : ℕ) → (x ≡ k → ⊥) → update f k v x ≡ f x
 unfolding update
 update-off f k v x ne = rw (ne-eqb x k ne)
+
+-- every entry of a list of zeros is 0
+pub all-zero : (n k : ℕ) → _≡_ {A = ℕ} (getD (replicate n 0) k 0) 0
+all-zero zero k = refl
+all-zero (suc n) zero = refl
+all-zero (suc n) (suc k) = all-zero n k

@@ -3,7 +3,7 @@
 use Prim.Native.Nat.{ℕ, zero, suc, _*_, _≤_, _<_}
 use mathlib.Core.Path.{_≡_, refl, sym, ap, _∙_}
 use mathlib.Core.Logic.{⊎-elim}
-use mathlib.Core.Bool.{true, cond}
+use mathlib.Core.Bool.{true, false, cond}
 use mathlib.Core.List.{List, [], _∷_, _++_, map}
 use mathlib.Core.List.{List·Memᴰ·head as here, Memᴰ·append-left as in-left, Memᴰ·append-right as in-right}
 use mathlib.Core.Option.{Option, some, none}
@@ -21,7 +21,7 @@ use Rattle.format.specs.Causes.{Cause, finds, firstCause, whole, Nothing
 use Rattle.format.specs.Refusals.{caseCauses}
 use Rattle.format.specs.Engine.{marketIn}
 use Rattle.format.specs.Stages.{StagesOutcome, staged, unstaged, noneAgree, stagesRoomCauses, stagesCauses, stagesUnless, workOut}
-use Rattle.format.specs.Stages.{restaged, stagesAfter, marketWith, StagesPromised, TwelveExactly, OnlyStages, SevenCauses, FileStagesUnread}
+use Rattle.format.specs.Stages.{restaged, stagesAfter, marketWith, StagesPromised, SixExactly, TwelveExactly, OnlyStages, SevenCauses, FileStagesUnread}
 use Rattle.format.specs.Stages.{StagesKept, LentStagesKept}
 use Rattle.format.proofs.Causes.{table-none, none-table, table-some, first-left, first-right}
 use Rattle.format.proofs.Buffers.{head-length, past-head}
@@ -87,7 +87,7 @@ module _ (case : List ℕ) (room : ℕ) where
   out-staged stages e enough L =
       rw (first-staged e enough stages L, least-is (marketIn case) (readable e) stages L)
 
--- ---- the numbers of the case's causes are not 12
+-- ---- the numbers of the case's causes are neither 6 nor 12
 
 numbered : (cs : List Cause) (k i : ℕ) → firstCause cs ≡ some (k, i) → any (eqb k) (map (λ (c : Cause). c .0) cs) ≡ true
 unfolding any
@@ -102,9 +102,17 @@ numbered ((j, t) ∷ cs) k i e = go (finds t) refl (λ r. numbered cs k i r)
         let p : _≡_ {A = ℕ × ℕ} (j, h) (k, i) = cc in
         or-left (eqb k j) _ (eq-eqb k j (sym (ap (λ (r : ℕ × ℕ). r .0) p)))
 
+other-number : (n : ℕ) (case : List ℕ) (k i : ℕ) → any (eqb n) (map (λ (c : Cause). c .0) (caseCauses case)) ≡ false
+    → firstCause (caseCauses case) ≡ some (k, i) → k ≡ n → ⊥
+other-number n case k i f e q = never (rw q at (numbered (caseCauses case) k i e)) f
+
 not-twelve : (case : List ℕ) (k i : ℕ) → firstCause (caseCauses case) ≡ some (k, i) → k ≡ 12 → ⊥
 unfolding caseCauses any
-not-twelve case k i e q = never (rw q at (numbered (caseCauses case) k i e)) refl
+not-twelve case k i = other-number 12 case k i refl
+
+not-six : (case : List ℕ) (k i : ℕ) → firstCause (caseCauses case) ≡ some (k, i) → k ≡ 6 → ⊥
+unfolding caseCauses any
+not-six case k i = other-number 6 case k i refl
 
 -- ---- the four ways
 
@@ -148,6 +156,20 @@ stages-promised case room = go (workOut case room) (way case room)
           λ s. omega (arith, L .few s, case-counts case nothing),
           least-short case stages nothing L,
         )
+
+pub six-exactly : SixExactly
+six-exactly =
+    record {
+      given = λ case room i. go case room i (workOut case room) (way case room);
+      whenever = λ case room nothing l. out-room case room (none-table (caseCauses case) nothing) l;
+    }
+  where
+    go : (case : List ℕ) (room i : ℕ) (o : StagesOutcome) → Way case room o → o ≡ unstaged 6 i
+        → (i ≡ 0) × NothingFound (caseCauses case) × (room < marketIn case .students)
+    go case room i o (byCase k j e) q = let z : k ≡ 6 = cc in absurd (not-six case k j e z)
+    go case room i o (byRoom e l) q = let z : _≡_ {A = ℕ} 0 i = cc in (sym z, table-none (caseCauses case) e, l)
+    go case room i o (byNone e u N) q = let z : _≡_ {A = ℕ} 12 6 = cc in absurd (omega arith)
+    go case room i o (byStages stages e u L) q = let z : _≡_ {A = ℕ} 0 1 = cc in absurd (omega arith)
 
 pub twelve-exactly : TwelveExactly
 unfolding stagesRoomCauses

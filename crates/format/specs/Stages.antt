@@ -1,6 +1,6 @@
 -- The part that works out the stages (document 02, Paper 2): "reads a case and returns a stage for each student, each as small as agreement with every workshop
 -- permits, starting at 1".
-use Prim.Native.Nat.{ℕ, _≤_}
+use Prim.Native.Nat.{ℕ, _≤_, _<_}
 use mathlib.Core.Path.{_≡_}
 use mathlib.Core.Bool.{Bool, true, false, cond}
 use mathlib.Core.List.{List, [], _∷_, _++_, map}
@@ -123,6 +123,16 @@ StagesPromised case room (staged stages) =
     × ((s : ℕ) → stageOf stages s ≤ 512)
     × ShortList case stages
 StagesPromised case room (unstaged k i) = FoundFirst (stagesCauses case room) k i × (k ≡ 12 → NoStages (marketIn case))
+
+-- "6 covers their own buffers too (an entry for each thing returned ..)": in a case that 1 to 5 pass, exactly when there are fewer entries than students
+pub record SixExactly : Type 0 where
+  pub given : (case : List ℕ) (room : ℕ) (i : ℕ)
+      → workOut case room ≡ unstaged 6 i
+      → (i ≡ 0) × NothingFound (caseCauses case) × (room < marketIn case .students)
+  pub whenever : (case : List ℕ) (room : ℕ)
+      → NothingFound (caseCauses case)
+      → room < marketIn case .students
+      → workOut case room ≡ unstaged 6 0
 
 -- "12 when no stage numbers agree, tested after 6 and given for no other reason, with place 0": where the causes before it find nothing, exactly then,
 -- and stages where some agree

@@ -7,7 +7,7 @@ use mathlib.Core.List.{List}
 use native.Mathlib.Omega.{arith}
 use native.Mathlib.Nat.{le-max-left, le-max-right, max-le, max-eq-right, max-eq-left}
 use lib.Dec.{ltb, eqb}
-use lib.ListN.{length, getD, set, replicate, length-set, length-replicate, getD-replicate, List·getD-eq-default}
+use lib.ListN.{length, getD, set, length-set, List·getD-eq-default}
 use lib.Seq.{getD-set-same, getD-set-other}
 use borrow.Author.Tests.{eq-eqb, ne-eqb, eqb-true, eqb-false, lt-ltb, le-ltb, not-false}
 use Rattle.base.specs.Lists.{count}
@@ -25,13 +25,6 @@ use Rattle.stages.specs.Raising.{tierFor, standsFor, Enough, Noted, Capp
 
 larger-of : (a b : ℕ) → ((max a b ≡ a) × (b ≤ a)) ⊎ ((max a b ≡ b) × (a ≤ b))
 larger-of a b = ⊎-elim (λ (l : b < a). inl (max-eq-left (omega arith), omega arith)) (λ (l : a ≤ b). inr (max-eq-right l, l)) (less? b a)
-
--- every entry of a cleared list is 0
-pub all-zero : (xs : List ℕ) (n : ℕ) → xs ≡ replicate n 0 → (k : ℕ) → getD xs k 0 ≡ 0
-all-zero xs n e k = rw e (⊎-elim (λ (l : k < n). getD-replicate n k 0 0 l) (λ (l : n ≤ k). List·getD-eq-default (replicate n 0) 0 (long l)) (less? k n))
-  where
-    long : n ≤ k → length {A = ℕ} (replicate n 0) ≤ k
-    long l = omega (arith, length-replicate {A = ℕ} n 0)
 
 -- ---- the students' tiers
 

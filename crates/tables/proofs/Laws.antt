@@ -12,6 +12,7 @@ use borrow.Author.Tests.{eq-eqb, eqb-true}
 use Rattle.base.specs.Lists.{count, total}
 use Rattle.base.specs.Bits.{member}
 use Rattle.base.proofs.Tests.{never, or-true, or-left, or-right, less?}
+use Rattle.base.proofs.Members.{all-zero}
 use Rattle.base.proofs.Digits.{bit-zero}
 use Rattle.lgs.specs.Market.{Market, seatsOf, seatsBefore}
 use Rattle.format.specs.Engine.{marketIn}
@@ -34,12 +35,7 @@ count-stop p n (suc m) l none =
 
 -- the table as a caller makes it, `[0; 1089]`, is blank
 pub blank : Blank (replicate 1089 0)
-blank = record { sized = length-replicate {A = ℕ} 1089 0; zero = zeros 1089 }
-  where
-    zeros : (n k : ℕ) → _≡_ {A = ℕ} (getD (replicate n 0) k 0) 0
-    zeros zero k = refl
-    zeros (suc n) zero = refl
-    zeros (suc n) (suc k) = zeros n k
+blank = record { sized = length-replicate {A = ℕ} 1089 0; zero = all-zero 1089 }
 
 -- ---- where the seats start
 pub seats-first : (M : Market) → seatsBefore M 1 ≡ 0

@@ -8,10 +8,11 @@ use lib.Dec.{eqb}
 use lib.ListN.{length, getD}
 use Rattle.base.specs.Lists.{one, count}
 use Rattle.base.proofs.Counting.{count-le}
+use Rattle.base.proofs.Members.{all-zero}
 use Rattle.lgs.specs.Stages.{stageOf}
 use Rattle.format.specs.Engine.{marketIn}
 use Rattle.stages.specs.Raising.{reachOf, tierFor, standsFor, Noted}
-use Rattle.stages.proofs.Raises.{all-zero, noting-none, noting-more, first-there}
+use Rattle.stages.proofs.Raises.{noting-none, noting-more, first-there}
 use Rattle.stages.proofs.raising.note_tops.Statement.{statement}
 use Rattle.stages.proofs.raising.note_tops.Tie as tie
 
@@ -43,7 +44,7 @@ loop-holds c =
       refl,
       noting-none (tierFor (marketIn (start .args .case .now)) (start .args .w)) (stageOf (start .args .own .now)) (start .args .tiers .now)
           (cleared .last .0) (start .pre .1 .1 .0 .0) (cleared .kept .0 ∙ start .pre .1 .1 .0 .1)
-          (all-zero (cleared .last .0) (length (start .args .tops .now)) (cleared .ensures)),
+          (λ g. ap (λ tops. getD tops g 0) (cleared .ensures) ∙ all-zero (length (start .args .tops .now)) g),
     )
 
 add-tier-of : tie.Need-add-tier-of Inv-loop μ-loop
