@@ -1,8 +1,10 @@
 /* The placing engine for programs in C, C++, Rust, Python and others: link target/staticlib/libengine.a (`rt staticlib engine`).
  *
  * lgs_place takes a case and a book of visit results (docs/FORMAT.md has both byte by byte) and answers with the next visit, with the
- * finished placement, or with a refusal. A mark of -1000 in the book, from either side and in any group, means that the two cannot be placed
- * together. Whatever the bytes, the lengths and the contents at entry, lgs_place reads and writes only what is lent, and it returns.
+ * finished placement, or with one of twelve refusals. A mark of -1000 in the book, from either side and in any group, means that the two cannot
+ * be placed together. Each student has a lot, at bytes 8 and 9 of her record, low byte first: 1 to 512, all different. A workshop may give equal
+ * marks in one group, and of two such students it ranks the one with the lower lot higher; a student may not.
+ * Whatever the bytes, the lengths and the contents at entry, lgs_place reads and writes only what is lent, and it returns.
  * include/example.c is a complete caller. Python and others that load a library at run time get one from the archive, which is position
  * independent: gcc -shared -o liblgs.so -Wl,--whole-archive target/staticlib/libengine.a -Wl,--no-whole-archive
  *
@@ -50,24 +52,25 @@ typedef struct {
 /* The kinds of answers. */
 enum { LGS_PLACED = 0, LGS_NEXT = 1, LGS_REFUSED = 2 };
 
-/* The refusals. Those without a record have place 0. */
+/* The refusals, in the order of testing. Those without a record have place 0. */
 enum {
     LGS_CASE_LENGTH = 1,    /* case length no multiple of 16 */
     LGS_CASE_FORM = 2,      /* kind not 1 to 3, or a byte that should be zero; place: the first such record of the case */
     LGS_CASE_ORDER = 3,     /* kinds fall, a number out of sequence, pairs not rising, or a pair names nobody; place: as before */
     LGS_CASE_COUNTS = 4,    /* no student, over 512, no workshop, over 64 */
     LGS_CASE_RANGE = 5,     /* stage, quota, group or line group out of range; place: the first such record of the case */
+    LGS_CASE_LOT = 13,      /* a student's lot not 1 to 512, or already used by an earlier student; place: the first such record of the case */
     LGS_SHORT_BUFFER = 6,   /* a lent buffer shorter than needed */
     LGS_BOOK_LENGTH = 7,    /* book length no multiple of 8 */
     LGS_BOOK_PAIR = 8,      /* a visit without its pair; place: the first such record of the book */
     LGS_BOOK_MARK = 9,      /* mark 0 or outside -1000 to 1000; place: as before */
     LGS_BOOK_REPEATED = 10, /* a pair that is in the book already; place: the first later record */
-    LGS_BOOK_TIE = 11       /* one person gave an equal mark, other than -1000, earlier in the same group; place: the first later record */
+    LGS_BOOK_TIE = 11       /* one student gave an equal mark, other than -1000, earlier in the same group; place: the first later record */
 };
 
 /* kind LGS_PLACED: visits is the visit count.
  * kind LGS_NEXT: first is the student and second the workshop of the next visit, visits the count of visits already done.
- * kind LGS_REFUSED: first is the refusal, LGS_CASE_LENGTH to LGS_BOOK_TIE, and second its place: the number of the record, from 0.
+ * kind LGS_REFUSED: first is the refusal, one of those above, and second its place: the number of the record, from 0.
  * Values that are not named are 0. */
 typedef struct {
     uint64_t kind;

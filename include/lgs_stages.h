@@ -5,8 +5,9 @@
  * small as agreement permits, starting at 1. The stages agree when, at each workshop with quota above 0, of two students with pairs there not
  * beyond its line group, the one in the better group has the earlier stage, and equal groups have equal stages. With such stages in the case the
  * visits that lgs_place lists are the smallest list. The stages that are in the case are only checked for range; they change nothing else, so a
- * case that has none yet may have 1 everywhere. Whatever the bytes, the lengths and the contents at entry, lgs_stages reads and writes only what
- * is lent, and it returns. include/stages.c is a complete caller. In short:
+ * case that has none yet may have 1 everywhere. The lots are checked as lgs_place checks them (LGS_CASE_LOT), and change nothing else. Whatever
+ * the bytes, the lengths and the contents at entry, lgs_stages reads and writes only what is lent, and it returns. include/stages.c is a complete
+ * caller. In short:
  *
  *     uint16_t stages[LGS_MOST_STAGES] = {0};
  *     lgs_part_report answer = lgs_stages(case_bytes, case_length, stages, LGS_MOST_STAGES);
@@ -52,8 +53,8 @@ enum { LGS_MOST_STAGES = 512 };
 /* The kind of an answer that is no refusal; a refusal has the kind LGS_REFUSED. */
 enum { LGS_DONE = 0 };
 
-/* The refusals are LGS_CASE_LENGTH to LGS_SHORT_BUFFER of lgs_place.h, with the places named there, tested in the order of their numbers; and, tested
- * last and given for no other reason, this one, with place 0. */
+/* The refusals are those of lgs_place.h down to LGS_SHORT_BUFFER, with the places named there and in the order there (1, 2, 3, 4, 5, 13, 6); and,
+ * tested last and given for no other reason, this one, with place 0. */
 enum {
     LGS_NO_STAGES = 12 /* no stage numbers agree with every workshop's groups */
 };

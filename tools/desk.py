@@ -2,11 +2,12 @@
 """The college desk's tool around the programs `place` and `stages`.
 
     python3 desk.py new       writes students.csv, workshops.csv, pairs.csv and visits.csv with a small example
+    python3 desk.py lots      draws a lot for each student in students.csv who has none, and writes it there
     python3 desk.py stages    works the students' stages out from the first three files, and writes them in students.csv
     python3 desk.py           checks the four files and says whom to send where next, or who goes where
 
-It works in the current folder. It only reads the four files, but for the stages, which `desk.py stages` writes. From the files it makes
-case.dat and book.dat, which `place` reads.
+It works in the current folder. It only reads the four files, but for the lots, which `desk.py lots` writes, and the stages, which `desk.py stages`
+writes. From the files it makes case.dat and book.dat, which `place` reads.
 The program is the one that --place or the variable PLACE names; else the one beside desk.py; else the one on the PATH. So is `stages`, with --stages
 or the variable STAGES.
 Exit status: 0 for an answer, 1 where something is to be corrected, 2 for a wrong command.
@@ -20,6 +21,7 @@ import difflib
 import io
 import os
 import re
+import secrets
 import shutil
 import stat
 import struct
@@ -41,21 +43,26 @@ class Name:
 
 @dataclass
 class Number:
-    """A column with a whole number. `word`, where there is one, stands for the lowest."""
+    """A column with a whole number. `word`, where there is one, stands for the lowest. `help` says what to do about an empty cell, and
+    `help_column` about a missing column."""
     heading: str
     low: int
     high: int
     zero: bool = True
     word: str = ""
+    help: str = ""
+    help_column: str = ""
 
 
 NEVER = -1000    # the mark which says that the two cannot be placed together
 STUDENTS, WORKSHOPS, PAIRS, VISITS = "students.csv", "workshops.csv", "pairs.csv", "visits.csv"
+STAGE = Number("stage", 1, 512, help=' "python3 desk.py stages" works it out.')
+LOT = Number("lot", 1, 512, help=' "python3 desk.py lots" draws it.', help_column='\n"python3 desk.py lots" adds it and draws a lot for each student.')
 
 # Each file's columns. Their order is that of the fields in the records of case.dat and book.dat (docs/FORMAT.md);
 # in the files the columns may stand in any order.
 COLUMNS = {
-    STUDENTS: [Name("student"), Number("stage", 1, 512), Number("line group", 1, 65)],
+    STUDENTS: [Name("student"), STAGE, Number("line group", 1, 65), LOT],
     WORKSHOPS: [Name("workshop"), Number("quota", 0, 512), Number("line group", 1, 513)],
     PAIRS: [Name("student", STUDENTS), Name("workshop", WORKSHOPS),
             Number("group from student", 1, 65), Number("group from workshop", 1, 513)],
@@ -66,7 +73,7 @@ COLUMNS = {
 MOST = {STUDENTS: 512, WORKSHOPS: 64}
 MOST_CASE_RECORDS = 4096    # case.dat has at most 65,536 bytes
 
-# What `desk.py new` writes: example K of document 01.
+# What `desk.py new` writes: example K of document 01. The lots are drawn.
 EXAMPLE = {
     STUDENTS: [("Anna Berg", 1, 2), ("Ben Olsen", 2, 2), ("Carla Roth", 2, 2)],
     WORKSHOPS: [("Dye house", 1, 3), ("Weaving mill", 1, 3)],
@@ -76,7 +83,7 @@ EXAMPLE = {
     VISITS: [],
 }
 
-# What each refusal means, and in which file its record is: "" where it names none. NO_STAGES has words of its own.
+# What each refusal means, and in which file its record is: "" where it names none. In the order of testing. NO_STAGES has words of its own.
 NO_STAGES = 12
 CASE_RECORDS = "case.dat"
 REFUSALS = {
@@ -85,12 +92,13 @@ REFUSALS = {
     3: (CASE_RECORDS, "a number is out of sequence, or a pair names nobody"),
     4: ("", "there is no student, no workshop, or too many of them"),
     5: (CASE_RECORDS, "a stage, quota, group or line group is out of range"),
+    13: (CASE_RECORDS, "a lot is not 1 to 512, or an earlier student has it already"),
     6: ("", "a buffer of the program is too short"),
     7: ("", "the length of book.dat is no multiple of 8"),
     8: (VISITS, "this visit has no row in pairs.csv"),
     9: (VISITS, "a mark is 0, below -1000 or above 1000"),
     10: (VISITS, "this visit stands in an earlier row already"),
-    11: (VISITS, "one person gave the same mark twice in one group. Ask which of the two is better, and change one mark"),
+    11: (VISITS, "a student gave the same mark twice in one group. Ask her which of the two is better, and change one mark"),
 }
 
 # ---------------------------------------------------------------- what is wrong
@@ -182,29 +190,35 @@ def read_cells(file):
             rows.append((at, cells))
 
 
-def read_headings(file, rows):
-    """At which place of a row each column stands. Columns that are not ours are left alone."""
+def read_headings(file, rows, may_miss=()):
+    """At which place of a row each column stands; those of `may_miss` need not be there. Columns that are not ours are left alone."""
     if not rows or rows[0][0] != 1:
         raise Stop(f"{file}, row 1: the headings are missing: {headings_of(file)}.")
     found = [cell.lower() for cell in rows[0][1]]
     places = {}
     for column in COLUMNS[file]:
-        if found.count(column.heading) != 1:
-            how = "there twice" if column.heading in found else "missing"
-            seen = ", ".join(cell for cell in found if cell)
-            raise Stop(f'{file}, row 1: the column "{column.heading}" is {how}. The headings are {seen}; needed are {headings_of(file)}.')
-        places[column.heading] = found.index(column.heading)
+        count = found.count(column.heading)
+        if count > 1 or (count == 0 and column.heading not in may_miss):
+            raise Stop(wrong_heading(file, column, found))
+        if count:
+            places[column.heading] = found.index(column.heading)
     return places, len(found)
+
+
+def wrong_heading(file, column, found):
+    how, help_there = ("there twice", "") if column.heading in found else ("missing", getattr(column, "help_column", ""))
+    seen = ", ".join(cell for cell in found if cell)
+    return f'{file}, row 1: the column "{column.heading}" is {how}. The headings are {seen}; needed are {headings_of(file)}.{help_there}'
 
 
 def headings_of(file):
     return ", ".join(column.heading for column in COLUMNS[file])
 
 
-def read_rows(file, problems):
-    """The rows below the headings, each with the text of our columns."""
+def read_rows(file, problems, may_miss=()):
+    """The rows below the headings, each with the text of our columns that are there."""
     rows = read_cells(file)
-    places, width = read_headings(file, rows)
+    places, width = read_headings(file, rows, may_miss)
     result = []
     for at, cells in rows[1:]:
         if any(cells[width:]):
@@ -233,7 +247,7 @@ def check_number(file, row, column, problems):
         but = "" if column.zero else ", and not 0"
         word = f", or the word {column.word}" if column.word else ""
         what = f'"{text}" is there' if text else "the cell is empty"
-        help_there = ' "python3 desk.py stages" works it out.' if column.heading == "stage" and not text else ""
+        help_there = "" if text else column.help
         problems.add(file, row.at, column.heading, f"{what}; it must be a whole number from {column.low} to {column.high}{but}{word}.{help_there}")
     row.cells[column.heading] = number
 
@@ -265,6 +279,19 @@ def check_people(file, rows, problems):
     if len(rows) > MOST[file]:
         problems.add(file, rows[MOST[file]].at, "", f"there are {len(rows)} rows; {MOST[file]} is the most.")
     return {name: number for number, name in enumerate(first, 1)}
+
+
+def check_lots(rows, problems):
+    """All lots are different. Those that are missing or out of range are told elsewhere."""
+    first = {}
+    for row in rows:
+        name, lot = row.cells["student"], row.cells["lot"]
+        if lot in first:
+            early = first[lot]
+            problems.add(STUDENTS, row.at, "lot", f"{name} has the lot {lot}, and so has {early.cells['student']} in row {early.at}. "
+                         'Empty the wrong cell; "python3 desk.py lots" draws another.')
+        elif lot is not None and LOT.low <= lot <= LOT.high:
+            first[lot] = row
 
 
 def check_name(file, row, column, names, problems):
@@ -338,6 +365,7 @@ def read_people(problems, may_be_empty):
         people[file] = read_rows(file, problems)
         names[file] = check_people(file, people[file], problems)
         check_numbers(file, people[file], problems, may_be_empty)
+    check_lots(people[STUDENTS], problems)
     problems.stop_if_any()
     return people[STUDENTS], people[WORKSHOPS], names
 
@@ -434,39 +462,48 @@ def keep_rights(path, part):
                 change()
 
 
-# ---------------------------------------------------------------- the stages in students.csv
+# ---------------------------------------------------------------- stages and lots in students.csv
 
 
-def with_stages(data, stages):
-    """The bytes of students.csv with these stages, by row number. All else is as it was, byte for byte."""
+def first_row(text):
+    """The headings, those of other columns too."""
+    return [clean(cell).lower() for cell in next(split_rows(text))]
+
+
+def with_cells(data, heading, numbers):
+    """The bytes of students.csv with these numbers in one column, by row number. The column is added where it is missing. All else is as it was,
+    byte for byte."""
     text = data.decode("utf-8-sig")
     mark = data[:len(data) - len(text.encode())]    # the byte order mark, or nothing
-    delimiter = delimiter_of(text)
-    place = [clean(cell).lower() for cell in next(split_rows(text))].index("stage")
+    delimiter, headings = delimiter_of(text), first_row(text)
+    place = (headings + [heading]).index(heading)
+    added = {} if heading in headings else {1: heading}
+    texts = {**added, **{at: str(number) for at, number in numbers.items()}}
     cell = re.compile(rf'("[^"]*(?:""[^"]*)*"|[^{delimiter}\r\n]*)({delimiter}|\r\n|\r|\n|\Z)')
     parts, at, column = [], 1, 0
     for found in cell.finditer(text):
         inside, end = found.groups()
-        if at in stages and column == place:
-            inside = f'"{stages[at]}"' if inside.startswith('"') else str(stages[at])
-        elif at in stages and column < place and end != delimiter:    # the row is shorter than the headings
-            inside += delimiter * (place - column) + str(stages[at])
+        if at in texts and column == place:
+            inside = f'"{texts[at]}"' if inside.startswith('"') else texts[at]
+        elif at in texts and column < place and end != delimiter:    # the row ends before this column
+            inside += delimiter * (place - column) + texts[at]
         parts += [inside, end]
         at, column = (at, column + 1) if end == delimiter else (at + 1, 0)
     new = mark + "".join(parts).encode()
-    check_only_stages(data, new, place, stages)
+    check_only_cells(data, new, place, texts)
     return new
 
 
-def check_only_stages(old, new, place, stages):
-    """Reads both contents of students.csv again: they differ in these stages, and in nothing else."""
+def check_only_cells(old, new, place, texts):
+    """Reads both contents of students.csv again: they differ in these cells of one column, and in nothing else."""
     rows, new_rows = ([list(row) for row in split_rows(data.decode("utf-8-sig"))] for data in (old, new))
-    for at, stage in stages.items():
+    for at, text in texts.items():
         row = rows[at - 1]
         row += [""] * (place + 1 - len(row))
-        row[place] = str(stage)
+        row[place] = text
     if rows != new_rows:
-        raise Stop(f"desk.py cannot write the stages in {STUDENTS} without changing other cells. Nothing was written. Write them there yourself.")
+        raise Stop(f"desk.py cannot write in {STUDENTS} without changing other cells. Nothing was written.\n"
+                   "Save the table again with your spreadsheet, as CSV, and type the command again.")
 
 
 def is_open(name):
@@ -474,15 +511,15 @@ def is_open(name):
     return any(os.path.lexists(os.path.join(folder, f".~lock.{file}#")) for folder, file in map(os.path.split, (name, os.path.realpath(name))))
 
 
-def write_stages(data, stages):
-    """Writes them, if students.csv is not open in LibreOffice and still has these bytes."""
-    new = with_stages(data, stages)
+def write_cells(data, heading, numbers):
+    """Writes these numbers in one column, if students.csv is not open in LibreOffice and still has these bytes."""
+    new = with_cells(data, heading, numbers)
     if is_open(STUDENTS):
         raise Stop(f"{STUDENTS} is open in a spreadsheet: save and close it there, then type the command again. Nothing was written.")
     if not (os.access(STUDENTS, os.W_OK) and os.stat(STUDENTS).st_mode & 0o222):
         raise Stop(f"{STUDENTS} is protected against writing. Nothing was written.")
     if read_bytes(STUDENTS) != data:
-        raise Stop(f"{STUDENTS} was changed by somebody else at this moment. Nothing was written. Run desk.py stages again.")
+        raise Stop(f"{STUDENTS} was changed by somebody else at this moment. Nothing was written. Type the command again.")
     write_files({STUDENTS: new})
 
 
@@ -664,6 +701,17 @@ def tell_worked_out(year, stages, before):
     return lines
 
 
+def tell_written(count, what, added=""):
+    return [f"Wrote them in {STUDENTS}: {added}{count} {'cell' if count == 1 else 'cells'} changed, all else is as it was.",
+            f"A spreadsheet that still shows {STUDENTS} shows the old {what}: open the file again there before you change it."]
+
+
+def tell_lots(rows, drawn):
+    """Everybody's lot, the lowest first, and which were drawn in this run."""
+    lots = sorted((drawn.get(row.at, row.cells["lot"]), row.cells["student"], " (drawn)" if row.at in drawn else "") for row in rows)
+    return ["The lots, the lowest first:"] + [f"  {lot:3}  {name}{said}" for lot, name, said in lots]
+
+
 def explain_no_stages(year):
     """In plain words, with the groups that contradict each other."""
     found = [f"  {workshop}: {one} {'before' if before else 'in the same group as'} {two}" for workshop, one, two, before in contradiction(year)]
@@ -736,19 +784,46 @@ def row_at(year, where, place):
 
 
 def equal_marks(year, row):
-    """The earlier visits in which the same person gave the same mark, other than never, in the same group."""
-    groups = {couple_of(pair): pair for pair in year.pairs}
-    lines = []
-    for who in ("student", "workshop"):
-        group, mark = f"group from {who}", f"mark from {who}"
-        for early in year.visits[:year.visits.index(row)]:
-            same_group = groups[couple_of(early)].cells[group] == groups[couple_of(row)].cells[group]
-            if early.cells[who] == row.cells[who] and early.cells[mark] == row.cells[mark] != NEVER and same_group:
-                lines.append(f'  {row.cells[who]} gave {row.cells[mark]} in row {early.at} too, column "{mark}".')
-    return lines
+    """The earlier visits in which the same student gave the same mark in the same group."""
+    groups = {couple_of(pair): pair.cells["group from student"] for pair in year.pairs}
+    student, mark = row.cells["student"], row.cells["mark from student"]
+    same = [early for early in year.visits[:year.visits.index(row)] if early.cells["student"] == student
+            and early.cells["mark from student"] == mark and groups[couple_of(early)] == groups[couple_of(row)]]
+    return [f'  {student} gave {mark} in row {early.at} too, column "mark from student".' for early in same]
+
+
+# ---------------------------------------------------------------- drawing lots
+
+
+def draw_lots(count, used=()):
+    """So many different lots, none of them used, each choice as likely as any other. All numbers take part, not only the lowest: so a student
+    who draws later has the same chances as the others."""
+    left = [lot for lot in range(LOT.low, LOT.high + 1) if lot not in used]
+    return secrets.SystemRandom().sample(left, count)
+
+
+def read_lots():
+    """The students' rows, each with her lot, None where there is none. Of students.csv only the names and the lots are needed."""
+    problems = Problems()
+    rows = read_rows(STUDENTS, problems, may_miss=("stage", "line group", "lot"))
+    check_people(STUDENTS, rows, problems)
+    for row in rows:
+        if row.cells.setdefault("lot", ""):
+            check_number(STUDENTS, row, LOT, problems)
+        else:
+            row.cells["lot"] = None
+    check_lots(rows, problems)
+    problems.stop_if_any()
+    return rows
 
 
 # ---------------------------------------------------------------- the commands
+
+
+def example_rows(file):
+    """The example's rows in the order of the columns; each student has a lot that is drawn."""
+    rows = EXAMPLE[file]
+    return [(*row, lot) for row, lot in zip(rows, draw_lots(len(rows)))] if file == STUDENTS else rows
 
 
 def new(semicolon):
@@ -757,14 +832,14 @@ def new(semicolon):
     if there:
         raise Stop(f"{' and '.join(there)} {'is' if len(there) == 1 else 'are'} in this folder already. Nothing was written.")
     contents = {}
-    for file, rows in EXAMPLE.items():
+    for file in EXAMPLE:
         text = io.StringIO()
         writer = csv.writer(text, delimiter=";" if semicolon else ",")
         writer.writerow([column.heading for column in COLUMNS[file]])
-        writer.writerows(rows)
+        writer.writerows(example_rows(file))
         contents[file] = text.getvalue().encode("utf-8-sig")
     write_files(contents)
-    return [f"Wrote {', '.join(contents)}.", "Put your own year in them with a spreadsheet, or try the example: python3 desk.py"]
+    return [f"Wrote {', '.join(contents)}. The lots are drawn at random.", "Put your own year in them with a spreadsheet, or try the example: python3 desk.py"]
 
 
 def answer(place, list_visits):
@@ -780,6 +855,20 @@ def answer(place, list_visits):
         raise Stop(explain_refusal(year, "place", *found.refused))
     lines = tell_next(year, found) if found.next else tell_placement(year, found)
     return lines + (tell_visits(year, found) if list_visits else []) + tell_stages(year)
+
+
+def fill_in_lots():
+    """Draws a lot for each student who has none, writes the lots in students.csv, and tells all of them. A lot that is there stays."""
+    data = read_bytes(STUDENTS)
+    rows = read_lots()
+    without = [row.at for row in rows if row.cells["lot"] is None]
+    drawn = dict(zip(without, draw_lots(len(without), {row.cells["lot"] for row in rows})))
+    lines = tell_lots(rows, drawn) + [""]
+    if not drawn:
+        return lines + [f"Every student in {STUDENTS} has a lot. Nothing was written."]
+    write_cells(data, "lot", drawn)
+    added = "" if "lot" in first_row(data.decode("utf-8-sig")) else 'the column "lot" was added, '
+    return lines + tell_written(len(drawn), "lots", added) + ["Keep this list: lots are drawn once for a year."]
 
 
 def work_out_stages(program):
@@ -799,9 +888,8 @@ def work_out_stages(program):
     lines = tell_worked_out(year, stages, before) + [""]
     if not changed:
         return lines + [f"{STUDENTS} has these stages already. Nothing was written."]
-    write_stages(data, changed)
-    return lines + [f"Wrote them in {STUDENTS}: {len(changed)} {'cell' if len(changed) == 1 else 'cells'} changed, all else is as it was.",
-                    f"A spreadsheet that still shows {STUDENTS} shows the old stages: open the file again there before you change it."]
+    write_cells(data, "stage", changed)
+    return lines + tell_written(len(changed), "stages")
 
 
 def tell(lines):
@@ -815,7 +903,8 @@ def tell(lines):
 
 def main():
     parser = argparse.ArgumentParser(description=__doc__, formatter_class=argparse.RawDescriptionHelpFormatter)
-    parser.add_argument("command", nargs="?", default="next", choices=["next", "new", "stages"], help="next, the same as none, or new, or stages")
+    parser.add_argument("command", nargs="?", default="next", choices=["next", "new", "lots", "stages"],
+                        help="next, the same as none, or new, or lots, or stages")
     parser.add_argument("--place", metavar="PATH", help="next: the program `place`")
     parser.add_argument("--stages", metavar="PATH", help="stages: the program `stages`")
     parser.add_argument("--visits", action="store_true", help="next: list the visits held, too")
@@ -823,7 +912,7 @@ def main():
     options = parser.parse_args()
     sys.stdout.reconfigure(errors="replace")
     sys.stderr.reconfigure(errors="replace")
-    commands = {"new": lambda: new(options.semicolon), "stages": lambda: work_out_stages(options.stages),
+    commands = {"new": lambda: new(options.semicolon), "lots": fill_in_lots, "stages": lambda: work_out_stages(options.stages),
                 "next": lambda: answer(options.place, options.visits)}
     try:
         tell(commands[options.command]())

@@ -21,12 +21,12 @@ static void check(int good, const char *what)
     }
 }
 
-/* Example K of document 01. */
+/* Example K of document 01; each student's lot, at bytes 8 and 9 of her record, is her number. */
 enum { STUDENTS = 3, WORKSHOPS = 2, PAIRS = 6, RECORDS = STUDENTS + WORKSHOPS + PAIRS, SEATS = 2, VISITS = 4 };
 static const uint8_t K_CASE[16 * RECORDS] = {
-    1, 0, 1, 0, 1, 0, 2, 0, 0, 0, 0, 0, 0, 0, 0, 0,
-    1, 0, 2, 0, 2, 0, 2, 0, 0, 0, 0, 0, 0, 0, 0, 0,
-    1, 0, 3, 0, 2, 0, 2, 0, 0, 0, 0, 0, 0, 0, 0, 0,
+    1, 0, 1, 0, 1, 0, 2, 0, 1, 0, 0, 0, 0, 0, 0, 0,
+    1, 0, 2, 0, 2, 0, 2, 0, 2, 0, 0, 0, 0, 0, 0, 0,
+    1, 0, 3, 0, 2, 0, 2, 0, 3, 0, 0, 0, 0, 0, 0, 0,
     2, 0, 1, 0, 1, 0, 3, 0, 0, 0, 0, 0, 0, 0, 0, 0,
     2, 0, 2, 0, 1, 0, 3, 0, 0, 0, 0, 0, 0, 0, 0, 0,
     3, 0, 1, 0, 1, 0, 1, 0, 1, 0, 0, 0, 0, 0, 0, 0,
@@ -206,8 +206,63 @@ static void refusals(int at_end)
     refusal(l, LGS_BOOK_MARK, 1, "a mark of 0", at_end);
     l.book_bytes = changed(K_BOOK, sizeof K_BOOK, 8 * 1 + 2, 1);
     refusal(l, LGS_BOOK_REPEATED, 1, "a pair twice", at_end);
-    l.book_bytes = changed(K_BOOK, sizeof K_BOOK, 8 * 3 + 6, 1);
-    refusal(l, LGS_BOOK_TIE, 3, "an equal mark", at_end);
+    l.book_bytes = changed(K_BOOK, sizeof K_BOOK, 8 * 1 + 4, 5);
+    refusal(l, LGS_BOOK_TIE, 1, "an equal mark of a student", at_end);
+}
+
+/* K's case with these lots. */
+static const uint8_t *with_lots(unsigned first, unsigned second, unsigned third)
+{
+    static uint8_t copy[sizeof K_CASE];
+    const unsigned lots[STUDENTS] = {first, second, third};
+    memcpy(copy, K_CASE, sizeof copy);
+    for (size_t i = 0; i < STUDENTS; i++) {
+        copy[16 * i + 8] = (uint8_t)(lots[i] & 255);
+        copy[16 * i + 9] = (uint8_t)(lots[i] >> 8);
+    }
+    return copy;
+}
+
+/* Lots out of range and used twice are refused at the first such record, after 5 and before 6; a workshop has none. */
+static void wrong_lots(int at_end)
+{
+    loan l = exact(VISITS);
+    l.case_bytes = with_lots(1, 0, 3), refusal(l, LGS_CASE_LOT, 1, "a lot of 0", at_end);
+    l.case_bytes = with_lots(513, 2, 3), refusal(l, LGS_CASE_LOT, 0, "a lot of 513", at_end);
+    l.case_bytes = with_lots(1, 2, 65535), refusal(l, LGS_CASE_LOT, 2, "a lot of 65535", at_end);
+    l.case_bytes = with_lots(258, 258, 3), refusal(l, LGS_CASE_LOT, 1, "a lot twice", at_end);
+    l.case_bytes = with_lots(3, 2, 3), refusal(l, LGS_CASE_LOT, 2, "the last lot used already", at_end);
+    l.case_bytes = with_lots(7, 7, 0), refusal(l, LGS_CASE_LOT, 1, "a lot twice before a lot of 0", at_end);
+    l.case_bytes = changed(with_lots(0, 2, 3), sizeof K_CASE, 16 * 10 + 6, 66), refusal(l, LGS_CASE_RANGE, 10, "5 before 13", at_end);
+    l.case_bytes = changed(K_CASE, sizeof K_CASE, 16 * 3 + 8, 1), refusal(l, LGS_CASE_FORM, 3, "a lot of a workshop", at_end);
+    l = exact(0);
+    l.case_bytes = with_lots(1, 2, 2), l.places = 0, refusal(l, LGS_CASE_LOT, 2, "13 before 6", at_end);
+    l = exact(VISITS);
+    l.case_bytes = with_lots(1, 2, 2), l.book_length -= 1, refusal(l, LGS_CASE_LOT, 2, "13 before 7", at_end);
+}
+
+/* K with these lots, and with this mark of workshop 2 for student 3; the places of students 2 and 3. */
+static void parted(const uint8_t *lots, uint8_t mark, uint16_t second, uint16_t third, const char *what, int at_end)
+{
+    loan l = exact(VISITS);
+    l.case_bytes = lots;
+    l.book_bytes = changed(K_BOOK, sizeof K_BOOK, 8 * 3 + 6, mark);
+    result r = call(l, at_end);
+    check(is(r.report, LGS_PLACED, 0, 0, VISITS) && r.places[0] == 1 && r.places[1] == second && r.places[2] == third, what);
+    check(memcmp(r.visits, K_VISITS, sizeof K_VISITS) == 0 && r.zero, "visits and scratch with equal marks");
+}
+
+/* Workshop 2 has the mark 1 for student 2. An equal mark for student 3 is parted by the lower lot; another mark is not, nor is another group. */
+static void lots(int at_end)
+{
+    parted(K_CASE, 1, 2, 0, "equal marks, lots as the numbers", at_end);
+    parted(with_lots(1, 3, 2), 1, 0, 2, "equal marks, the lots of students 2 and 3 exchanged", at_end);
+    parted(with_lots(512, 511, 510), 1, 0, 2, "equal marks, high lots", at_end);
+    parted(with_lots(1, 255, 256), 1, 2, 0, "equal marks, lots 255 and 256", at_end);
+    parted(with_lots(1, 257, 256), 1, 0, 2, "equal marks, lots 257 and 256", at_end);
+    parted(with_lots(512, 1, 2), 2, 0, 2, "a higher mark with a higher lot", at_end);
+    parted(with_lots(3, 2, 1), 6, 0, 2, "the best group with the highest lot", at_end);
+    wrong_lots(at_end);
 }
 
 /* Each buffer one entry short. */
@@ -261,11 +316,11 @@ static void threads(void *(*calls)(void *))
     }
 }
 
-/* Two students, two workshops, and both the other way round at the second workshop. */
+/* Two students with the lots 1 and 2, two workshops, and both the other way round at the second workshop. */
 enum { TURNED_STUDENTS = 2, TURNED_QUOTA = 16 * 3 + 4 };
 static const uint8_t TURNED[16 * 8] = {
-    1, 0, 1, 0, 1, 0, 2, 0, 0, 0, 0, 0, 0, 0, 0, 0,
-    1, 0, 2, 0, 1, 0, 2, 0, 0, 0, 0, 0, 0, 0, 0, 0,
+    1, 0, 1, 0, 1, 0, 2, 0, 1, 0, 0, 0, 0, 0, 0, 0,
+    1, 0, 2, 0, 1, 0, 2, 0, 2, 0, 0, 0, 0, 0, 0, 0,
     2, 0, 1, 0, 1, 0, 3, 0, 0, 0, 0, 0, 0, 0, 0, 0,
     2, 0, 2, 0, 1, 0, 3, 0, 0, 0, 0, 0, 0, 0, 0, 0,
     3, 0, 1, 0, 1, 0, 1, 0, 1, 0, 0, 0, 0, 0, 0, 0,
@@ -315,6 +370,20 @@ static void stages_done(size_t room, int at_end)
     check(memcmp(r.stages, K_STAGES, sizeof K_STAGES) == 0 && as_lent(r.stages, STUDENTS, room), "K's stages");
 }
 
+/* Lots are tested after 5, and before 6 and 12; which lots there are changes nothing else. */
+static void stages_lots(int at_end)
+{
+    stages_refusal(with_lots(1, 0, 3), sizeof K_CASE, STUDENTS, LGS_CASE_LOT, 1, "stages: a lot of 0", at_end);
+    stages_refusal(with_lots(1, 2, 513), sizeof K_CASE, STUDENTS, LGS_CASE_LOT, 2, "stages: a lot of 513", at_end);
+    stages_refusal(with_lots(5, 5, 0), sizeof K_CASE, 0, LGS_CASE_LOT, 1, "stages: 13 before 6", at_end);
+    uint8_t same[sizeof TURNED];
+    memcpy(same, TURNED, sizeof same);
+    same[16 + 8] = 1;
+    stages_refusal(same, sizeof same, TURNED_STUDENTS, LGS_CASE_LOT, 1, "stages: 13 before 12", at_end);
+    stages_result r = call_stages(with_lots(512, 1, 300), sizeof K_CASE, STUDENTS, at_end);
+    check(is_part(r.report, LGS_DONE, STUDENTS, 0) && memcmp(r.stages, K_STAGES, sizeof K_STAGES) == 0, "K's stages with other lots");
+}
+
 static void stages(int at_end)
 {
     stages_done(STUDENTS, at_end);
@@ -337,8 +406,11 @@ static void stages(int at_end)
     check(is_part(r.report, LGS_DONE, TURNED_STUDENTS, 0) && r.stages[0] == 1 && r.stages[1] == 2, "quota 0 at the second workshop");
     changed[16 + 4] = 0;
     stages_refusal(changed, sizeof changed, TURNED_STUDENTS, LGS_CASE_RANGE, 1, "stage 0", at_end);
+    changed[16 + 8] = 1;
+    stages_refusal(changed, sizeof changed, TURNED_STUDENTS, LGS_CASE_RANGE, 1, "stages: 5 before 13", at_end);
     changed[15] = 1;
     stages_refusal(changed, sizeof changed, TURNED_STUDENTS, LGS_CASE_FORM, 0, "a byte that should be zero", at_end);
+    stages_lots(at_end);
 }
 
 /* The stages go into the case, and the engine gives the same placement with it as with K's own, which are equal. */
@@ -384,6 +456,7 @@ int main(void)
         next_visit(generous(3), 3, 2, 3, at_end);
         refusals(at_end);
         short_buffers(at_end);
+        lots(at_end);
         stages(at_end);
     }
     overlap();

@@ -70,7 +70,8 @@ def call(function, parameters, files, lengths):
 
 
 def pack_case(students, workshops, pairs):
-    return b"".join([struct.pack("<BB3H8x", 1, 0, *s) for s in students] + [struct.pack("<BB3H8x", 2, 0, *w) for w in workshops]
+    """A student is number, stage, line group and lot."""
+    return b"".join([struct.pack("<BB4H6x", 1, 0, *s) for s in students] + [struct.pack("<BB3H8x", 2, 0, *w) for w in workshops]
                     + [struct.pack("<BB4H6x", 3, 0, *p) for p in pairs])
 
 
@@ -78,9 +79,17 @@ def pack_book(visits):
     return b"".join(struct.pack("<HHhh", *v) for v in visits)
 
 
-K = pack_case([(1, 1, 2), (2, 2, 2), (3, 2, 2)], [(1, 1, 3), (2, 1, 3)],
-              [(1, 1, 1, 1), (1, 2, 1, 1), (2, 1, 1, 2), (2, 2, 1, 2), (3, 1, 1, 2), (3, 2, 2, 2)])
+def example_k(lots=(1, 2, 3)):
+    """Example K with these lots."""
+    return pack_case([(1, 1, 2, lots[0]), (2, 2, 2, lots[1]), (3, 2, 2, lots[2])], [(1, 1, 3), (2, 1, 3)],
+                     [(1, 1, 1, 1), (1, 2, 1, 1), (2, 1, 1, 2), (2, 2, 1, 2), (3, 1, 1, 2), (3, 2, 2, 2)])
+
+
+K = example_k()
 K_BOOK = pack_book([(1, 1, 5, 3), (1, 2, 2, 4), (2, 2, -1, 1), (3, 2, 4, 6)])
+EQUAL_BOOK = pack_book([(1, 1, 5, 3), (1, 2, 2, 4), (2, 2, -1, 1), (3, 2, 4, 1)])    # workshop 2 gives students 2 and 3 the same mark
+STUDENT_TIE = pack_book([(1, 1, 5, 3), (1, 2, 5, 4)])
+LOTS_WRONG = [((0, 2, 3), 0), ((1, 513, 3), 1), ((1, 2, 1), 2), ((4, 4, 0), 1)]      # lots, and the record that is refused
 EXACT = {"places": 3, "visits": 12, "seats": 2, "index": 6, "states": 3}
 LENGTHS_WRONG = [("places", 2), ("visits", 11), ("seats", 1), ("index", 5), ("states", 2)]
 
@@ -103,6 +112,14 @@ def test_place(library, header):
     check("K with two visits", report == (1, 2, 2, 2), report)
     report, lent = place(K, K_BOOK[:-1], EXACT)
     check("a refusal", report == (2, 7, 0, 0), report)
+    for lots, places in (((1, 2, 3), [1, 2, 0]), ((1, 500, 499), [1, 0, 2])):
+        report, lent = place(example_k(lots), EQUAL_BOOK, EXACT)
+        check(f"equal marks of a workshop, lots {lots}", report == (0, 0, 0, 4) and lent["places"][:3] == places, (report, lent["places"][:3]))
+    report, lent = place(K, STUDENT_TIE, EXACT)
+    check("equal marks of a student", report == (2, 11, 1, 0), report)
+    for lots, at in LOTS_WRONG:
+        report, lent = place(example_k(lots), K_BOOK, EXACT)
+        check(f"lots {lots}", report == (2, 13, at, 0), report)
     for name, length in LENGTHS_WRONG:
         report, lent = place(K, K_BOOK, {**EXACT, name: length})
         check(f"{name} short", report == (2, 6, 0, 0), report)
@@ -127,7 +144,10 @@ def test_stages(library, header):
     check("stages short", report == (2, 6, 0) and left[:4] == [0] * 4, (report, left[:4]))
     report, left = stages(K[:-1], 3)
     check("stages, a byte short", report == (2, 1, 0) and left[:4] == [0] * 4, (report, left[:4]))
-    turned = pack_case([(1, 1, 1), (2, 1, 1)], [(1, 1, 2), (2, 1, 2)], [(1, 1, 1, 1), (1, 2, 1, 2), (2, 1, 1, 2), (2, 2, 1, 1)])
+    for lots, at in LOTS_WRONG:
+        report, left = stages(example_k(lots), 3)
+        check(f"stages, lots {lots}", report == (2, 13, at) and left[:4] == [0] * 4, (report, left[:4]))
+    turned = pack_case([(1, 1, 1, 1), (2, 1, 1, 2)], [(1, 1, 2), (2, 1, 2)], [(1, 1, 1, 1), (1, 2, 1, 2), (2, 1, 1, 2), (2, 2, 1, 1)])
     report, left = stages(turned, 2)
     check("two students turned", report == (2, 12, 0) and left[:4] == [0] * 4, (report, left[:4]))
     report, left = stages(full_case(lambda s, w: 513 - s), 512)
@@ -137,8 +157,8 @@ def test_stages(library, header):
 
 
 def full_case(group):
-    """512 students, 64 workshops and all pairs; the workshops' groups are given by a function of student and workshop."""
-    return pack_case([(s, 1, 65) for s in range(1, 513)], [(w, 512, 513) for w in range(1, 65)],
+    """512 students, lots downward, 64 workshops and all pairs; the workshops' groups are given by a function of student and workshop."""
+    return pack_case([(s, 1, 65, 513 - s) for s in range(1, 513)], [(w, 512, 513) for w in range(1, 65)],
                      [(s, w, w, group(s, w)) for s in range(1, 513) for w in range(1, 65)])
 
 

@@ -21,7 +21,7 @@ ASSERT(offsetof(lgs_report, second) == 16 && offsetof(lgs_report, visits) == 24)
 ASSERT(LGS_PLACED == 0 && LGS_NEXT == 1 && LGS_REFUSED == 2);
 ASSERT(LGS_CASE_LENGTH == 1 && LGS_CASE_FORM == 2 && LGS_CASE_ORDER == 3 && LGS_CASE_COUNTS == 4);
 ASSERT(LGS_CASE_RANGE == 5 && LGS_SHORT_BUFFER == 6 && LGS_BOOK_LENGTH == 7 && LGS_BOOK_PAIR == 8);
-ASSERT(LGS_BOOK_MARK == 9 && LGS_BOOK_REPEATED == 10 && LGS_BOOK_TIE == 11);
+ASSERT(LGS_BOOK_MARK == 9 && LGS_BOOK_REPEATED == 10 && LGS_BOOK_TIE == 11 && LGS_CASE_LOT == 13);
 ASSERT(LGS_MOST_PLACES == 512 && LGS_MOST_STATES == 512 && LGS_MOST_SEATS == 64 * 512);
 
 ASSERT(sizeof(lgs_part_report) == 24);
@@ -41,8 +41,8 @@ lgs_part_report lgs_stages(const uint8_t *, size_t, uint16_t *, size_t);
 }
 #endif
 
-/* One student and one workshop, who have no pair. */
-static const uint8_t ALONE[32] = {1, 0, 1, 0, 9, 0, 1, 0, 0, 0, 0, 0, 0, 0, 0, 0, 2, 0, 1, 0, 1, 0, 1, 0, 0, 0, 0, 0, 0, 0, 0, 0};
+/* One student, with the lot 1, and one workshop, who have no pair. */
+static const uint8_t ALONE[32] = {1, 0, 1, 0, 9, 0, 1, 0, 1, 0, 0, 0, 0, 0, 0, 0, 2, 0, 1, 0, 1, 0, 1, 0, 0, 0, 0, 0, 0, 0, 0, 0};
 
 /* The stages of nothing at all, of one student, and of one student without room. */
 static int stages_called(void)

@@ -95,11 +95,11 @@ static void put(size_t record, unsigned kind, unsigned a, unsigned b, unsigned c
     }
 }
 
-/* 512 students, 64 workshops, all pairs; every workshop ranks student after student. */
+/* 512 students, each with her number as her lot, 64 workshops, all pairs; every workshop ranks student after student. */
 static void make_full_case(void)
 {
     for (unsigned s = 1; s <= STUDENTS; s++)
-        put(s - 1, 1, s, 1, 65, 0);
+        put(s - 1, 1, s, 1, 65, s);
     for (unsigned w = 1; w <= WORKSHOPS; w++)
         put(STUDENTS + w - 1, 2, w, 8, 513, 0);
     for (unsigned s = 1; s <= STUDENTS; s++)
@@ -107,7 +107,8 @@ static void make_full_case(void)
             put(STUDENTS + WORKSHOPS + WORKSHOPS * (s - 1) + w - 1, 3, s, w, 1, s);
 }
 
-/* The stack of lgs_stages at the largest size: a chain of 512, one class of all, two students turned, and a fault in the last record. */
+/* The stack of lgs_stages at the largest size: a chain of 512, one class of all, two students turned, a fault in the last record,
+ * and a lot twice. */
 static void measure_all_stages(void)
 {
     make_full_case();
@@ -125,6 +126,8 @@ static void measure_all_stages(void)
         full_case[16 * i + 9] = 0;
     }
     measure_stages("stages: all in one group", LGS_DONE, STUDENTS, 1);
+    put(STUDENTS - 1, 1, STUDENTS, 1, 65, STUDENTS - 1);
+    measure_stages("stages: a lot twice", LGS_REFUSED, LGS_CASE_LOT, 0);
 }
 
 /* All marks of one side, at this byte of each record, are 5. */
@@ -147,9 +150,11 @@ int main(int count, char **names)
     measure("equal marks of a student", LGS_REFUSED, LGS_BOOK_TIE);
     book_length = read_file(names[2], book_bytes);
     equal_marks(6);
-    measure("equal marks of a workshop", LGS_REFUSED, LGS_BOOK_TIE);
+    measure("equal marks of a workshop", LGS_PLACED, 0);
     book_length = 0;
     measure("an empty book", LGS_NEXT, 1);
+    case_bytes[16 + 8] = 0;
+    measure("a lot of 0", LGS_REFUSED, LGS_CASE_LOT);
     measure_all_stages();
     printf("%d passed, %d failed\n", passed, failed);
     return failed != 0;

@@ -1,4 +1,5 @@
-"""Tests of desk.py: example K to the byte, visits that end in never, years driven visit by visit, wrong inputs, a withdrawal, stages worked out.
+"""Tests of desk.py: example K to the byte, visits that end in never, lots drawn, equal marks parted by them, years driven visit by visit, wrong
+inputs, a withdrawal, stages worked out.
 
     python3 desk_tests.py DESK.PY PLACE STAGES
 """
@@ -53,15 +54,19 @@ def answers(name, given, wanted):
     check(name, given == wanted, f"{given}\nwanted {wanted}")
 
 
-def new_files():
-    """The four files of `desk.py new`."""
+def new_files(*options):
+    """The four files of `desk.py new`, with her number for each student's lot, and the lots that were drawn."""
     with tempfile.TemporaryDirectory() as folder:
-        answers("new", desk(folder, "new"), (0, NEW_SAYS, ""))
-        return read_all(folder)
+        answers("new", desk(folder, "new", *options), (0, NEW_SAYS, ""))
+        files, comma = read_all(folder), ";" if options else ","
+    rows = [row.rsplit(comma, 1) for row in files["students.csv"].decode("utf-8-sig").split("\r\n")]
+    drawn, numbered = [int(row[1]) for row in rows[1:-1]], [[row[0], str(n)] for n, row in enumerate(rows[1:-1], 1)]
+    files["students.csv"] = "\r\n".join(comma.join(row) for row in [rows[0], *numbered, rows[-1]]).encode("utf-8-sig")
+    return files, drawn
 
 
 NEW_FILES = {}
-NEW_SAYS = ("Wrote students.csv, workshops.csv, pairs.csv, visits.csv.\n"
+NEW_SAYS = ("Wrote students.csv, workshops.csv, pairs.csv, visits.csv. The lots are drawn at random.\n"
             "Put your own year in them with a spreadsheet, or try the example: python3 desk.py\n")
 
 
@@ -76,9 +81,9 @@ def in_new_folder(test):
 # ---------------------------------------------------------------- example K
 
 K_CASE = """
-01 00 01 00 01 00 02 00 00 00 00 00 00 00 00 00
-01 00 02 00 02 00 02 00 00 00 00 00 00 00 00 00
-01 00 03 00 02 00 02 00 00 00 00 00 00 00 00 00
+01 00 01 00 01 00 02 00 01 00 00 00 00 00 00 00
+01 00 02 00 02 00 02 00 02 00 00 00 00 00 00 00
+01 00 03 00 02 00 02 00 03 00 00 00 00 00 00 00
 02 00 01 00 01 00 03 00 00 00 00 00 00 00 00 00
 02 00 02 00 01 00 03 00 00 00 00 00 00 00 00 00
 03 00 01 00 01 00 01 00 01 00 00 00 00 00 00 00
@@ -137,7 +142,9 @@ def guide(folder):
     with open(os.path.join(os.path.dirname(DESK), "..", "docs", "GUIDE.md"), encoding="utf-8") as f:
         text = f.read()
     first = desk(folder)[1]
-    for file, content in (("pairs.csv", pairs("Ana Berg,Dye house,1,1\n\n\nBen Olsen,Weaving mill,two,2\nCarla Roth,Dye house,1,2\n\nCarla Roth,Dye house,1,2\n")),
+    show_lots(folder, text)
+    rows = "Ana Berg,Dye house,1,1\n\n\nBen Olsen,Weaving mill,two,2\nCarla Roth,Dye house,1,2\n\nCarla Roth,Dye house,1,2\n"
+    for file, content in (("pairs.csv", pairs(rows)),
                           ("visits.csv", VISIT_HEAD + "Anna Berg,Dye house,5,3\nAnna Berg,Weaving mill,5,4\n")):
         before = read(folder, file)
         write(folder, file, content)
@@ -153,6 +160,27 @@ def guide(folder):
         shows(text, shown)
     for visits in (K_VISITS[1:], NEVER_VISITS):
         check("the guide shows what is asked for", asked_after(visits) in text, asked_after(visits))
+
+
+def show_lots(folder, text):
+    """The guide's lots: what is told of them, with these drawn; and equal marks, with these and with two of them exchanged."""
+    before = read_all(folder)
+    write(folder, "students.csv", K_STUDENTS.format("", "", ""))
+    shows(text, drawing(GUIDE_LOTS, folder)[1])
+    check("the guide's lots are written", read(folder, "students.csv") == K_STUDENTS.format(*GUIDE_LOTS).encode())
+    check("the guide's table has these lots", all(f"| {name} | {stage} | 2 | {lot} |\n" in text for name, stage, lot in zip(K_NAMES, "122", GUIDE_LOTS)))
+    shows(text, drawing([], folder)[1])
+    add_visits(folder, EQUAL_VISITS)
+    answers("equal marks in the guide", desk(folder), (0, K_PLACED, ""))
+    write(folder, "students.csv", K_STUDENTS.format(GUIDE_LOTS[0], GUIDE_LOTS[2], GUIDE_LOTS[1]))
+    answers("equal marks in the guide, lots exchanged", desk(folder), (0, BEN_PLACED, ""))
+    shows(text, BEN_PLACED)
+    write(folder, "students.csv", "student,stage,line group\nAnna Berg,1,2\n")
+    shows(text, desk(folder)[2])
+    write(folder, "students.csv", K_STUDENTS.format(250, 250, 7))
+    shows(text, desk(folder)[2])
+    for name, data in before.items():
+        write(folder, name, data)
 
 
 def asked_after(visits):
@@ -237,12 +265,251 @@ def nevers_of_a_workshop(folder):
           and "\nDye house, 0 of 1: nobody\n" in out and out.endswith("\nVisits held for it: 4.\n"), out + err)
 
 
+# ---------------------------------------------------------------- lots
+
+K_NAMES = ("Anna Berg", "Ben Olsen", "Carla Roth")
+K_STUDENTS = "student,stage,line group,lot\nAnna Berg,1,2,{}\nBen Olsen,2,2,{}\nCarla Roth,2,2,{}\n"
+GUIDE_LOTS = (31, 250, 7)
+EQUAL_VISITS = K_VISITS[:3] + [("Carla Roth", "Weaving mill", 4, 1)]    # the mill gives Ben and Carla the same mark
+BEN_PLACED = """The placement is finished.
+
+  Anna Berg   Dye house
+  Ben Olsen   Weaving mill
+  Carla Roth  no place
+
+Dye house, 1 of 1: Anna Berg
+Weaving mill, 1 of 1: Ben Olsen
+
+Visits held for it: 4.
+"""
+LOTS_WROTE = """
+Wrote them in students.csv: {} changed, all else is as it was.
+A spreadsheet that still shows students.csv shows the old lots: open the file again there before you change it.
+Keep this list: lots are drawn once for a year.
+"""
+LOTS_THERE = "\nEvery student in students.csv has a lot. Nothing was written.\n"
+LOT_TWICE = '{} has the lot {}, and so has {} in row {}. Empty the wrong cell; "python3 desk.py lots" draws another.'
+NO_LOT = ('students.csv, row 1: the column "lot" is missing. The headings are student, stage, line group; needed are student, stage, line group, lot.\n'
+          '"python3 desk.py lots" adds it and draws a lot for each student.\n')
+
+# Ways to write students.csv without lots, and with the lots 9, 8 and 7 drawn in this order: name, before, after.
+LOTS_KEPT = [
+    ("a column without lots", "student,stage,line group,lot\nAnna Berg,1,2,\nBen Olsen,2,2, \nCarla Roth,2,2,\n",
+     "student,stage,line group,lot\nAnna Berg,1,2,9\nBen Olsen,2,2,8\nCarla Roth,2,2,7\n"),
+    ("a lot that is there", "student,stage,line group,lot\nAnna Berg,1,2,\nBen Olsen,2,2, 300\nCarla Roth,2,2,\n",
+     "student,stage,line group,lot\nAnna Berg,1,2,9\nBen Olsen,2,2, 300\nCarla Roth,2,2,8\n"),
+    ("no column", "student,stage,line group\nAnna Berg,1,2\nBen Olsen,2,2\nCarla Roth,2,2\n",
+     "student,stage,line group,lot\nAnna Berg,1,2,9\nBen Olsen,2,2,8\nCarla Roth,2,2,7\n"),
+    ("no column, semicolons, CRLF, a byte order mark, no line end", "\ufeffstudent;stage;line group\r\nAnna Berg;1;2\r\nBen Olsen;2;2\r\nCarla Roth;2;2",
+     "\ufeffstudent;stage;line group;lot\r\nAnna Berg;1;2;9\r\nBen Olsen;2;2;8\r\nCarla Roth;2;2;7"),
+    ("no column, short and long rows, empty rows, quotation marks",
+     '"student"\tline group\tstage\t"note, x"\n"Anna Berg"\t2\t1\n\n\t\t\nBen Olsen\t2\t2\t"a\tb\nc"\t\t\r\nCarla Roth\t2\t2\t\n',
+     '"student"\tline group\tstage\t"note, x"\tlot\n"Anna Berg"\t2\t1\t\t9\n\n\t\t\nBen Olsen\t2\t2\t"a\tb\nc"\t8\t\r\nCarla Roth\t2\t2\t\t7\n'),
+    ("names alone", "note,student\nx,Anna Berg\n,Ben Olsen\n,Carla Roth\n", "note,student,lot\nx,Anna Berg,9\n,Ben Olsen,8\n,Carla Roth,7\n"),
+    ("the first column, in quotation marks", '"Lot","student"\n"","Anna Berg"\n"","Ben Olsen"\n" ","Carla Roth"\n',
+     '"Lot","student"\n"9","Anna Berg"\n"8","Ben Olsen"\n"7","Carla Roth"\n'),
+    ("wrong stages and line groups", "student,stage,line group,lot\nAnna Berg,,x,\nBen Olsen,0,,\nCarla Roth,one,99,\n",
+     "student,stage,line group,lot\nAnna Berg,,x,9\nBen Olsen,0,,8\nCarla Roth,one,99,7\n"),
+]
+
+# Lots that are refused, by every command: the three cells, and the messages without the file's name.
+WRONG_LOTS = [
+    (("1", "0", "3"), ['row 3, column "lot": "0" is there; it must be a whole number from 1 to 512.']),
+    (("513", "2", "-3"), ['row 2, column "lot": "513" is there; it must be a whole number from 1 to 512.',
+                          'row 4, column "lot": "-3" is there; it must be a whole number from 1 to 512.']),
+    (("1", "two", "2.5"), ['row 3, column "lot": "two" is there; it must be a whole number from 1 to 512.',
+                           'row 4, column "lot": "2.5" is there; it must be a whole number from 1 to 512.']),
+    (("5", "6", "05"), ['row 4, column "lot": ' + LOT_TWICE.format("Carla Roth", 5, "Anna Berg", 2)]),
+    (("7", "7", "7"), ['row 3, column "lot": ' + LOT_TWICE.format("Ben Olsen", 7, "Anna Berg", 2),
+                       'row 4, column "lot": ' + LOT_TWICE.format("Carla Roth", 7, "Anna Berg", 2)]),
+    (("0", "0", "never"), ['row 2, column "lot": "0" is there; it must be a whole number from 1 to 512.',
+                           'row 3, column "lot": "0" is there; it must be a whole number from 1 to 512.',
+                           'row 4, column "lot": "never" is there; it must be a whole number from 1 to 512.']),
+]
+
+
+def drawing(lots, folder):
+    """`desk.py lots`, which draws these: only the chance is taken away."""
+    module = InProcess().module
+    before, module.draw_lots = module.draw_lots, lambda count, used=(): list(lots[:count])
+    try:
+        return InProcess().run(folder, "lots")
+    finally:
+        module.draw_lots = before
+
+
+def lots_in(folder, comma=","):
+    """The lots in students.csv, whose column is the last one; None for an empty cell."""
+    rows = read(folder, "students.csv").decode("utf-8-sig").split("\n")[1:-1]
+    cells = [row.rsplit(comma, 1)[1].strip() for row in rows]
+    return [int(cell) if cell else None for cell in cells]
+
+
+def are_lots(lots, count):
+    return len(lots) == count == len(set(lots)) and all(1 <= lot <= 512 for lot in lots)
+
+
+def lots_of_new():
+    """Lots of the example are drawn, and the rest of it is the same each time."""
+    drawn = []
+    for options in ((), ("--semicolon",)) * 4:
+        files, lots = new_files(*options)
+        drawn.append(tuple(lots))
+        check("new: lots", are_lots(lots, 3), str(lots))
+        check("new: all else", {name: data.replace(b";", b",") for name, data in files.items()} == NEW_FILES, str(files))
+    check("new: other lots each time", len(set(drawn)) > 1, str(drawn))
+
+
+def draws():
+    """All of 1 to 512 can be drawn, about as often; none that is used; and a student who draws later comes first about as often as others."""
+    draw = InProcess().module.draw_lots
+    check("draw all", are_lots(draw(512), 512))
+    check("draw the last one", draw(1, set(range(1, 513)) - {77}) == [77] and draw(0, set(range(1, 513))) == [] and draw(0) == [])
+    check("a lot of None is not used", are_lots(draw(512, {None}), 512))
+    rest = draw(256, set(range(1, 513, 2)))
+    check("draw the rest", sorted(rest) == list(range(2, 513, 2)) and rest != sorted(rest))
+    count = [0] * 513
+    for lot in (lot for _ in range(2000) for lot in draw(64)):
+        count[lot] += 1
+    check("every lot is drawn", min(count[1:]) > 150 and max(count) < 350, str(count))
+    lower = sum(draw(1, set(first))[0] < min(first) for first in (draw(3) for _ in range(4000)))
+    check("who draws later", 850 < lower < 1150, str(lower))
+
+
+def lots_drawn(folder):
+    """A lot for each, kept the second time; further students get one, and nobody else's changes."""
+    write(folder, "students.csv", K_STUDENTS.format("", "", ""))
+    others = {name: data for name, data in read_all(folder).items() if name != "students.csv"}
+    status, out, err = desk(folder, "lots")
+    first = lots_in(folder)
+    listed = "".join(f"  {lot:3}  {name} (drawn)\n" for lot, name in sorted(zip(first, K_NAMES)))
+    answers("lots", (status, out, err), (0, "The lots, the lowest first:\n" + listed + LOTS_WROTE.format("3 cells"), ""))
+    check("lots: drawn", are_lots(first, 3) and read(folder, "students.csv") == K_STUDENTS.format(*first).encode(), str(first))
+    answers("lots again", desk(folder, "lots"), (0, "The lots, the lowest first:\n" + listed.replace(" (drawn)", "") + LOTS_THERE, ""))
+    check("lots again: kept", lots_in(folder) == first)
+    check("lots: the year can begin", desk(folder)[1].startswith("Next visit: Anna Berg goes to Dye house.\n"), str(desk(folder)))
+    check("lots in the case", [struct.unpack_from("<H", read(folder, "case.dat"), 16 * n + 8)[0] for n in range(3)] == first)
+    add(folder, "students.csv", "Dora Lund,1,2,\n")
+    status, out, err = desk(folder, "lots")
+    check("a lot more", status == 0 and LOTS_WROTE.format("1 cell") in out and out.count("(drawn)") == 1 and "  Dora Lund (drawn)\n" in out, out + err)
+    check("a lot more: the others'", are_lots(lots_in(folder), 4) and lots_in(folder)[:3] == first, str(lots_in(folder)))
+    check("lots: other files", all(read(folder, name) == data for name, data in others.items()))
+
+
+def lots_of_many(folder):
+    """512 students use every lot. Where some have one already, the rest is drawn."""
+    draw = random.Random(7)
+    for kept in (0, 1, 300, 511):
+        have = dict(zip(draw.sample(range(512), kept), draw.sample(range(1, 513), kept)))
+        write(folder, "students.csv", "student,lot\n" + "".join(f"S{n},{have.get(n, '')}\n" for n in range(512)))
+        status, out, err = desk(folder, "lots")
+        found = lots_in(folder)
+        check(f"512 students, {kept} with lots", status == 0 and sorted(found) == list(range(1, 513)) and found != sorted(found), out[-300:] + err)
+        check(f"512 students, {kept} with lots: kept", all(found[n] == lot for n, lot in have.items()))
+        before = read_all(folder)
+        check(f"512 students, {kept} with lots: again", desk(folder, "lots")[1].endswith(LOTS_THERE) and read_all(folder) == before)
+    write(folder, "students.csv", "student,lot\n" + "".join(f"S{n},\n" for n in range(513)))
+    answers("lots for 513 students", desk(folder, "lots"), (1, "", f"students.csv, row 514: there are 513 rows; 512 is the most.{END}"))
+
+
+def lots_kept(folder):
+    """Nothing but the lots changes, whatever the table looks like; only names are needed in it."""
+    for name in ("workshops.csv", "pairs.csv", "visits.csv"):
+        os.remove(os.path.join(folder, name))
+    for name, before, after in LOTS_KEPT:
+        write(folder, "students.csv", before)
+        status, out, err = drawing([9, 8, 7], folder)
+        there = read(folder, "students.csv")
+        check(f"{name}: lots", status == 0 and there == after.encode(), f"{there}\nwanted {after.encode()}\n{err}")
+        check(f"{name}: told", ('students.csv: the column "lot" was added, ' in out) == ("lot" not in before.lower()) and " (drawn)\n" in out, out)
+        status, out, err = desk(folder, "lots")
+        check(f"{name}: the second time", status == 0 and out.endswith(LOTS_THERE) and read(folder, "students.csv") == after.encode(), out + err)
+
+
+def wrong_lots(folder):
+    """Lots that are missing, no numbers, out of range or used twice: told by each command, and nothing is written."""
+    for cells, messages in WRONG_LOTS:
+        write(folder, "students.csv", K_STUDENTS.format(*cells))
+        refused_everywhere(folder, f"lots {cells}", "".join(f"students.csv, {message}\n" for message in messages)[:-1] + END)
+    write(folder, "students.csv", K_STUDENTS.format("4", "", "4"))
+    twice = 'students.csv, row 4, column "lot": ' + LOT_TWICE.format("Carla Roth", 4, "Anna Berg", 2) + END
+    empty = 'students.csv, row 3, column "lot": the cell is empty; it must be a whole number from 1 to 512. "python3 desk.py lots" draws it.\n'
+    refused_everywhere(folder, "a lot missing and a lot twice", empty + twice, lots=twice)
+    write(folder, "students.csv", "student,stage,line group\nAnna Berg,1,2\n")
+    for words in ((), ("stages",)):
+        answers(f"no lots {words}", desk(folder, *words), (1, "", NO_LOT))
+    for name, content, message in (
+            ("the column twice", "student,lot,lot\nAnna Berg,1,\n",
+             'students.csv, row 1: the column "lot" is there twice. The headings are student, lot, lot; needed are student, stage, line group, lot.\n'),
+            ("no names", "stage,lot\n1,\n",
+             'students.csv, row 1: the column "student" is missing. The headings are stage, lot; needed are student, stage, line group, lot.\n'),
+            ("a name twice", "student,lot\nAnna,\n\nAnna,\n", 'students.csv, row 4, column "student": "Anna" stands in row 2 already. '
+             f"Two of the same name need something to tell them apart.{END}"),
+            ("a cell too many", "student,lot\nAnna,1,2\n",
+             f"students.csv, row 2: there are more cells than headings. A name with a comma or semicolon in it needs quotation marks around it.{END}"),
+            ("nobody", "student,lot\n", f'students.csv, row 2, column "student": there is nobody. At least one row is needed below the headings.{END}')):
+        write(folder, "students.csv", content)
+        answers(f"lots, {name}", desk(folder, "lots"), (1, "", message))
+        check(f"lots, {name}: nothing is written", read(folder, "students.csv") == content.encode())
+
+
+def refused_everywhere(folder, name, message, lots=None):
+    before = read_all(folder)
+    for words in ((), ("stages",), ("lots",)):
+        answers(f"{name} {words}", desk(folder, *words), (1, "", lots if lots and words == ("lots",) else message))
+    check(f"{name}: nothing is written", read_all(folder) == before)
+
+
+def writing_lots(folder):
+    """A spreadsheet that is open, a protected file, no room; a lot is never told that is not written."""
+    blank, lock, path = K_STUDENTS.format("", "", ""), ".~lock.students.csv#", os.path.join(folder, "students.csv")
+    write(folder, "students.csv", blank)
+    write(folder, lock, "")
+    answers("lots, open in a spreadsheet", desk(folder, "lots"), (1, "", OPEN))
+    os.remove(os.path.join(folder, lock))
+    small_files = lambda: resource.setrlimit(resource.RLIMIT_FSIZE, (50, 50))
+    answers("lots, no room", desk(folder, "lots", first=small_files), (1, "", "students.csv cannot be written in this folder: File too large.\n"))
+    os.chmod(path, 0o444)
+    answers("lots, a protected file", desk(folder, "lots"), (1, "", "students.csv is protected against writing. Nothing was written.\n"))
+    check("lots: nothing is written", read(folder, "students.csv") == blank.encode() and len(os.listdir(folder)) == 4, str(os.listdir(folder)))
+    os.chmod(path, 0o640)
+    check("lots: written", desk(folder, "lots")[0] == 0 and are_lots(lots_in(folder), 3) and stat.S_IMODE(os.stat(path).st_mode) == 0o640)
+
+
+# Marks of a workshop that are equal: name, the three lots, the visits, and the workshop of each student ("" for no place).
+EQUAL = [
+    ("the lots as the numbers", (1, 2, 3), EQUAL_VISITS, ("Dye house", "Weaving mill", "")),
+    ("the lots exchanged", (1, 3, 2), EQUAL_VISITS, ("Dye house", "", "Weaving mill")),
+    ("gaps between the lots", (500, 256, 255), EQUAL_VISITS, ("Dye house", "", "Weaving mill")),
+    ("the lowest lot without a part in it", (1, 511, 512), EQUAL_VISITS, ("Dye house", "Weaving mill", "")),
+    ("a better mark with a higher lot", (1, 2, 3), K_VISITS, ("Dye house", "", "Weaving mill")),
+    ("a better group with a higher lot", (3, 1, 2), [(s, w, a, 3) for s, w, a, _ in K_VISITS], ("Dye house", "Weaving mill", "")),
+]
+
+
+def equal_marks(folder):
+    """A workshop's equal marks in one group are accepted, in any order of the rows, and the lower lot has the seat."""
+    before = read(folder, "visits.csv")
+    for name, lots, visits, places in EQUAL:
+        write(folder, "students.csv", K_STUDENTS.format(*lots))
+        for rows in (visits, visits[::-1]):
+            write(folder, "visits.csv", before)
+            add_visits(folder, rows)
+            status, out, err = desk(folder)
+            wanted = "".join(f"  {student:10}  {place or 'no place'}\n" for student, place in zip(K_NAMES, places))
+            check(f"equal marks, {name}", status == 0 and out.startswith(f"The placement is finished.\n\n{wanted}\n"), out + err)
+    write(folder, "visits.csv", before)
+    write(folder, "students.csv", K_STUDENTS.format(*GUIDE_LOTS))
+    hold_visits(folder, "equal marks", EQUAL_VISITS)
+    answers("equal marks held one after the other", desk(folder), (0, K_PLACED, ""))
+
+
 # ---------------------------------------------------------------- other ways to write the tables, other years
 
 
 def other_spellings(folder):
     """Semicolons, quotes, no byte order mark, other column order, other columns, empty rows, blanks, rows in any order."""
-    write(folder, "students.csv", '"Stage";"STUDENT";phone;"Line group"\n1;"Anna  Berg";;2\n2; Ben Olsen ;7;2\n\n"2";"Carla Roth";"8";"2"\n;;;\n')
+    write(folder, "students.csv", 'LOT;"Stage";"STUDENT";phone;"Line group"\n1;1;"Anna  Berg";;2\n+2;2; Ben Olsen ;7;2\n\n"03";"2";"Carla Roth";"8";"2"\n;;;\n')
     pairs = read(folder, "pairs.csv").decode("utf-8-sig").split("\r\n")
     write(folder, "pairs.csv", "\n".join([pairs[0]] + pairs[:0:-1]))
     write(folder, "visits.csv", "student\tworkshop\tmark from student\tmark from workshop\n"
@@ -278,7 +545,7 @@ WORKS_OUT = '"python3 desk.py stages" works out stages that agree, if there are 
 
 
 def stages_note(folder):
-    write(folder, "students.csv", "student,stage,line group\nAnna Berg,2,2\nBen Olsen,1,2\nCarla Roth,1,2\n")
+    write(folder, "students.csv", students("Anna Berg,2,2\nBen Olsen,1,2\nCarla Roth,1,2\n"))
     status, out, err = desk(folder)
     check("a note on the stages", "  Dye house: Anna Berg and Ben Olsen\n  Weaving mill: Anna Berg and Ben Olsen\n" + WORKS_OUT in out, out + err)
     desk(folder, "stages")
@@ -295,6 +562,7 @@ def withdrawal(folder):
     status, out, err = desk(folder)
     check("a student withdrawn", "  Anna Berg   Dye house\n  Carla Roth  Weaving mill\n" in out and "Visits held for it: 3." in out, out + err)
     check("without gaps", read(folder, "book.dat")[-8:] == bytes.fromhex("02 00 02 00 04 00 06 00"))
+    check("with her lot", read(folder, "case.dat")[16:32] == bytes.fromhex("01 00 02 00 02 00 02 00 03 00 00 00 00 00 00 00"))
     write(folder, "workshops.csv", "workshop,quota,line group\nDye house,0,3\nWeaving mill,1,3\n")
     status, out, err = desk(folder)
     check("a workshop with quota 0", "  Anna Berg   Weaving mill\n  Carla Roth  no place\n" in out, out + err)
@@ -307,30 +575,44 @@ NEVER_MARKS = [("never", ""), ("", "never"), ("-1000", "Never")]
 
 
 class HiddenYear:
-    """Full orders that nobody sees but through groups and marks. `None` is no place. `share` is how many of the pairs are never."""
+    """Full orders that nobody sees but through groups, marks and lots. `None` is no place. `share` is how many of the pairs are never; with `equal`
+    the workshops have few marks, and give the same to many."""
 
-    def __init__(self, seed, share, stages=3, met=0.5, students=100, workshops=20):
+    def __init__(self, seed, share, stages=3, met=0.5, students=100, workshops=20, equal=False):
         draw = random.Random(seed)
         self.stage = {f'Berg, Åse "{n}"' if n % 7 == 0 else f"Student {n}": draw.randint(1, stages) for n in range(1, students + 1)}
         self.quota = {f"Werkstatt; {n}" if n % 5 == 0 else f"Workshop {n}": draw.randint(0, 7) for n in range(1, workshops + 1)}
         self.couples = {(s, w): None for s in self.stage for w in self.quota if draw.random() < met}
-        self.order, self.group, self.line = {}, {}, {}
+        self.lot = dict(zip(self.stage, random.Random(f"lots {seed}").sample(range(1, 513), students)))
+        self.given, self.group, self.line = {}, {}, {}
         for s in self.stage:
             self.rank(draw, s, [w for w in self.quota if (s, w) in self.couples], lambda w: draw.randint(1, 4), draw.randint(2, 5))
         for w in self.quota:
-            self.rank(draw, w, [s for s in self.stage if (s, w) in self.couples], lambda s: self.stage[s], draw.randint(stages, stages + 1))
+            self.rank(draw, w, [s for s in self.stage if (s, w) in self.couples], lambda s: self.stage[s], draw.randint(stages, stages + 1), 30 if equal else 1)
+        self.order = self.orders()
         self.couples = list(self.couples)
         draw.shuffle(self.couples)
         self.never = {couple: draw.choice(NEVER_MARKS) for couple in self.couples if draw.random() < share}
 
-    def rank(self, draw, who, options, group_of, line):
-        """Groups for all options, and an order of them and None that keeps the groups."""
+    def rank(self, draw, who, options, group_of, line, step=1):
+        """Groups and marks for all options. Higher is better, and 0 is where None stands; `step` marks that follow each other become one."""
         self.line[who] = line
         for other in options:
             self.group[who, other] = group_of(other)
         all_options = options + [None]
         draw.shuffle(all_options)
-        self.order[who] = sorted(all_options, key=lambda other: line if other is None else self.group[who, other])
+        for at, other in enumerate(all_options):
+            mark = 3 * (all_options.index(None) - at)
+            self.given[who, other] = -(-mark // step) if mark > 0 else mark // step
+
+    def orders(self):
+        """By group, then by mark, and then by the lower lot, which only students have."""
+        order = {}
+        for who, other in self.given:
+            order.setdefault(who, []).append(other)
+        group = lambda who, other: self.line[who] if other is None else self.group[who, other]
+        key = lambda who: lambda other: (group(who, other), -self.given[who, other], self.lot.get(other, 0))
+        return {who: sorted(others, key=key(who)) for who, others in order.items()}
 
     def tables(self):
         """The groups that count for the stages: of each workshop with quota above 0, for those not above its line group."""
@@ -338,12 +620,7 @@ class HiddenYear:
 
     def marks(self, s, w):
         """What is written after their visit: each mark, or never instead."""
-        return [never or self.mark(*who) for never, who in zip(self.never.get((s, w), ("", "")), ((s, w), (w, s)))]
-
-    def mark(self, who, other):
-        """Higher is better; 0 is where None stands."""
-        order = self.order[who]
-        return 3 * (order.index(None) - order.index(other))
+        return [never or self.given[who] for never, who in zip(self.never.get((s, w), ("", "")), ((s, w), (w, s)))]
 
     def prefers(self, who, one, two):
         return self.order[who].index(one) < self.order[who].index(two)
@@ -385,7 +662,8 @@ def csv_text(rows):
 
 
 def write_students(folder, year, stage):
-    write(folder, "students.csv", "\ufeff" + csv_text([("student", "stage", "line group")] + [(s, stage[s], year.line[s]) for s in year.stage]))
+    write(folder, "students.csv", "\ufeff" + csv_text([("student", "stage", "line group", "lot")]
+                                                       + [(s, stage[s], year.line[s], year.lot[s]) for s in year.stage]))
 
 
 def write_year(folder, year):
@@ -438,6 +716,7 @@ def whole_year(seed, share, prepare=lambda folder, year: None, **shape):
         place = placed_by(out, year)
         check(f"year {seed} is stable", year.stable(place), out)
         check(f"year {seed} is the best for the students", place == year.best_for_students(), out)
+        check(f"year {seed}: whether lots decide", lots_decide(year) == shape.get("equal", False))
         check(f"year {seed} holds only visits that were called for", f"Visits held for it: {len(held)}.\n" in out, out)
         check(f"year {seed}: the stages agree", "Note" not in out, out)
         status, again, err = desk(folder)
@@ -449,6 +728,13 @@ def whole_year(seed, share, prepare=lambda folder, year: None, **shape):
         check(f"year {seed} meets all kinds of never", len(met) == (len(NEVER_MARKS) if share else 0), str(met))
         print(f"year {seed}: {len(held)} of {len(year.couples)} pairs visited, {len(ended)} ended in never, "
               f"{sum(w is not None for w in place.values())} of {len(place)} placed")
+
+
+def lots_decide(year):
+    """With the lots the other way round another placement is the best."""
+    before, year.lot = year.best_for_students(), {s: 513 - lot for s, lot in year.lot.items()}
+    year.order = year.orders()
+    return year.best_for_students() != before
 
 
 class InProcess:
@@ -464,7 +750,9 @@ class InProcess:
         before = os.getcwd()
         os.chdir(folder)
         try:
-            lines = self.module.answer(PLACE, False) if command == "answer" else self.module.work_out_stages(STAGES)
+            commands = {"answer": lambda: self.module.answer(PLACE, False), "stages": lambda: self.module.work_out_stages(STAGES),
+                        "lots": self.module.fill_in_lots}
+            lines = commands[command]()
             return 0, "\n".join(lines) + "\n", ""
         except self.module.Stop as stop:
             return 1, "", str(stop)
@@ -482,7 +770,9 @@ MARK = f"{RANGE} -1000 to 1000, and not 0, or the word never."
 
 
 def students(rows):
-    return "student,stage,line group\n" + rows
+    """A table of these rows, each with a lot, from 1 up."""
+    lots = iter(range(1, 1000))
+    return "student,stage,line group,lot\n" + "".join(f"{row},{next(lots)}\n" if row else "\n" for row in rows.split("\n")[:-1])
 
 
 def pairs(rows):
@@ -491,13 +781,20 @@ def pairs(rows):
 
 # Name, file, its content, the message.
 WRONG = [
-    ("not UTF-8", "students.csv", students("Anna,1,2\n").encode() + b"J\xf6rg,1,2\n",
+    ("not UTF-8", "students.csv", students("Anna,1,2\n").encode() + b"J\xf6rg,1,2,2\n",
      'students.csv, row 3: a letter is not stored as UTF-8. Save the file again as "CSV UTF-8".\n'),
-    ("an empty file", "students.csv", "", "students.csv, row 1: the headings are missing: student, stage, line group.\n"),
-    ("a heading missing", "students.csv", "student;line group\nAnna;2\n",
-     'students.csv, row 1: the column "stage" is missing. The headings are student, line group; needed are student, stage, line group.\n'),
-    ("a heading twice", "students.csv", "student,stage,stage,line group\nAnna,1,1,2\n",
-     'students.csv, row 1: the column "stage" is there twice. The headings are student, stage, stage, line group; needed are student, stage, line group.\n'),
+    ("an empty file", "students.csv", "", "students.csv, row 1: the headings are missing: student, stage, line group, lot.\n"),
+    ("a heading missing", "students.csv", "student;line group;lot\nAnna;2;1\n",
+     'students.csv, row 1: the column "stage" is missing. The headings are student, line group, lot; needed are student, stage, line group, lot.\n'),
+    ("a heading twice", "students.csv", "student,stage,stage,line group,lot\nAnna,1,1,2,1\n",
+     'students.csv, row 1: the column "stage" is there twice. The headings are student, stage, stage, line group, lot; '
+     "needed are student, stage, line group, lot.\n"),
+    ("no lots", "students.csv", "student,stage,line group\nAnna,1,2\n", NO_LOT),
+    ("an empty lot", "students.csv", K_STUDENTS.format(1, "", 3),
+     f'students.csv, row 3, column "lot": the cell is empty; {RANGE} 1 to 512. "python3 desk.py lots" draws it.{END}'),
+    ("a lot of 513 and a lot twice", "students.csv", K_STUDENTS.format(2, 513, 2),
+     f'students.csv, row 3, column "lot": "513" is there; {RANGE} 1 to 512.\n'
+     f'students.csv, row 4, column "lot": {LOT_TWICE.format("Carla Roth", 2, "Anna Berg", 2)}{END}'),
     ("an empty cell", "students.csv", students("Anna,,2\n"),
      f'students.csv, row 2, column "stage": the cell is empty; {RANGE} 1 to 512. "python3 desk.py stages" works it out.{END}'),
     ("a stage of 0", "students.csv", students("Anna,0,2\n"), f'students.csv, row 2, column "stage": "0" is there; {RANGE} 1 to 512.{END}'),
@@ -512,7 +809,7 @@ WRONG = [
     ("no students", "students.csv", students(""),
      f'students.csv, row 2, column "student": there is nobody. At least one row is needed below the headings.{END}'),
     ("513 students", "students.csv", students("".join(f"S{n},1,2\n" for n in range(513))),
-     f"students.csv, row 514: there are 513 rows; 512 is the most.{END}"),
+     f'students.csv, row 514: there are 513 rows; 512 is the most.\nstudents.csv, row 514, column "lot": "513" is there; {RANGE} 1 to 512.{END}'),
     ("65 workshops", "workshops.csv", "workshop,quota,line group\n" + "".join(f"W{n},1,2\n" for n in range(65)),
      f"workshops.csv, row 66: there are 65 rows; 64 is the most.{END}"),
     ("a quota of 513", "workshops.csv", "workshop,quota,line group\nDye house,513,3\n",
@@ -566,27 +863,32 @@ WRONG = [
      f"visits.csv, row 4: Anna Berg and Dye house stand in row 2 already.{END}"),
 ]
 
+SAME_MARK = "a student gave the same mark twice in one group. Ask her which of the two is better, and change one mark."
+
 # Refusals of the engine: name, visits.csv, the message.
 REFUSED = [
-    ("equal marks in two groups", VISIT_HEAD + "Anna Berg,Dye house,5,3\nCarla Roth,Dye house,5,3\nBen Olsen,Dye house,1,3\n",
-     "visits.csv, row 4: one person gave the same mark twice in one group. Ask which of the two is better, and change one mark.\n"
-     '  Dye house gave 3 in row 3 too, column "mark from workshop".\n'),
     ("a student's mark twice", VISIT_HEAD + "Anna Berg,Dye house,5,3\nAnna Berg,Weaving mill,5,4\n",
-     "visits.csv, row 3: one person gave the same mark twice in one group. Ask which of the two is better, and change one mark.\n"
-     '  Anna Berg gave 5 in row 2 too, column "mark from student".\n'),
-    ("a workshop's mark twice", VISIT_HEAD + "Carla Roth,Dye house,5,3\n\nBen Olsen,Dye house,1,3\n",
-     "visits.csv, row 4: one person gave the same mark twice in one group. Ask which of the two is better, and change one mark.\n"
-     '  Dye house gave 3 in row 2 too, column "mark from workshop".\n'),
-    ("an equal mark where the earlier visit ended in never", VISIT_HEAD + "Ben Olsen,Dye house,never,3\nCarla Roth,Dye house,5,3\n",
-     "visits.csv, row 3: one person gave the same mark twice in one group. Ask which of the two is better, and change one mark.\n"
-     '  Dye house gave 3 in row 2 too, column "mark from workshop".\n'),
-    ("an equal mark beside a second never",
-     VISIT_HEAD + "Ben Olsen,Dye house,never,4\nCarla Roth,Weaving mill,2,1\nBen Olsen,Weaving mill,never,1\n",
-     "visits.csv, row 4: one person gave the same mark twice in one group. Ask which of the two is better, and change one mark.\n"
-     '  Weaving mill gave 1 in row 3 too, column "mark from workshop".\n'),
+     f"visits.csv, row 3: {SAME_MARK}\n" '  Anna Berg gave 5 in row 2 too, column "mark from student".\n'),
+    ("a student's mark twice, between others", VISIT_HEAD + "Ben Olsen,Dye house,5,3\n\nAnna Berg,Dye house,5,3\nBen Olsen,Weaving mill,5,3\n",
+     f"visits.csv, row 5: {SAME_MARK}\n" '  Ben Olsen gave 5 in row 2 too, column "mark from student".\n'),
+    ("a student's mark and a workshop's mark twice", VISIT_HEAD + "Ben Olsen,Dye house,5,3\nCarla Roth,Weaving mill,5,3\nBen Olsen,Weaving mill,5,3\n",
+     f"visits.csv, row 4: {SAME_MARK}\n" '  Ben Olsen gave 5 in row 2 too, column "mark from student".\n'),
+    ("an equal mark where the earlier visit ended in never", VISIT_HEAD + "Ben Olsen,Dye house,5,never\nBen Olsen,Weaving mill,5,3\n",
+     f"visits.csv, row 3: {SAME_MARK}\n" '  Ben Olsen gave 5 in row 2 too, column "mark from student".\n'),
+    ("an equal mark beside a never", VISIT_HEAD + "Ben Olsen,Dye house,4,1\nCarla Roth,Weaving mill,4,1\nBen Olsen,Weaving mill,4,never\n",
+     f"visits.csv, row 4: {SAME_MARK}\n" '  Ben Olsen gave 4 in row 2 too, column "mark from student".\n'),
     ("-999 twice", VISIT_HEAD + "Anna Berg,Dye house,-999,3\nAnna Berg,Weaving mill,-999,4\n",
-     "visits.csv, row 3: one person gave the same mark twice in one group. Ask which of the two is better, and change one mark.\n"
-     '  Anna Berg gave -999 in row 2 too, column "mark from student".\n'),
+     f"visits.csv, row 3: {SAME_MARK}\n" '  Anna Berg gave -999 in row 2 too, column "mark from student".\n'),
+]
+
+# Equal marks that are fine: name, visits.csv.
+ACCEPTED = [
+    ("a workshop's mark twice in one group", VISIT_HEAD + "Carla Roth,Dye house,5,3\n\nBen Olsen,Dye house,1,3\n"),
+    ("a workshop's mark three times, in two groups", VISIT_HEAD + "Anna Berg,Dye house,5,3\nCarla Roth,Dye house,5,3\nBen Olsen,Dye house,1,3\n"),
+    ("a workshop's mark twice, one visit ended in never", VISIT_HEAD + "Ben Olsen,Dye house,never,3\nCarla Roth,Dye house,5,3\n"),
+    ("a workshop's -999 twice", VISIT_HEAD + "Ben Olsen,Dye house,2,-999\nCarla Roth,Dye house,5,-999\n"),
+    ("a student's mark twice, in two groups", VISIT_HEAD + "Carla Roth,Dye house,5,3\nCarla Roth,Weaving mill,5,3\n"),
+    ("a student's never twice", VISIT_HEAD + "Ben Olsen,Dye house,never,3\nBen Olsen,Weaving mill,never,3\n"),
 ]
 
 # What a program that is not `place` prints, and the message.
@@ -594,6 +896,7 @@ PRINTED = [
     ("refused 3 1", "students.csv, row 3: a number is out of sequence, or a pair names nobody.\n"),
     ("refused 5 4", "workshops.csv, row 3: a stage, quota, group or line group is out of range.\n"),
     ("refused 5 7", "pairs.csv, row 4: a stage, quota, group or line group is out of range.\n"),
+    ("refused 13 2", "students.csv, row 4: a lot is not 1 to 512, or an earlier student has it already.\n"),
     ("refused 8 0", "visits.csv, row 2: this visit has no row in pairs.csv.\n"),
     ("refused 4 0", "`place` refused the files, number 4: there is no student, no workshop, or too many of them.\n"),
     ("refused 99 0", "`place` refused the files, number 99: desk.py does not know this number.\n"),
@@ -636,6 +939,10 @@ def refusals(folder):
     for name, visits, message in REFUSED:
         write(folder, "visits.csv", visits)
         answers(name, desk(folder), (1, "", message))
+    for name, visits in ACCEPTED:
+        write(folder, "visits.csv", visits)
+        status, out, err = desk(folder)
+        check(name, status == 0 and out.startswith("Next visit: Anna Berg goes to "), out + err)
 
 
 def other_programs(folder):
@@ -715,27 +1022,27 @@ TYPED = [
 
 # Ways to write students.csv, before and after.
 KEPT = [
-    ("commas", "student,stage,line group\nAnna Berg,,2\nBen Olsen,,2\nCarla Roth,,2\n",
-     "student,stage,line group\nAnna Berg,1,2\nBen Olsen,2,2\nCarla Roth,2,2\n"),
-    ("semicolons, CRLF, a byte order mark", "\ufeffstudent;stage;line group\r\nAnna Berg;3;2\r\nBen Olsen;2;2\r\nCarla Roth;1;2\r\n",
-     "\ufeffstudent;stage;line group\r\nAnna Berg;1;2\r\nBen Olsen;2;2\r\nCarla Roth;2;2\r\n"),
-    ("a byte order mark and commas", "\ufeffstudent,stage,line group\nAnna Berg,,2\nBen Olsen,2,2\nCarla Roth,,2",
-     "\ufeffstudent,stage,line group\nAnna Berg,1,2\nBen Olsen,2,2\nCarla Roth,2,2"),
-    ("tabs, no line feed at the end", "line group\tstage\tstudent\n2\t\tAnna Berg\n2\t\tBen Olsen\n2\t9\tCarla Roth",
-     "line group\tstage\tstudent\n2\t1\tAnna Berg\n2\t2\tBen Olsen\n2\t2\tCarla Roth"),
+    ("commas", "student,stage,line group,lot\nAnna Berg,,2,3\nBen Olsen,,2,2\nCarla Roth,,2,1\n",
+     "student,stage,line group,lot\nAnna Berg,1,2,3\nBen Olsen,2,2,2\nCarla Roth,2,2,1\n"),
+    ("semicolons, CRLF, a byte order mark", "\ufeffstudent;stage;line group;lot\r\nAnna Berg;3;2;1\r\nBen Olsen;2;2;2\r\nCarla Roth;1;2;3\r\n",
+     "\ufeffstudent;stage;line group;lot\r\nAnna Berg;1;2;1\r\nBen Olsen;2;2;2\r\nCarla Roth;2;2;3\r\n"),
+    ("a byte order mark and commas", "\ufeffstudent,stage,line group,lot\nAnna Berg,,2,1\nBen Olsen,2,2,512\nCarla Roth,,2,2",
+     "\ufeffstudent,stage,line group,lot\nAnna Berg,1,2,1\nBen Olsen,2,2,512\nCarla Roth,2,2,2"),
+    ("tabs, no line feed at the end", "lot\tline group\tstage\tstudent\n1\t2\t\tAnna Berg\n2\t2\t\tBen Olsen\n3\t2\t9\tCarla Roth",
+     "lot\tline group\tstage\tstudent\n1\t2\t1\tAnna Berg\n2\t2\t2\tBen Olsen\n3\t2\t2\tCarla Roth"),
     ("quotation marks, other columns, empty rows, other order",
-     '"Phone, home";"note";"STAGE";student;"Line group"\r\n"0;1";"said ""stage;1"";\r\nnext line";"";"Carla  Roth";"2"\r\n'
-     ';;;;\r\n\r\n;1;" 1 "; Ben Olsen ;2\r\n  \u00e4\u2028\u0085 x "y";;"7";"Anna Berg";2;;\r\n\r\n\r\n',
-     '"Phone, home";"note";"STAGE";student;"Line group"\r\n"0;1";"said ""stage;1"";\r\nnext line";"2";"Carla  Roth";"2"\r\n'
-     ';;;;\r\n\r\n;1;"2"; Ben Olsen ;2\r\n  \u00e4\u2028\u0085 x "y";;"1";"Anna Berg";2;;\r\n\r\n\r\n'),
-    ("rows without their last cells", "student,line group,note,stage,more\nAnna Berg,2\r\nBen Olsen,2,,\nCarla Roth,2,x",
-     "student,line group,note,stage,more\nAnna Berg,2,,1\r\nBen Olsen,2,,2\nCarla Roth,2,x,2"),
-    ("the stage as the first and as the last column", "stage,student,line group\n,Anna Berg,2\n,Ben Olsen,2\n,Carla Roth,2\n",
-     "stage,student,line group\n1,Anna Berg,2\n2,Ben Olsen,2\n2,Carla Roth,2\n"),
-    ("line ends of three kinds", "student,line group,stage\nAnna Berg,2,\rBen Olsen,2,\r\nCarla Roth,2,\n",
-     "student,line group,stage\nAnna Berg,2,1\rBen Olsen,2,2\r\nCarla Roth,2,2\n"),
-    ("letters with their accent as two signs", "student,stage,line group,A\u030a\nAnna Berg,,2,A\u030ase\nBen Olsen,,2,\u00c5\nCarla Roth,,2,\n",
-     "student,stage,line group,A\u030a\nAnna Berg,1,2,A\u030ase\nBen Olsen,2,2,\u00c5\nCarla Roth,2,2,\n"),
+     '"Phone, home";"note";"STAGE";student;"Line group";"Lot"\r\n"0;1";"said ""stage;1"";\r\nnext line";"";"Carla  Roth";"2";"1"\r\n'
+     ';;;;\r\n\r\n;1;" 1 "; Ben Olsen ;2; 2\r\n  \u00e4\u2028\u0085 x "y";;"7";"Anna Berg";2;3;;\r\n\r\n\r\n',
+     '"Phone, home";"note";"STAGE";student;"Line group";"Lot"\r\n"0;1";"said ""stage;1"";\r\nnext line";"2";"Carla  Roth";"2";"1"\r\n'
+     ';;;;\r\n\r\n;1;"2"; Ben Olsen ;2; 2\r\n  \u00e4\u2028\u0085 x "y";;"1";"Anna Berg";2;3;;\r\n\r\n\r\n'),
+    ("rows without their last cells", "student,lot,line group,note,stage,more\nAnna Berg,1,2\r\nBen Olsen,2,2,,\nCarla Roth,3,2,x",
+     "student,lot,line group,note,stage,more\nAnna Berg,1,2,,1\r\nBen Olsen,2,2,,2\nCarla Roth,3,2,x,2"),
+    ("the stage as the first column", "stage,student,line group,lot\n,Anna Berg,2,1\n,Ben Olsen,2,2\n,Carla Roth,2,3\n",
+     "stage,student,line group,lot\n1,Anna Berg,2,1\n2,Ben Olsen,2,2\n2,Carla Roth,2,3\n"),
+    ("line ends of three kinds, the stage as the last column", "student,lot,line group,stage\nAnna Berg,1,2,\rBen Olsen,2,2,\r\nCarla Roth,3,2,\n",
+     "student,lot,line group,stage\nAnna Berg,1,2,1\rBen Olsen,2,2,2\r\nCarla Roth,3,2,2\n"),
+    ("letters with their accent as two signs", "student,stage,line group,lot,A\u030a\nAnna Berg,,2,1,A\u030ase\nBen Olsen,,2,2,\u00c5\nCarla Roth,,2,3,\n",
+     "student,stage,line group,lot,A\u030a\nAnna Berg,1,2,1,A\u030ase\nBen Olsen,2,2,2,\u00c5\nCarla Roth,2,2,3,\n"),
 ]
 
 # Stages that are refused before the program is run: students.csv, and the message.
@@ -770,6 +1077,7 @@ CONTRADICTIONS = [
 # What a program that is not `stages` prints, its status, and the message.
 STAGES_PRINTED = [
     ("refused 5 4", 1, "workshops.csv, row 3: a stage, quota, group or line group is out of range."),
+    ("refused 13 1", 1, "students.csv, row 3: a lot is not 1 to 512, or an earlier student has it already."),
     ("refused 2 0", 0, "students.csv, row 2: a kind is not 1 to 3, or a byte that should be zero is not."),
     ("refused 4 0", 1, "`stages` refused the files, number 4: there is no student, no workshop, or too many of them."),
     ("refused 6 0", 1, "`stages` refused the files, number 6: a buffer of the program is too short."),
@@ -828,7 +1136,7 @@ def stages_wrong(folder):
     write(folder, "students.csv", students("Anna Berg,,\nBen Olsen,,2\nCarla Roth,,2\n"))
     answers("a line group is still needed", desk(folder, "stages"),
             (1, "", f'students.csv, row 2, column "line group": the cell is empty; {RANGE} 1 to 65.{END}'))
-    write(folder, "students.csv", "student,line group\nAnna Berg,2\n")
+    write(folder, "students.csv", "student,line group,lot\nAnna Berg,2,1\n")
     check("the stage column is still needed", desk(folder, "stages")[2].startswith('students.csv, row 1: the column "stage" is missing.'))
     os.remove(os.path.join(folder, "students.csv"))
     check("no students.csv", desk(folder, "stages")[2].startswith("students.csv is not in this folder"))
@@ -859,10 +1167,10 @@ def other_stages_programs(folder):
         before = read_all(folder)
         answers(f"stages that prints {printed}", desk(folder, "stages", stages=fake), (1, "", message.format(fake=fake) + "\n"))
         check(f"stages that prints {printed}: nothing is written", read_all(folder) == before)
-    write(folder, "fake", f"#!/bin/sh\necho Dora,,2 >> {folder}/students.csv\necho stage 1 1\necho stage 2 2\necho stage 3 2\n")
-    wanted = read(folder, "students.csv") + b"Dora,,2\n"
+    write(folder, "fake", f"#!/bin/sh\necho Dora,,2,9 >> {folder}/students.csv\necho stage 1 1\necho stage 2 2\necho stage 3 2\n")
+    wanted = read(folder, "students.csv") + b"Dora,,2,9\n"
     answers("changed meanwhile", desk(folder, "stages", stages=fake),
-            (1, "", "students.csv was changed by somebody else at this moment. Nothing was written. Run desk.py stages again.\n"))
+            (1, "", "students.csv was changed by somebody else at this moment. Nothing was written. Type the command again.\n"))
     check("changed meanwhile: kept", read(folder, "students.csv") == wanted)
     os.chmod(fake, 0)
     answers("stages is not allowed to run", desk(folder, "stages", stages=fake)[2], f"{fake} may not be run. This allows it: chmod +x {fake}\n")
@@ -950,14 +1258,14 @@ def open_in_a_spreadsheet(folder):
         check("a link, closed again: written", os.path.islink(path) and read(other, "shared.csv") == right.encode())
 
 
-def only_stages():
+def only_cells():
     """The last check before writing finds any other change."""
     module = InProcess().module
     old, new = b"student,stage,note\nAnna,,x\nBen,2,y\n", b"student,stage,note\nAnna,1,x\nBen,2,y\n"
-    check("with stages", module.with_stages(old, {2: 1}) == new)
+    check("with cells", module.with_cells(old, "stage", {2: 1}) == new)
     for wrong in (new.replace(b"x", b"z"), new.replace(b"Ben,2", b"Ben,1"), new.replace(b"Anna,1", b"Anna,2"), new + b"\n", new[:-8], old):
         try:
-            module.check_only_stages(old, wrong, 1, {2: 1})
+            module.check_only_cells(old, wrong, 1, {2: "1"})
             check("another change", False, str(wrong))
         except module.Stop as stop:
             check("another change", "Nothing was written" in str(stop))
@@ -979,16 +1287,17 @@ def stages_program():
         os.rmdir(os.path.join(folder, "case.dat"))
         k = bytes.fromhex(K_CASE)
         lower = bytes.fromhex(K_CASE.replace("03 00 01 00 02 00 01 00 01 00", "03 00 01 00 02 00 01 00 03 00"))
-        stage_0 = k[:20] + b"\0" + k[21:]
+        stage_0, lot_0, lot_twice = k[:20] + b"\0" + k[21:], k[:24] + b"\0" + k[25:], k[:40] + b"\1" + k[41:]
         for name, case, answer in (("K", k, (0, b"stage 1 1\nstage 2 2\nstage 3 2\n", b"")), ("no bytes", b"", (1, b"refused 4 0\n", b"")),
                                    ("15 bytes", k[:15], (1, b"refused 1 0\n", b"")), ("another order", lower, (1, b"refused 12 0\n", b"")),
-                                   ("a stage of 0", stage_0, (1, b"refused 5 1\n", b""))):
+                                   ("a stage of 0", stage_0, (1, b"refused 5 1\n", b"")), ("a lot of 0", lot_0, (1, b"refused 13 1\n", b"")),
+                                   ("a lot twice", lot_twice, (1, b"refused 13 2\n", b""))):
             write(folder, "case.dat", case)
             answers(f"stages on {name}", run_stages(folder), answer)
         write(folder, "case.dat", k)
         with open("/dev/full", "wb") as full:
             check("stages on a full disk", run_stages(folder, stdout=full)[0] == 2)
-        largest = [struct.pack("<BB3H8x", 1, 0, s, 1, 1) for s in range(1, 513)] + [struct.pack("<BB3H8x", 2, 0, w, 512, 513) for w in range(1, 65)]
+        largest = [struct.pack("<BB4H6x", 1, 0, s, 1, 1, s) for s in range(1, 513)] + [struct.pack("<BB3H8x", 2, 0, w, 512, 513) for w in range(1, 65)]
         largest += [struct.pack("<BB4H6x", 3, 0, s, w, 1, 513 - s) for s in range(1, 513) for w in range(1, 65)]
         write(folder, "case.dat", b"".join(largest))
         answers("stages on the largest case", run_stages(folder), (0, "".join(f"stage {s} {513 - s}\n" for s in range(1, 513)).encode(), b""))
@@ -1073,7 +1382,8 @@ def small_years():
         tables = {w: {s: group[s, w] for s in names if (s, w) in group and group[s, w] <= line[w]} for w in workshops if quota[w]}
         wanted = smallest_stages(names, tables.values())
         with tempfile.TemporaryDirectory() as folder:
-            write(folder, "students.csv", csv_text([("student", "stage", "line group")] + [(s, draw.choice(("", 1, 512)), 1) for s in names]))
+            rows = [(s, draw.choice(("", 1, 512)), 1, lot) for lot, s in enumerate(names, 1)]
+            write(folder, "students.csv", csv_text([("student", "stage", "line group", "lot")] + rows))
             write(folder, "workshops.csv", csv_text([("workshop", "quota", "line group")] + [(w, quota[w], line[w]) for w in workshops]))
             write(folder, "pairs.csv", pairs("").replace(",", ";") + csv_text([(s, w, 1, n) for (s, w), n in group.items()]))
             before = read_all(folder)
@@ -1103,18 +1413,23 @@ def told_steps(err):
 
 
 def main():
-    NEW_FILES.update(new_files())
-    for test in (example_k, guide, never, ends_of_a_visit, nevers_of_a_workshop, other_spellings, accents, planned_row, unused_visit, stages_note,
+    NEW_FILES.update(new_files()[0])
+    for test in (example_k, guide, never, ends_of_a_visit, nevers_of_a_workshop, lots_drawn, lots_of_many, lots_kept, wrong_lots,
+                 writing_lots, equal_marks, other_spellings, accents, planned_row, unused_visit, stages_note,
                  withdrawal, too_many_pairs, refusals, other_programs, finding_place, other_folders, stages_of_k, stages_kept, stages_wrong, no_stages,
                  other_stages_programs, finding_stages, writing_stages, open_in_a_spreadsheet):
         in_new_folder(test)
     wrong_inputs()
-    only_stages()
+    lots_of_new()
+    draws()
+    only_cells()
     stages_program()
     small_years()
     whole_year(1, share=0)
     whole_year(2, share=0.3)
     whole_year(3, share=0.3, prepare=work_out, stages=6, met=0.25)
+    whole_year(4, share=0, equal=True)
+    whole_year(5, share=0.3, equal=True)
     print(f"{tally['passed']} passed, {tally['failed']} failed")
     return 1 if tally["failed"] else 0
 

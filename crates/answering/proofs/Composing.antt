@@ -21,7 +21,7 @@ use Rattle.format.specs.Engine.{placed, next, refused, engine, marketIn, result
 use Rattle.format.specs.Buffers.{withHead, placesAfter, visitsAfter}
 use Rattle.format.specs.Causes.{Cause}
 use Rattle.format.specs.Promises.{Valid, Refused}
-use Rattle.format.proofs.Causes.{refusal-none, refusal-some, eleven}
+use Rattle.format.proofs.Causes.{refusal-none, refusal-some, twelve}
 use Rattle.format.proofs.Runs.{wf, distinct, engine-valid}
 use Rattle.format.proofs.PairCount.{pairs-within}
 use Rattle.format.proofs.Promises.{promised}
@@ -54,13 +54,13 @@ above-in : (xs : List ℕ) (k : ℕ) (ys : List ℕ) → Above (xs ++ (k ∷ ys)
 above-in [] k ys a = a .0
 above-in (x ∷ xs) k ys a = above-in xs k ys (a .1)
 
--- the numbers of the causes are 1 to 11
-eleven-above : Above (1 ∷ 2 ∷ 3 ∷ 4 ∷ 5 ∷ 6 ∷ 7 ∷ 8 ∷ 9 ∷ 10 ∷ 11 ∷ [])
-eleven-above = (
+-- the numbers of the causes are
+twelve-above : Above (1 ∷ 2 ∷ 3 ∷ 4 ∷ 5 ∷ 13 ∷ 6 ∷ 7 ∷ 8 ∷ 9 ∷ 10 ∷ 11 ∷ [])
+twelve-above = (
   omega arith,
   (
     omega arith,
-    (omega arith, (omega arith, (omega arith, (omega arith, (omega arith, (omega arith, (omega arith, (omega arith, (omega arith, tt))))))))),
+    (omega arith, (omega arith, (omega arith, (omega arith, (omega arith, (omega arith, (omega arith, (omega arith, (omega arith, (omega arith, tt)))))))))),
   ),
 )
 
@@ -68,7 +68,7 @@ eleven-above = (
 cause-above : (case book : List ℕ) (room : Room) (k i : ℕ) → Refused case book room k i → 0 < k
 cause-above case book room k i f =
     above-in (map number (f .before)) k (map number (f .after))
-    (subst Above (sym (eleven case book room) ∙ (ap (map number) (f .table) ∙ map-append number (f .before) ((k, f .test) ∷ f .after))) eleven-above)
+    (subst Above (sym (twelve case book room) ∙ (ap (map number) (f .table) ∙ map-append number (f .before) ((k, f .test) ∷ f .after))) twelve-above)
   where
     number : Cause → ℕ
     number c = c .0

@@ -1,6 +1,6 @@
 -- A signed number of 16 bits, an integer ℤ in the code, and the same number 32768 higher, a natural number in the definitions, compare alike.
 use Prim.Native.Nat.{ℕ, zero, suc, _+_, _-_, _%_, _^_, _≤_, _<_}
-use mathlib.Core.Path.{_≡_, refl, sym, _∙_}
+use mathlib.Core.Path.{_≡_, refl, sym, ap, _∙_}
 use mathlib.Core.Logic.{_⊎_, inl, inr, ⊎-elim}
 use mathlib.Core.Bool.{Bool, true, false, not, cond, _||_}
 use native.Mathlib.Omega.{arith}
@@ -33,7 +33,21 @@ biased-less (negsuc a) (negsuc b) u v = same-test b a (32767 - a) (32767 - b) (�
 pub code-less : (a b : ℤ) → SFits w16 a → SFits w16 b → ltZ (toZ w16 (ofZ w16 a)) (toZ w16 (ofZ w16 b)) ≡ ltb (biased a) (biased b)
 code-less a b f g = rw (toZ-ofZ w16 a f, toZ-ofZ w16 b g) (biased-less a b (f .sfits) (g .sfits))
 
--- `a == 0` compares bits
+biased-apart : (a b : ℤ) → mag a < 32768 → mag b < 32768 → biased a ≡ biased b → a ≡ b
+unfolding biased
+biased-apart (pos a) (pos b) u v e = let q : a ≡ b = omega arith in ap pos q
+biased-apart (pos a) (negsuc b) u v e = absurd (omega arith)
+biased-apart (negsuc a) (pos b) u v e = absurd (omega arith)
+biased-apart (negsuc a) (negsuc b) u v e = let q : a ≡ b = omega arith in ap negsuc q
+
+-- `a == b` compares bits
+pub code-same : (a b : ℤ) → SFits w16 a → SFits w16 b → eqb (ofZ w16 a) (ofZ w16 b) ≡ eqb (biased a) (biased b)
+code-same a b f g =
+    same-eq (ofZ w16 a) (ofZ w16 b) (biased a) (biased b)
+    (λ e. ap biased (sym (toZ-ofZ w16 a f) ∙ (ap (toZ w16) e ∙ toZ-ofZ w16 b g)))
+    (λ e. ap (ofZ w16) (biased-apart a b (f .sfits) (g .sfits) e))
+
+-- and `a == 0`
 pub code-zero : (a : ℤ) → SFits w16 a → eqb (ofZ w16 a) 0 ≡ eqb (biased a) 32768
 unfolding biased
 code-zero (pos n) f = same-eq n 0 (32768 + n) 32768 (λ e. omega arith) (λ e. omega arith)

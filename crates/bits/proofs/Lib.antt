@@ -1,1 +1,2 @@
 pub mod LowestDigit
+pub mod Slots

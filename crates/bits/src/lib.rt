@@ -1,11 +1,12 @@
-// The open workshops as the 64 bits of one number: workshop w, from 1 to 64, is bit w - 1.
+// The open workshops as the 64 bits of one number: workshop w, from 1 to 64, is bit w - 1. Larger sets as the bits of a slice.
 ghost use mathlib.Core.Path.{_≡_};
 ghost use mathlib.Core.Bool.{true, not, _&&_, _||_};
-ghost use Prim.Native.Nat.{ℕ, _-_, _^_, _≤_, _<_};
+ghost use Prim.Native.Nat.{ℕ, _-_, _*_, _^_, _≤_, _<_};
 ghost use lib.Dec.{eqb};
+ghost use lib.ListN.{length};
 ghost use lib.Bits.{bitOr, bitAnd};
 ghost use Rattle.base.specs.Lists.{count};
-ghost use Rattle.base.specs.Bits.{member, Low};
+ghost use Rattle.base.specs.Bits.{member, Low, Met};
 
 // Workshop w is in the set.
 pub fn has_bit(bits: u64, w: usize) -> bool
@@ -71,4 +72,16 @@ pub fn without_lowest(bits: u64) -> u64
     ensures { λ r. ⌜ r < bits ⌝ }
 {
     bits & (bits - 1)
+}
+
+// Whether the slot was met before. It is from now on.
+pub fn met(seen: &mut [u64], slot: usize) -> bool
+    requires { ⌜ slot < 64 * length (now seen) ⌝ }
+    ensures { λ r. ⌜ Met (now (seen .entry)) (now (seen .exit)) slot r ⌝ }
+{
+    let at = slot / 64;
+    let digit = slot % 64;
+    let word = seen[at];
+    seen[at] = word | (1u64 << digit);
+    (word >> digit) % 2 == 1
 }

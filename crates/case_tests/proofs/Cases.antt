@@ -1,11 +1,11 @@
 -- The table of causes in its parts, and what a clean case has.
-use Prim.Native.Nat.{ℕ, _+_, _-_, _%_, _≤_, _<_}
+use Prim.Native.Nat.{ℕ, _+_, _-_, _%_, _≤_}
 use mathlib.Core.Path.{_≡_, refl, ap, _∙_}
 use mathlib.Core.Bool.{Bool, true, false, not, _||_}
 use mathlib.Core.List.{List, [], _∷_}
 use mathlib.Core.Option.{Option, some, none}
 use native.Mathlib.Omega.{arith}
-use lib.ListN.{length, getD}
+use lib.ListN.{length}
 use lib.Dec.{eqb}
 use borrow.Author.Tests.{eq-eqb, ne-eqb}
 use Rattle.base.specs.Lists.{tally}
@@ -13,7 +13,7 @@ use Rattle.base.specs.Search.{firstBad, someIf}
 use Rattle.base.proofs.Tests.{or-false}
 use Rattle.base.proofs.Below.{tabulate-take}
 use Rattle.format.specs.Layout.{rows, rowCount, rowAt, ofKind, marketOf}
-use Rattle.format.specs.Refusals.{notWithin, badForm, badOrder, badCounts, badRange, caseCauses}
+use Rattle.format.specs.Refusals.{notWithin, badForm, badOrder, badCounts, badRange, badLot, caseCauses}
 use Rattle.format.specs.Causes.{Cause, finds, firstCause}
 use Rattle.format.specs.Engine.{marketIn}
 use Rattle.format.proofs.Positions.{clean-all, within, Sorted, places}
@@ -54,9 +54,15 @@ module _ (case : List ℕ) where
           unfolding caseCauses
           case-5 i e = rw (whole, form, order, counts, e, firstCause)
 
-          pub case-clean : firstBad (badRange (rows case)) (rowCount case) ≡ none → caseRefusal case ≡ none
-          unfolding caseCauses
-          case-clean e = rw (whole, form, order, counts, e, firstCause)
+    -- after 5
+    module _ {n m : ℕ} (c : CleanCase case n m) where
+      pub case-13 : (i : ℕ) → firstBad (badLot (rows case)) (rowCount case) ≡ some i → caseRefusal case ≡ some (13, i)
+      unfolding caseCauses
+      case-13 i e = rw (whole, c .form, c .order, c .counts, c .range, e, firstCause)
+
+      pub case-clean : firstBad (badLot (rows case)) (rowCount case) ≡ none → caseRefusal case ≡ none
+      unfolding caseCauses
+      case-clean e = rw (whole, c .form, c .order, c .counts, c .range, e, firstCause)
 
 -- ---- a clean case
 pub counts-within : (n m : ℕ) → (notWithin 1 512 n || notWithin 1 64 m) ≡ false → ((1 ≤ n) × (n ≤ 512)) × ((1 ≤ m) × (m ≤ 64))
@@ -75,6 +81,11 @@ module _ (case : List ℕ) (n m : ℕ) (c : CleanCase case n m) where
   -- the same by the market's counts
   pub sound : CleanCase case (marketIn case .students) (marketIn case .workshops)
   sound = record { form = c .form; order = c .order; counts = c .counts; range = c .range; students = refl; workshops = refl }
+
+  pub all-pairs : (n + m ≤ rowCount case) × (rowCount case - n - m ≡ pairCount case)
+  all-pairs =
+      let s : Sorted case (rowCount case) (marketIn case .students) (marketIn case .workshops) (pairCount case) = places case clean in
+      (omega (arith, s .whole, c .students, c .workshops), omega (arith, s .whole, c .students, c .workshops))
 
 -- ---- answers
 pub refused-as : (case : List ℕ) (o : Option (ℕ × ℕ)) (k i : ℕ) → o ≡ some (k, i) → checkedOf o case ≡ Refused k i
@@ -99,12 +110,6 @@ module _ (case : List ℕ) (n m : ℕ) (c : Counted case (rowCount case) n m) wh
   pub counts-same : badCounts (rows case) ≡ (notWithin 1 512 n || notWithin 1 64 m)
   unfolding badCounts marketOf
   counts-same = rw (all-students, all-workshops)
-
-  pub all-pairs : (n + m ≤ rowCount case) × (rowCount case - n - m ≡ pairCount case)
-  all-pairs =
-      let s : Sorted case (rowCount case) (marketIn case .students) (marketIn case .workshops) (pairCount case) = places case
-      (clean-all case (c .form) (c .order)) in
-      (omega (arith, s .whole, all-students, all-workshops), omega (arith, s .whole, all-students, all-workshops))
 
 -- what is refused is not clean
 pub refused-none : {A : Type 0} (o : Option (ℕ × ℕ)) (k i : ℕ) → o ≡ some (k, i) → o ≡ none → A

@@ -22,7 +22,7 @@ unfoldable pub checkedOf : Option (ℕ × ℕ) → List ℕ → Checked
 checkedOf (some r) case = Refused (r .0) (r .1)
 checkedOf none case = Counts (marketIn case .students) (marketIn case .workshops) (pairCount case)
 
--- causes 1 to 5
+-- causes 1 to 5 and 13
 abbrev pub caseRefusal : List ℕ → Option (ℕ × ℕ)
 caseRefusal case = firstCause (caseCauses case)
 

@@ -1,4 +1,4 @@
-// Causes 1 to 5, which look at the case alone.
+// Causes 1 to 5 and 13, which look at the case alone.
 ghost use mathlib.Core.Path.{_≡_};
 ghost use mathlib.Core.Bool.{_||_};
 ghost use mathlib.Core.Option.{none};
@@ -6,8 +6,9 @@ ghost use Prim.Native.Nat.{_%_};
 ghost use lib.ListN.{length};
 ghost use Rattle.format.specs.Refusals.{notWithin};
 ghost use Rattle.tables.specs.Table.{Blank, Made};
-ghost use Rattle.case_tests.specs.Checked.{checkedOf, caseRefusal};
+ghost use Rattle.case_tests.specs.Checked.{checkedOf, caseRefusal, CleanCase};
 
+mod lots;
 mod order;
 mod pairs;
 mod scans;
@@ -39,7 +40,25 @@ fn bad_counts(students: usize, workshops: usize) -> bool
     ((students < 1) | (512 < students)) | ((workshops < 1) | (64 < workshops))
 }
 
-// Causes 2 to 5, each over all records before the next.
+// Cause 13 of a case in which those before it find nothing, and else its counts.
+fn counted(case: &[u8], students: usize, workshops: usize) -> Checked
+    requires { ⌜ length (now case) % 16 ≡ 0 ⌝ }
+    requires { ⌜ CleanCase (now case) students workshops ⌝ }
+    ensures { λ r. ⌜ r ≡ checkedOf (caseRefusal (now (case .entry))) (now (case .entry)) ⌝ }
+{
+    let rows = records::row_count(case.len());
+    let lot = lots::first_bad_lot(case, students);
+    if lot < rows {
+        return refused(13, lot);
+    }
+    Checked::Counts {
+        students,
+        workshops,
+        pairs: rows - students - workshops,
+    }
+}
+
+// Causes 2 to 5 and 13, each over all records before the next.
 fn check_each(case: &[u8]) -> Checked
     requires { ⌜ length (now case) % 16 ≡ 0 ⌝ }
     ensures { λ r. ⌜ r ≡ checkedOf (caseRefusal (now (case .entry))) (now (case .entry)) ⌝ }
@@ -63,14 +82,10 @@ fn check_each(case: &[u8]) -> Checked
     if range < rows {
         return refused(5, range);
     }
-    Checked::Counts {
-        students,
-        workshops,
-        pairs: rows - students - workshops,
-    }
+    counted(case, students, workshops)
 }
 
-// Causes 1 to 5, and the table of the case where they find nothing. One pass tells whether they do; else each looks for its first record.
+// Causes 1 to 5 and 13, and the table of the case where they find nothing. One pass tells whether 2 to 5 do; where they do each looks for its first record.
 pub fn check_case(case: &[u8], table: &mut [u64]) -> Checked
     requires { ⌜ Blank (now table) ⌝ }
     ensures { λ r. ⌜ r ≡ checkedOf (caseRefusal (now (case .entry))) (now (case .entry)) ⌝ }
@@ -90,9 +105,5 @@ pub fn check_case(case: &[u8], table: &mut [u64]) -> Checked
         return check_each(case);
     }
     tables::note_starts(case, students, workshops, &mut *table);
-    Checked::Counts {
-        students,
-        workshops,
-        pairs: rows - students - workshops,
-    }
+    counted(case, students, workshops)
 }

@@ -12,9 +12,9 @@ use Rattle.base.specs.Search.{firstBad}
 use Rattle.base.proofs.Search.{scan-none, scan-found, first-below, first-passes, first-fails, none-fails}
 use Rattle.format.specs.Layout.{rows, entries, rowCount, entryCount}
 use Rattle.format.specs.Causes.{Test, whole, each, Cause, finds, firstCause, First, Finds, NothingFound, FoundFirst}
-use Rattle.format.specs.Refusals.{Room, badForm, badOrder, badCounts, badRange, badRoom, badPair, badScores, badRepeat, badTie}
+use Rattle.format.specs.Refusals.{Room, badForm, badOrder, badCounts, badRange, badLot, badRoom, badPair, badScores, badRepeat, badTie}
 use Rattle.format.specs.Refusals.{caseCauses, roomCauses, bookCauses, causes, refusal}
-use Rattle.format.specs.Promises.{Valid, Refused, Eleven}
+use Rattle.format.specs.Promises.{Valid, Refused, Twelve}
 use Rattle.format.proofs.Reading.{Passed}
 
 some-none : {A : Type 0} {B : Type 0} (x : B) → some x ≡ none → A
@@ -156,6 +156,7 @@ module _ (case book : List ℕ) (room : Room) where
           form = all-pass (badForm (rows case)) (rowCount case) (valid _ (later (here refl)));
           order = all-pass (badOrder (rows case)) (rowCount case) (valid _ (later (later (here refl))));
           range = all-pass (badRange (rows case)) (rowCount case) (valid _ (later (later (later (later (here refl))))));
+          lots = all-pass (badLot (rows case)) (rowCount case) (valid _ (later (later (later (later (later (here refl)))))));
           pair = all-pass (badPair (rows case) (entries book)) (entryCount book) (valid _ (in-book (later (here refl))));
           scores = all-pass (badScores (rows case) (entries book)) (entryCount book) (valid _ (in-book (later (later (here refl)))));
           repeat = all-pass (badRepeat (rows case) (entries book)) (entryCount book) (valid _ (in-book (later (later (later (here refl))))));
@@ -163,12 +164,12 @@ module _ (case book : List ℕ) (room : Room) where
         }
       where
         in-book : {c : Cause} → Mem c (bookCauses case book) → Mem c (causes case book room)
-        in-book m = later (later (later (later (later (later m)))))
+        in-book m = later (later (later (later (later (later (later m))))))
 
     pub room-passes : badRoom (rows case) room ≡ true → ⊥
     unfolding causes caseCauses roomCauses bookCauses
-    room-passes b = valid (6, whole (badRoom (rows case) room)) (later (later (later (later (later (here refl)))))) 0 (b, refl)
+    room-passes b = valid (6, whole (badRoom (rows case) room)) (later (later (later (later (later (later (here refl))))))) 0 (b, refl)
 
-pub eleven : Eleven
+pub twelve : Twelve
 unfolding causes caseCauses roomCauses bookCauses
-eleven case book room = refl
+twelve case book room = refl

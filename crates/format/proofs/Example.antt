@@ -18,7 +18,7 @@ use Rattle.format.specs.Layout.{Row, isPair, ofKind, rowAt, rows, market
 use Rattle.format.specs.Engine.{placed, engine}
 use Rattle.format.specs.Promises.{Example}
 use Rattle.format.specs.Encoding.{words, rowBytes, caseBytes}
-use Rattle.format.specs.Table.{caseOf, studentsK, workshopsK, pairsK, caseWith, K, bookK, visitsK, answerK, neverK, answerNeverK, exact, TablesHold}
+use Rattle.format.specs.Table.{caseOf, studentsK, workshopsK, pairsK, caseWith, K, bookK, visitsK, answerK, neverK, answerNeverK, exact, TablesHold, tiedK, answerTiedK}
 use Rattle.format.proofs.Positions.{pair-says}
 use Rattle.format.proofs.Table.{computed}
 
@@ -120,6 +120,11 @@ pub example-never-k : Example K neverK exact
 unfolding answerNeverK visitsK interviewed any
 example-never-k = on-k neverK (1 ∷ 0 ∷ 0 ∷ []) (computed .exactlyNever) (2, 2, refl, λ e. omega arith)
 
+-- two of the visits brought equal marks of a workshop
+pub example-tied-k : Example K tiedK exact
+unfolding answerTiedK visitsK interviewed any
+example-tied-k = on-k tiedK (1 ∷ 2 ∷ 0 ∷ []) (computed .exactlyTied) (3, 2, refl, λ e. omega arith)
+
 -- ---- the tables of proved cases
 pub tables-hold : TablesHold
-tables-hold = record { computed = computed; agreeing = example-k; agreeingNever = example-never-k }
+tables-hold = record { computed = computed; agreeing = example-k; agreeingNever = example-never-k; agreeingLots = example-tied-k }

@@ -1,5 +1,6 @@
 pub mod Sorted
 pub mod Positions
+pub mod Lots
 pub mod Reading
 pub mod Causes
 pub mod PairCount

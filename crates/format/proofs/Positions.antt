@@ -4,7 +4,7 @@
 -- Of a case whose records pass causes 2 and 3 (`Clean`; `clean-all` makes it from two searches that found nothing), with n students and m
 -- workshops in the market, `people` = n + m, and `pairCount` pair records:
 --   places              records 0 to n - 1 are the students 1 to n, the next m are the workshops 1 to m, the others pairs; n + m + pairs is the whole
---   student-found       the record of student s is record s - 1; stage-at, student-outside-at: her stage and outside tier stand there
+--   student-found       the record of student s is record s - 1; stage-at, lot-at, student-outside-at: her stage, lot and outside tier stand there
 --   workshop-found      the record of workshop w is record n + w - 1; quota-at, workshop-outside-at: its quota and outside tier stand there
 --   pair-from           a pair stands at n + m or after; pair-names: it names a student and a workshop of the market
 --   pairs-rise          of two pairs the first is lower, by student and then workshop; pair-only: no pair has two records
@@ -234,6 +234,10 @@ module _ (case : List ℕ) where
     pub stage-at : (s : ℕ) → 1 ≤ s → s ≤ marketIn case .students → marketIn case .stage s ≡ rowAt case (s - 1) .second
     unfolding marketOf
     stage-at s l u = ap (λ r. r .second) (student-found s l u)
+
+    pub lot-at : (s : ℕ) → 1 ≤ s → s ≤ marketIn case .students → marketIn case .lot s ≡ rowAt case (s - 1) .fourth
+    unfolding marketOf
+    lot-at s l u = ap (λ r. r .fourth) (student-found s l u)
 
     pub student-outside-at : (s : ℕ) → 1 ≤ s → s ≤ marketIn case .students → marketIn case .studentTier s 0 ≡ rowAt case (s - 1) .third
     unfolding marketOf

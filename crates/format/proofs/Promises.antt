@@ -8,10 +8,16 @@ use mathlib.Core.Option.{Option, some, none}
 use mathlib.Core.List.{List}
 use native.Mathlib.Omega.{arith}
 use lib.ListN.{length}
+use lib.Dec.{ltb}
+use borrow.Author.Tests.{eq-eqb}
 use Rattle.base.specs.Lists.{any, tally}
-use Rattle.lgs.specs.Profiles.{Profile, StudentOptimal, Fits}
-use Rattle.lgs.specs.Rule.{Interview, Step, going, stopped, finished, interviewed}
+use Rattle.base.proofs.Tests.{and-make, or-right}
+use Rattle.lgs.specs.Market.{outscored}
+use Rattle.lgs.specs.Profiles.{Profile, StudentOptimal, Fits, flip}
+use Rattle.lgs.specs.Rule.{Interview, Step, going, stopped, finished, interviewed, below}
 use Rattle.lgs.specs.Promises.{Listed, Placed, NextInterview, interviewsIn}
+use Rattle.lgs.proofs.Valid.{by-higher-lot}
+use Rattle.lgs.proofs.Sides.{real}
 use Rattle.lgs.proofs.Minimal.{revealed-fits}
 use Rattle.lgs.proofs.Undetermined.{reveals-itself}
 use Rattle.lgs.proofs.Agreement.{unlisted-finished, unlisted-stopped}
@@ -23,6 +29,9 @@ use Rattle.format.specs.Refusals.{Room, refusal, needed}
 use Rattle.format.specs.Engine.{placed, next, refused, engine, marketIn, resultsIn, Outcome, outcomeOf, ruleOutcome, outcomeUnless}
 use Rattle.format.specs.Promises.{Valid, Refused, withPlaces, withNext, RunEnds, Demand1, FitsBook, interviewsOf, ByRule, Demand2Placed}
 use Rattle.format.specs.Promises.{Demand2Next, Demand2, Demand3, FitExists, OptimalExists, SameListed, UnlistedUnused, HeadsFit, Promised}
+use Rattle.format.specs.Promises.{LotsDiffer, EqualMarks, LotsPart}
+use Rattle.format.proofs.Lots.{lot-range, lots-apart}
+use Rattle.format.proofs.Reading.{clean}
 use Rattle.format.proofs.Causes.{refusal-some, refusal-none, passed}
 use Rattle.format.proofs.Runs.{rule, wf, distinct, ends, engine-valid, Finished, Stopped, when-placed, when-next, placed-promise, next-promise}
 use Rattle.format.proofs.Books.{extends, agree-listed}
@@ -187,4 +196,28 @@ heads-fit =
     record {
       whenPlaced = λ case book room places vs e. omega (arith, placed-promise case book room places vs (when-placed case book room places vs e) .whole);
       anyway = λ case book room. omega (arith, answer-within case book room (engine case book room) refl);
+    }
+
+-- ---- lots
+pub lots-differ : LotsDiffer
+lots-differ =
+    record {
+      range = λ case book room valid. lot-range case (clean case book (passed case book room valid)) (passed case book room valid .lots);
+      apart = λ case book room valid. lots-apart case (clean case book (passed case book room valid)) (passed case book room valid .lots);
+    }
+
+-- t comes below s
+equal-below : (case book : List ℕ) (w s t : ℕ) → EqualMarks case book w s t → outscored (marketIn case) (resultsIn book) w t s ≡ true
+equal-below case book w s t e = by-higher-lot (marketIn case) (resultsIn book) w t s (sym (e .score)) (e .lower)
+
+pub lots-part : LotsPart
+unfolding below
+lots-part =
+    record {
+      rule = λ case book σ w s t e vs vt.
+          or-right (ltb (marketIn case .workshopTier w s) (marketIn case .workshopTier w t)) _
+          (and-make (eq-eqb _ _ (sym (e .tier))) (and-make vt (and-make vs (equal-below case book w s t e))));
+      fits = λ case book O F w s t e.
+          F .scores .workshops .higher w s t (real (flip (marketIn case .paired) w) s (e .pair)) (real (flip (marketIn case .paired) w) t (e .pair′))
+          (real (flip (resultsIn book .met) w) s (e .met)) (real (flip (resultsIn book .met) w) t (e .met′)) (e .tier) (equal-below case book w s t e);
     }

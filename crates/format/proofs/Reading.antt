@@ -1,4 +1,4 @@
--- What a case and a book that pass the tests hold: a market that is well formed, and results with distinct scores.
+-- What a case and a book that pass the tests hold: a market that is well formed, and results that part those of a tier.
 -- Each lookup finds a record by its place, and the tests that this record passed give the rest.
 use Prim.Native.Nat.{ℕ, zero, suc, _≤_, _<_}
 use mathlib.Core.Path.{_≡_, refl, sym, ap, _∙_}
@@ -9,26 +9,28 @@ use native.Mathlib.Omega.{arith}
 use native.Mathlib.Nat.{eq-or-lt-of-le}
 use lib.Dec.{eqb}
 use lib.ListN.{getD, take}
-use borrow.Author.Tests.{eqb-true, eqb-false, eq-eqb}
+use borrow.Author.Tests.{eqb-true, eqb-false, eq-eqb, ltb-false}
 use Rattle.base.specs.Lists.{any, find}
 use Rattle.base.proofs.Tests.{never, and-left, and-right, and-make, or-false, is-false, less?}
 use Rattle.base.proofs.Below.{tabulate-at, any-before, any-fails, find-first, find-at}
+use Rattle.lgs.specs.Market.{Market, Results}
 use Rattle.lgs.specs.Profiles.{outsideOr, flip}
-use Rattle.lgs.proofs.Valid.{WellFormed, Possible, DistinctScores, Distinct}
+use Rattle.lgs.proofs.Valid.{WellFormed, Possible, Distinct, unparted}
 use Rattle.format.specs.Layout.{Entry, rowAt, rowCount, rows, entryAt, entryCount, entries, noEntry, isInterview}
 use Rattle.format.specs.Layout.{marketOf, resultsOf, outsideScore, saysNever}
 use Rattle.format.specs.Refusals.{notWithin, badForm, badOrder, badCounts, badRange, badStudent, badWorkshop, badTiers, badScore, badPair}
-use Rattle.format.specs.Refusals.{badScores, badRepeat}
-use Rattle.format.specs.Refusals.{studentTies, workshopTies, badTie}
+use Rattle.format.specs.Refusals.{badLot, badScores, badRepeat, studentTies, badTie}
 use Rattle.format.specs.Engine.{marketIn, resultsIn}
 use Rattle.format.proofs.Sorted.{within, row-at, Clean}
 use Rattle.format.proofs.Positions.{PairAt, pair-record, pair-says, pair-names, student-tier-at}
+use Rattle.format.proofs.Lots.{lots-apart}
 
 -- every record passes the tests on records
 pub record Passed (case book : List ℕ) : Type 0 where
   pub form : (i : ℕ) → i < rowCount case → badForm (rows case) i ≡ false
   pub order : (i : ℕ) → i < rowCount case → badOrder (rows case) i ≡ false
   pub range : (i : ℕ) → i < rowCount case → badRange (rows case) i ≡ false
+  pub lots : (i : ℕ) → i < rowCount case → badLot (rows case) i ≡ false
   pub pair : (i : ℕ) → i < entryCount book → badPair (rows case) (entries book) i ≡ false
   pub scores : (i : ℕ) → i < entryCount book → badScores (rows case) (entries book) i ≡ false
   pub repeat : (i : ℕ) → i < entryCount book → badRepeat (rows case) (entries book) i ≡ false
@@ -108,14 +110,6 @@ pub record EntryAt (book : List ℕ) (s w i : ℕ) : Type 0 where
   pub workshop : entryAt book i .workshop ≡ w
   pub found : find (isInterview s w) noEntry (entries book) ≡ entryAt book i
 
--- record i is that of p, who gave x this score; it is not -1000 unless the interview ended in never
-record Gave (book : List ℕ) (self other value : Entry → ℕ) (given : ℕ) (ended : Bool) (p x i : ℕ) : Type 0 where
-  inside : i < entryCount book
-  giver : self (entryAt book i) ≡ p
-  receiver : other (entryAt book i) ≡ x
-  score : given ≡ value (entryAt book i)
-  spared : ended ≡ false → saysNever (value (entryAt book i)) ≡ false
-
 pub interview-says : (s w : ℕ) (e : Entry) → isInterview s w e ≡ true → (e .student ≡ s) × (e .workshop ≡ w)
 interview-says s w e q = (eqb-true _ _ (and-left (eqb (e .student) s) _ q), eqb-true _ _ (and-right (eqb (e .student) s) _ q))
 
@@ -140,44 +134,13 @@ module _ (book : List ℕ) where
   unfolding entries
   none-before p i j l u e = any-fails (λ k. p (entryAt book k)) j (sym (any-before (entryAt book) p (entryCount book) j (omega arith)) ∙ e) i l
 
--- one side: `self` gave the score `value` to `other`, and no later entry ties with an earlier one
-module _ (book : List ℕ) (self other value : Entry → ℕ) (option met ended : ℕ → ℕ → Bool) (tier score : ℕ → ℕ → ℕ)
-    (untied : (i j : ℕ) → i < j → j < entryCount book → self (entryAt book i) ≡ self (entryAt book j)
-    → tier (self (entryAt book j)) (other (entryAt book i)) ≡ tier (self (entryAt book j)) (other (entryAt book j))
-    → value (entryAt book i) ≡ value (entryAt book j) → saysNever (value (entryAt book j)) ≡ false → ⊥)
-    (nonzero : (i : ℕ) → i < entryCount book → value (entryAt book i) ≡ outsideScore → ⊥)
-    (of-outside : (p : ℕ) → score p 0 ≡ outsideScore)
-    (located : (p x : ℕ) → met p (suc x) ≡ true → (i : ℕ) × Gave book self other value (score p (suc x)) (ended p (suc x)) p (suc x) i) where
-  side-distinct : DistinctScores option met ended tier score
-  side-distinct = record { apart = λ p x y ox oy mx my ok g m. go p x y mx my ok g m }
-    where
-      zero-free : (p x : ℕ) → met p (suc x) ≡ true → score p (suc x) ≡ outsideScore → ⊥
-      zero-free p x m e =
-          let f : (i : ℕ) × Gave book self other value (score p (suc x)) (ended p (suc x)) p (suc x) i = located p x m in
-          nonzero (f .0) (f .1 .inside) (sym (f .1 .score) ∙ e)
-
-      clash : (p x y i j : ℕ) → i < j → Gave book self other value (score p x) (ended p x) p x i → Gave book self other value (score p y) (ended p y) p y j
-          → tier p x ≡ tier p y → score p x ≡ score p y → saysNever (value (entryAt book j)) ≡ false → ⊥
-      clash p x y i j l f h g m =
-          untied i j l (h .inside) (f .giver ∙ sym (h .giver)) (rw (h .giver, f .receiver, h .receiver) g) (sym (f .score) ∙ m ∙ h .score)
-
-      go : (p x y : ℕ) → outsideOr (met p) x ≡ true → outsideOr (met p) y ≡ true → Possible ended p x → tier p x ≡ tier p y → score p x ≡ score p y → x ≡ y
-      go p zero zero mx my ok g m = refl
-      go p zero (suc y) mx my ok g m = absurd (zero-free p y my (sym m ∙ of-outside p))
-      go p (suc x) zero mx my ok g m = absurd (zero-free p x mx (m ∙ of-outside p))
-      go p (suc x) (suc y) mx my ok g m =
-          let f : (i : ℕ) × Gave book self other value (score p (suc x)) (ended p (suc x)) p (suc x) i = located p x mx in
-          let h : (i : ℕ) × Gave book self other value (score p (suc y)) (ended p (suc y)) p (suc y) i = located p y my in
-          let n : saysNever (value (entryAt book (f .0))) ≡ false = f .1 .spared (ok (omega arith)) in
-          let same : value (entryAt book (h .0)) ≡ value (entryAt book (f .0)) = sym (h .1 .score) ∙ (sym m ∙ f .1 .score) in
-          ⊎-elim (λ l. absurd (clash p (suc x) (suc y) (f .0) (h .0) l (f .1) (h .1) g m (ap saysNever same ∙ n)))
-          (λ le.
-          ⊎-elim (λ q. sym (f .1 .receiver) ∙ ap (λ i. other (entryAt book i)) (sym q) ∙ h .1 .receiver)
-          (λ l. absurd (clash p (suc y) (suc x) (h .0) (f .0) l (h .1) (f .1) (sym g) (sym m) n))
-          (eq-or-lt-of-le le))
-          (less? (f .0) (h .0))
-
 module _ (case book : List ℕ) (t : Passed case book) where
+  abbrev M : Market
+  M = marketIn case
+
+  abbrev B : Results
+  B = resultsIn book
+
   -- the score of the outside option is nobody's
   nonzero : (i : ℕ) → i < entryCount book → (entryAt book i .studentScore ≡ outsideScore → ⊥) × (entryAt book i .workshopScore ≡ outsideScore → ⊥)
   unfolding badScores
@@ -189,52 +152,85 @@ module _ (case book : List ℕ) (t : Passed case book) where
       nonzero-of : (x : ℕ) → badScore x ≡ false → x ≡ outsideScore → ⊥
       nonzero-of x b = eqb-false _ _ (or-false (eqb x outsideScore) _ b .0)
 
-  -- no later entry ties with an earlier one
-  untied : (i j : ℕ) → i < j → j < entryCount book
-      → (studentTies (rows case) (entries book) (entryAt book j) (entryAt book i) ≡ false)
-      × (workshopTies (rows case) (entries book) (entryAt book j) (entryAt book i) ≡ false)
-  unfolding badTie
-  untied i j l u =
-      or-false (studentTies (rows case) (entries book) (entryAt book j) (entryAt book i)) _
-      (none-before book (λ f. studentTies (rows case) (entries book) (entryAt book j) f || workshopTies (rows case) (entries book) (entryAt book j) f) i j l u
-      (rw (entry-at book j u) at (t .tie j u)))
+  student-nonzero : (s w : ℕ) → B .met s (suc w) ≡ true → B .studentScore s (suc w) ≡ B .studentScore s 0 → ⊥
+  unfolding resultsOf
+  student-nonzero s w m e =
+      let k : (i : ℕ) × EntryAt book s (suc w) i = entry-record book s (suc w) m in
+      nonzero (k .0) (k .1 .inside) .0 (sym (ap (λ e. e .studentScore) (k .1 .found)) ∙ e)
 
-  pub results-distinct : Distinct (marketIn case) (resultsIn book)
-  unfolding resultsOf studentTies workshopTies
+  workshop-nonzero : (s w : ℕ) → B .met (suc s) w ≡ true → B .workshopScore w (suc s) ≡ B .workshopScore w 0 → ⊥
+  unfolding resultsOf
+  workshop-nonzero s w m e =
+      let k : (i : ℕ) × EntryAt book (suc s) w i = entry-record book (suc s) w m in
+      nonzero (k .0) (k .1 .inside) .1 (sym (ap (λ e. e .workshopScore) (k .1 .found)) ∙ e)
+
+  -- no later entry ties with an earlier one
+  untied : (i j : ℕ) → i < j → j < entryCount book → studentTies (rows case) (entries book) (entryAt book j) (entryAt book i) ≡ false
+  unfolding badTie
+  untied i j l u = none-before book (studentTies (rows case) (entries book) (entryAt book j)) i j l u (rw (entry-at book j u) at (t .tie j u))
+
+  student-clash : (s x y i j : ℕ) → i < j → EntryAt book s x i → EntryAt book s y j → M .studentTier s x ≡ M .studentTier s y
+      → entryAt book i .studentScore ≡ entryAt book j .studentScore → saysNever (entryAt book j .studentScore) ≡ false → ⊥
+  unfolding studentTies
+  student-clash s x y i j l f h g m n =
+      never
+      (and-make (eq-eqb _ _ (f .student ∙ sym (h .student)))
+      (and-make
+      (eq-eqb (M .studentTier (entryAt book j .student) (entryAt book i .workshop)) (M .studentTier (entryAt book j .student) (entryAt book j .workshop))
+      (rw (h .student, f .workshop, h .workshop) g))
+      (and-make (eq-eqb _ _ m) (ap not n))))
+      (untied i j l (h .inside))
+
+  -- a student's scores in one tier are different, but where interviews ended in never
+  student-apart : (s x y : ℕ) → outsideOr (B .met s) x ≡ true → outsideOr (B .met s) y ≡ true → Possible (B .never) s x
+      → M .studentTier s x ≡ M .studentTier s y → B .studentScore s x ≡ B .studentScore s y → x ≡ y
+  unfolding resultsOf
+  student-apart s zero zero mx my ok g m = refl
+  student-apart s zero (suc y) mx my ok g m = absurd (student-nonzero s y my (sym m))
+  student-apart s (suc x) zero mx my ok g m = absurd (student-nonzero s x mx m)
+  student-apart s (suc x) (suc y) mx my ok g m =
+      let f : (i : ℕ) × EntryAt book s (suc x) i = entry-record book s (suc x) mx in
+      let h : (i : ℕ) × EntryAt book s (suc y) i = entry-record book s (suc y) my in
+      let n : saysNever (entryAt book (f .0) .studentScore) ≡ false =
+      or-false (saysNever (entryAt book (f .0) .studentScore)) _ (rw (f .1 .found) at (ok (omega arith))) .0 in
+      let same : entryAt book (f .0) .studentScore ≡ entryAt book (h .0) .studentScore =
+      sym (ap (λ e. e .studentScore) (f .1 .found)) ∙ (m ∙ ap (λ e. e .studentScore) (h .1 .found)) in
+      ⊎-elim (λ l. absurd (student-clash s (suc x) (suc y) (f .0) (h .0) l (f .1) (h .1) g same (ap saysNever (sym same) ∙ n)))
+      (λ le.
+      ⊎-elim (λ q. sym (f .1 .workshop) ∙ ap (λ i. entryAt book i .workshop) (sym q) ∙ h .1 .workshop)
+      (λ l. absurd (student-clash s (suc y) (suc x) (h .0) (f .0) l (h .1) (f .1) (sym g) (sym same) n))
+      (eq-or-lt-of-le le))
+      (less? (f .0) (h .0))
+
+  -- a workshop's scores are different, or the lots are
+  workshop-apart : (w x y : ℕ) → outsideOr (flip (M .paired) w) x ≡ true → outsideOr (flip (M .paired) w) y ≡ true
+      → outsideOr (flip (B .met) w) x ≡ true → outsideOr (flip (B .met) w) y ≡ true
+      → B .workshopScore w x ≡ B .workshopScore w y → M .lot x ≡ M .lot y → x ≡ y
+  workshop-apart w zero zero px py mx my e f = refl
+  workshop-apart w zero (suc y) px py mx my e f = absurd (workshop-nonzero y w my (sym e))
+  workshop-apart w (suc x) zero px py mx my e f = absurd (workshop-nonzero x w mx e)
+  workshop-apart w (suc x) (suc y) px py mx my e f =
+      let rx : (1 ≤ suc x) × (suc x ≤ M .students) = market-wf case book t .student (suc x) w px in
+      let ry : (1 ≤ suc y) × (suc y ≤ M .students) = market-wf case book t .student (suc y) w py in
+      lots-apart case (clean case book t) (t .lots) (suc x) (suc y) (rx .0) (rx .1) (ry .0) (ry .1) f
+
+  pub results-distinct : Distinct M B
   results-distinct =
       record {
-        students = side-distinct book (λ e. e .student) (λ e. e .workshop) (λ e. e .studentScore)
-            (marketIn case .paired) (resultsIn book .met) (resultsIn book .never) (marketIn case .studentTier) (resultsIn book .studentScore)
-            (λ i j l u s g v n. never (and-make (eq-eqb _ _ s) (and-make (eq-eqb _ _ g) (and-make (eq-eqb _ _ v) (ap not n)))) (untied i j l u .0))
-            (λ i l. nonzero i l .0)
-            (λ p. refl)
-            (λ p x m. let k : (i : ℕ) × EntryAt book p (suc x) i = entry-record book p (suc x) m in (
-              k .0,
-              record {
-                inside = k .1 .inside;
-                giver = k .1 .student;
-                receiver = k .1 .workshop;
-                score = ap (λ e. e .studentScore) (k .1 .found);
-                spared = λ n. or-false (saysNever (entryAt book (k .0) .studentScore)) _ (rw (k .1 .found) at n) .0;
-              },
-            ));
-        workshops = side-distinct book (λ e. e .workshop) (λ e. e .student) (λ e. e .workshopScore)
-            (flip (marketIn case .paired)) (flip (resultsIn book .met)) (flip (resultsIn book .never)) (marketIn case .workshopTier)
-            (resultsIn book .workshopScore)
-            (λ i j l u s g v n. never (and-make (eq-eqb _ _ s) (and-make (eq-eqb _ _ g) (and-make (eq-eqb _ _ v) (ap not n)))) (untied i j l u .1))
-            (λ i l. nonzero i l .1)
-            (λ p. refl)
-            (λ p x m. let k : (i : ℕ) × EntryAt book (suc x) p i = entry-record book (suc x) p m in (
-              k .0,
-              record {
-                inside = k .1 .inside;
-                giver = k .1 .workshop;
-                receiver = k .1 .student;
-                score = ap (λ e. e .workshopScore) (k .1 .found);
-                spared = λ n. or-false (saysNever (entryAt book (k .0) .studentScore)) _ (rw (k .1 .found) at n) .1;
-              },
-            ));
+        students = record {
+          apart = λ s x y ox oy mx my ok g e f.
+              student-apart s x y mx my ok g
+              (omega (arith, ltb-false (B .studentScore s x) (B .studentScore s y) e, ltb-false (B .studentScore s y) (B .studentScore s x) f));
+        };
+        workshops = record {
+          apart = λ w x y ox oy mx my ok g e f. workshop-apart w x y ox oy mx my (unparted M B w x y e f .0) (unparted M B w x y e f .1);
+        };
+        outside = outside;
       }
+    where
+      outside : (s w : ℕ) → M .paired s w ≡ true → B .met s w ≡ true → B .workshopScore w s ≡ B .workshopScore w 0 → ⊥
+      outside zero w p m e = omega (arith, market-wf case book t .student 0 w p)
+      outside (suc s) w p m e = workshop-nonzero s w m e
 
   -- no later entry is of the same pair
   unrepeated : (i j : ℕ) → i < j → j < entryCount book → isInterview (entryAt book j .student) (entryAt book j .workshop) (entryAt book i) ≡ false

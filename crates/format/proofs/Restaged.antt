@@ -19,11 +19,11 @@ use Rattle.lgs.specs.Market.{Rivals, ConsistentStages, allSeats, seatsOf}
 use Rattle.lgs.specs.Stages.{stageOf, FromOne, LeastStages}
 use Rattle.lgs.proofs.Valid.{WellFormed}
 use Rattle.format.specs.Layout.{Row, Entry, rowAt, rows, rowCount, noRow, entries, ofKind, unnamed, isStudent, isWorkshop, isPair, marketOf}
-use Rattle.format.specs.Layout.{outsideElse}
+use Rattle.format.specs.Layout.{outsideElse, hasLot}
 use Rattle.format.specs.Encoding.{Bytes, RowFits}
 use Rattle.format.specs.Causes.{Cause, whole, each, NothingFound}
 use Rattle.format.specs.Refusals.{notWithin, badForm, kindFalls, badNumber, notRising, namesNobody, badOrder, badCounts, badStudent, badWorkshop}
-use Rattle.format.specs.Refusals.{badTiers, badRange, Room, needed, badRoom, badPair, badScores, badRepeat, studentTies, workshopTies, badTie}
+use Rattle.format.specs.Refusals.{badTiers, badRange, badLot, Room, needed, badRoom, badPair, badScores, badRepeat, studentTies, badTie}
 use Rattle.format.specs.Refusals.{caseCauses, roomCauses, bookCauses, causes}
 use Rattle.format.specs.Engine.{marketIn}
 use Rattle.format.specs.Promises.{Valid}
@@ -50,6 +50,7 @@ module _ (case : List ℕ) (nothing : NothingFound (caseCauses case)) where
         form = all-pass (badForm (rows case)) (rowCount case) (nothing _ (later (here refl)));
         order = all-pass (badOrder (rows case)) (rowCount case) (nothing _ (later (later (here refl))));
         range = all-pass (badRange (rows case)) (rowCount case) (nothing _ (later (later (later (later (here refl))))));
+        lots = all-pass (badLot (rows case)) (rowCount case) (nothing _ (later (later (later (later (later (here refl)))))));
         pair = λ i l. absurd (omega arith);
         scores = λ i l. absurd (omega arith);
         repeat = λ i l. absurd (omega arith);
@@ -103,6 +104,12 @@ module _ (stages : List ℕ) where
 
     third-kept : new r .third ≡ r .third
     third-kept = kept (λ q. q .third) (λ e. refl)
+
+    fourth-kept : new r .fourth ≡ r .fourth
+    fourth-kept = kept (λ q. q .fourth) (λ e. refl)
+
+    lot-kept : (l : ℕ) → hasLot l (new r) ≡ hasLot l r
+    lot-kept l = kept (hasLot l) (λ e. refl)
 
     kinds-kept : (k : ℕ) → ofKind k (new r) ≡ ofKind k r
     kinds-kept k = kept (ofKind k) (λ e. refl)
@@ -216,6 +223,17 @@ module _ (stages : List ℕ) (rs : List Row) where
       rw (new-at i)
       (kept stages (getD rs i noRow) (λ r. eqb (r .kind) 3 && (notWithin 1 65 (r .third) || notWithin 1 513 (r .fourth))) (λ e. refl))
 
+  lot-same : (i : ℕ) → badLot news i ≡ badLot rs i
+  unfolding badLot
+  lot-same i =
+      rw (
+        new-at i,
+        kind-kept stages (getD rs i noRow),
+        fourth-kept stages (getD rs i noRow),
+        take-map (withStage stages) i rs,
+        any-map (withStage stages) (hasLot (getD rs i noRow .fourth)) (λ r. lot-kept stages r (getD rs i noRow .fourth)) (take i rs),
+      )
+
   pair-same : (es : List Entry) (i : ℕ) → badPair news es i ≡ badPair rs es i
   unfolding badPair
   pair-same es i = ap not (any-map (withStage stages) (isPair _ _) (λ r. pair-kept stages r _ _) rs)
@@ -247,6 +265,9 @@ module _ (stages : List ℕ) (rs : List Row) where
   student-tiers s zero = ap (λ r. r .third) (find-student s) ∙ third-kept stages (find (isStudent s) noRow rs)
   student-tiers s (suc w) = ap (λ r. r .third) (find-pair s (suc w))
 
+  student-lot : (s : ℕ) → find (isStudent s) noRow news .fourth ≡ find (isStudent s) noRow rs .fourth
+  student-lot s = ap (λ r. r .fourth) (find-student s) ∙ fourth-kept stages (find (isStudent s) noRow rs)
+
   workshop-tiers : (w x : ℕ)
       → outsideElse (find (isWorkshop w) noRow news .third) (λ s. find (isPair s w) noRow news .fourth) x
       ≡ outsideElse (find (isWorkshop w) noRow rs .third) (λ s. find (isPair s w) noRow rs .fourth) x
@@ -261,6 +282,7 @@ module _ (stages : List ℕ) (rs : List Row) where
         students = tally-news 1 i;
         workshops = tally-news 2 i;
         stage = λ s. staged s i;
+        lot = λ s. student-lot s i;
         quota = λ w. find-workshop w i .second;
         paired = λ s w. any-pair s w i;
         studentTier = λ s x. student-tiers s x i;
@@ -277,9 +299,13 @@ module _ (stages : List ℕ) (rs : List Row) where
     unfolding badRoom needed
     room-same room = rw (seats-same, tally-news 3, market)
 
+    ties-same : (es : List Entry) (e f : Entry) → studentTies news es e f ≡ studentTies rs es e f
+    unfolding studentTies
+    ties-same es e f = rw market
+
     tie-same : (es : List Entry) (i : ℕ) → badTie news es i ≡ badTie rs es i
-    unfolding badTie studentTies workshopTies
-    tie-same es i = rw market
+    unfolding badTie
+    tie-same es i = rw (fun-ext (λ e. fun-ext (ties-same es e)))
 
   scores-same : (es : List Entry) (i : ℕ) → badScores news es i ≡ badScores rs es i
   unfolding badScores
@@ -421,7 +447,10 @@ module _ (case stages : List ℕ)
       ∷ (4, whole (badCounts (rows case)))
       ∷ []
 
-  new-case : caseCauses (restaged stages case) ≡ before ++ ((5, each (rowCount case) (badRange (map (withStage stages) (rows case)))) ∷ [])
+  abbrev after : List Cause
+  after = (13, each (rowCount case) (badLot (rows case))) ∷ []
+
+  new-case : caseCauses (restaged stages case) ≡ before ++ ((5, each (rowCount case) (badRange (map (withStage stages) (rows case)))) ∷ after)
   unfolding caseCauses
   new-case =
       rw (
@@ -430,6 +459,7 @@ module _ (case stages : List ℕ)
         fun-ext (form-same stages (rows case)),
         fun-ext (order-same stages (rows case)),
         counts-same stages (rows case),
+        fun-ext (lot-same stages (rows case)),
       )
 
   pub new-nothing : NothingFound (caseCauses (restaged stages case))
@@ -437,7 +467,7 @@ module _ (case stages : List ℕ)
   new-nothing =
       subst NothingFound (sym new-case)
       (nothing-both before _ (λ d m. nothing d (in-left _ m))
-      (nothing-more _ [] (λ i f. never (f .found) (new-range i (f .within))) (λ d m. absurd (not-nil m))))
+      (nothing-more _ after (λ i f. never (f .found) (new-range i (f .within))) (λ d m. nothing d (in-right (before ++ ((5, each (rowCount case) (badRange (rows case))) ∷ [])) m))))
 
   module _ (book : List ℕ) (lent : Room) where
     new-rest : roomCauses (restaged stages case) lent ++ bookCauses (restaged stages case) book ≡ roomCauses case lent ++ bookCauses case book

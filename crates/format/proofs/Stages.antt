@@ -21,16 +21,16 @@ use Rattle.format.specs.Causes.{Cause, finds, firstCause, whole, Nothing
 use Rattle.format.specs.Refusals.{caseCauses}
 use Rattle.format.specs.Engine.{marketIn}
 use Rattle.format.specs.Stages.{StagesOutcome, staged, unstaged, noneAgree, stagesRoomCauses, stagesCauses, stagesUnless, workOut}
-use Rattle.format.specs.Stages.{restaged, stagesAfter, marketWith, StagesPromised, SixExactly, TwelveExactly, OnlyStages, SevenCauses, FileStagesUnread}
+use Rattle.format.specs.Stages.{restaged, stagesAfter, marketWith, StagesPromised, SixExactly, TwelveExactly, OnlyStages, EightCauses, FileStagesUnread}
 use Rattle.format.specs.Stages.{StagesKept, LentStagesKept}
 use Rattle.format.proofs.Causes.{table-none, none-table, table-some, first-left, first-right}
 use Rattle.format.proofs.Buffers.{head-length, past-head}
 use Rattle.format.proofs.Restaged.{case-wf, case-counts, least-short, new-nothing, new-market}
 
 -- ---- the causes, one after the other
-pub seven-causes : SevenCauses
+pub eight-causes : EightCauses
 unfolding stagesCauses caseCauses stagesRoomCauses
-seven-causes case room = refl
+eight-causes case room = refl
 
 module _ (case : List ℕ) (room : ℕ) where
   -- the last cause

@@ -11,7 +11,7 @@ use Rattle.lgs.specs.Rule.{interviewAll, close, settle, apply, turn, step, run,
 use Rattle.lgs.specs.Stages.{matters, asked, raised, moves, settled, leastStages}
 use Rattle.format.specs.Layout.{rowAt, rows, unnamed, marketOf, entryAt, entries, resultsOf}
 use Rattle.format.specs.Refusals.{badForm, kindFalls, badNumber, notRising, namesNobody, badOrder, badCounts, badStudent, badWorkshop}
-use Rattle.format.specs.Refusals.{badTiers, badRange, needed, badRoom, badPair, badScores, badRepeat, studentTies, workshopTies, badTie}
+use Rattle.format.specs.Refusals.{badTiers, badRange, needed, badRoom, badPair, badScores, badRepeat, studentTies, badLot, badTie}
 use Rattle.format.specs.Refusals.{caseCauses, roomCauses, bookCauses, causes, refusal}
 use Rattle.format.specs.Encoding.{words, rowBytes, caseBytes}
 use Rattle.format.specs.Buffers.{flat, placesAfter, visitsAfter, values}
@@ -20,14 +20,14 @@ use Rattle.format.specs.Printed.{digitsWithin, decimal, numbers, placeLi
 use Rattle.format.specs.Stages.{noneAgree, stagesRoomCauses, stagesCauses, stagesUnless, workOut, stagesAfter, stagesValues, withStage, restaged}
 use Rattle.format.specs.Table.{Computed, caseOf, bookOf, studentsK, workshopsK, pairsK, caseWith, bookWith, K, bookK, visitsK, answerK, table}
 use Rattle.format.specs.Table.{ownTable, ample, exact, shortRooms, people, countsRefused, buffersAfter, buffersExpected, texts, textsExpected}
-use Rattle.format.specs.Table.{neverTable, neverK, answerNeverK, given, expected}
+use Rattle.format.specs.Table.{neverTable, neverK, answerNeverK, tiedK, answerTiedK, lotsK, lotsTable, given, expected}
 use Rattle.format.specs.Table.{wished, crossed, stagedK, stagesTable, stagesGiven, stagesExpected, stagesLeft, stagesLeftExpected}
 
 pub computed : Computed
-unfolding given expected table ownTable neverTable neverK answerNeverK ample exact shortRooms people countsRefused buffersAfter buffersExpected
+unfolding given expected table ownTable neverTable neverK answerNeverK tiedK answerTiedK lotsK lotsTable ample exact shortRooms people countsRefused buffersAfter buffersExpected
     flat placesAfter visitsAfter values
     texts textsExpected unread words rowBytes caseBytes flatMap caseOf bookOf studentsK workshopsK pairsK caseWith bookWith K bookK visitsK answerK
-    engine outcomeUnless ruleOutcome outcomeOf refusal causes caseCauses roomCauses bookCauses badTie workshopTies studentTies badRepeat badScores
+    engine outcomeUnless ruleOutcome outcomeOf refusal causes caseCauses roomCauses bookCauses badTie studentTies badLot badRepeat badScores
     badPair badRoom needed allSeats seatsOf badRange badTiers badWorkshop badStudent badCounts badOrder namesNobody notRising badNumber kindFalls
     badForm resultsOf entries entryAt unnamed marketOf rows rowAt signed word firstBad update pick find tally any keep tabulate upto total count
     lazyGaleShapley fuel run step turn apply settle close interviewAll best lowestOf below holders due choices open? unopened declined outscored start
@@ -39,10 +39,13 @@ computed =
       answers = refl;
       own = refl;
       nevers = refl;
+      lots = refl;
       counts = refl;
       exactly = refl;
       exactlyNever = refl;
+      exactlyTied = refl;
       shortly = refl;
+      lotFirst = refl;
       buffers = refl;
       text = refl;
       stages = refl;

@@ -11,7 +11,7 @@ use Rattle.lgs.specs.Market.{Market, Results}
 -- ---- The case: "records of 16 bytes, no header".
 
 -- "Byte 0 is the kind, byte 1 is zero, then 16-bit fields from byte 2."
---   kind 1, student:  first = number,   second = stage,    third = line group
+--   kind 1, student:  first = number,   second = stage,    third = line group, fourth = lot (document 02, Paper 3)
 --   kind 2, workshop: first = number,   second = quota,    third = line group
 --   kind 3, pair:     first = student,  second = workshop, third = the student's group for the workshop, fourth = the workshop's for the student
 pub record Row : Type 0 where
@@ -58,13 +58,17 @@ ofKind k r = eqb (r .kind) k
 -- "bytes not named are zero": byte 1 and the fields that a record of its kind does not name
 unfoldable pub unnamed : Row → List ℕ
 unnamed r =
-    cond (ofKind 3 r)
-    (r .pad ∷ r .fifth ∷ r .sixth ∷ r .seventh ∷ [])
+    cond (ofKind 2 r)
     (r .pad ∷ r .fourth ∷ r .fifth ∷ r .sixth ∷ r .seventh ∷ [])
+    (r .pad ∷ r .fifth ∷ r .sixth ∷ r .seventh ∷ [])
 
 -- the record of student s
 abbrev pub isStudent : ℕ → Row → Bool
 isStudent s r = eqb (r .kind) 1 && eqb (r .first) s
+
+-- the record of a student with this lot
+abbrev pub hasLot : ℕ → Row → Bool
+hasLot lot r = eqb (r .kind) 1 && eqb (r .fourth) lot
 
 -- the record of workshop w
 abbrev pub isWorkshop : ℕ → Row → Bool
@@ -86,6 +90,7 @@ marketOf rs =
       students = tally (ofKind 1) rs;
       workshops = tally (ofKind 2) rs;
       stage = λ s. find (isStudent s) noRow rs .second;
+      lot = λ s. find (isStudent s) noRow rs .fourth;
       quota = λ w. find (isWorkshop w) noRow rs .second;
       paired = λ s w. any (isPair s w) rs;
       studentTier = λ s. outsideElse (find (isStudent s) noRow rs .third) (λ w. find (isPair s w) noRow rs .third);

@@ -1,6 +1,6 @@
 -- The three demands, for every case and book in bytes and every room lent, and what shows that they are not empty. The proofs are in
 -- proofs/Promises.antt.
-use Prim.Native.Nat.{ℕ, _*_, _≤_}
+use Prim.Native.Nat.{ℕ, _*_, _≤_, _<_}
 use mathlib.Core.Bool.{Bool, true, false}
 use mathlib.Core.Path.{_≡_}
 use mathlib.Core.Logic.{_⊎_}
@@ -11,7 +11,7 @@ use lib.ListN.{length, getD}
 use Rattle.base.specs.Lists.{upto, any}
 use Rattle.lgs.specs.Market.{ConsistentStages}
 use Rattle.lgs.specs.Profiles.{Profile, StrictProfile, RespectsTiers, Fits, StudentOptimal}
-use Rattle.lgs.specs.Rule.{Interview, interviewed, State, going, stopped, finished, lazyGaleShapley}
+use Rattle.lgs.specs.Rule.{Interview, interviewed, State, below, going, stopped, finished, lazyGaleShapley}
 use Rattle.lgs.specs.Promises.{Listed, OptimalWhateverUnseen, MinimalInterviews, NextInterview, Begins, matchingOf}
 use Rattle.format.specs.Layout.{Entry, rows, entries, isInterview}
 use Rattle.format.specs.Causes.{Cause, NothingFound, FoundFirst}
@@ -21,7 +21,7 @@ use Rattle.format.specs.Buffers.{placesAfter, visitsAfter}
 
 -- ---- Demand 1 (with crate format's Buffers for what stays and what is zero): "every case and book in the layouts of document 01, with buffers
 -- of at least the stated lengths, gets the next visit or a finished placement, and the run ends. All other input gets one of eleven refusals with
--- its record".
+-- its record"; 13 "makes demand 1's refusals twelve" (document 02, Paper 3).
 
 module _ (case book : List ℕ) (room : Room) where
   -- no cause finds anything
@@ -32,11 +32,11 @@ module _ (case book : List ℕ) (room : Room) where
   abbrev pub Refused : ℕ → ℕ → Type 0
   Refused = FoundFirst (causes case book room)
 
--- "one of eleven refusals": the numbers of the causes, in the table's order
-abbrev pub Eleven : Type 0
-Eleven =
+-- "one of" twelve refusals: the numbers of the causes, in the order in which they are tested
+abbrev pub Twelve : Type 0
+Twelve =
     (case book : List ℕ) (room : Room)
-    → map (λ (c : Cause). c .0) (causes case book room) ≡ 1 ∷ 2 ∷ 3 ∷ 4 ∷ 5 ∷ 6 ∷ 7 ∷ 8 ∷ 9 ∷ 10 ∷ 11 ∷ []
+    → map (λ (c : Cause). c .0) (causes case book room) ≡ 1 ∷ 2 ∷ 3 ∷ 4 ∷ 5 ∷ 13 ∷ 6 ∷ 7 ∷ 8 ∷ 9 ∷ 10 ∷ 11 ∷ []
 
 -- the answer is the placement with which the rule finishes, or the next interview at which it stops
 pub data ByRule (case book : List ℕ) : Outcome → Type 0 where
@@ -116,6 +116,49 @@ Demand3 =
     (case book : List ℕ) (room : Room) (places : List ℕ) (vs : List Interview)
     → engine case book room ≡ placed places vs
     → MinimalInterviews (marketIn case) (resultsIn book) places vs
+
+-- ---- Lots (document 02, Paper 3).
+
+-- each student has one, "from 1 to 512, all different"
+pub record LotsDiffer : Type 0 where
+  pub range : (case book : List ℕ) (room : Room)
+      → Valid case book room
+      → (s : ℕ)
+      → 1 ≤ s
+      → s ≤ marketIn case .students
+      → (1 ≤ marketIn case .lot s) × (marketIn case .lot s ≤ 512)
+  pub apart : (case book : List ℕ) (room : Room)
+      → Valid case book room
+      → (s t : ℕ)
+      → 1 ≤ s
+      → s ≤ marketIn case .students
+      → 1 ≤ t
+      → t ≤ marketIn case .students
+      → marketIn case .lot s ≡ marketIn case .lot t
+      → s ≡ t
+
+-- "a workshop's equal marks in one group": of students s and t, of whom s has the lower lot
+pub record EqualMarks (case book : List ℕ) (w s t : ℕ) : Type 0 where
+  pub pair : marketIn case .paired s w ≡ true
+  pub pair′ : marketIn case .paired t w ≡ true
+  pub met : resultsIn book .met s w ≡ true
+  pub met′ : resultsIn book .met t w ≡ true
+  pub tier : marketIn case .workshopTier w s ≡ marketIn case .workshopTier w t
+  pub score : resultsIn book .workshopScore w s ≡ resultsIn book .workshopScore w t
+  pub lower : marketIn case .lot s < marketIn case .lot t
+
+-- they "are parted by the lower lot, in the rule and in the orders that fit": t stands below s
+pub record LotsPart : Type 0 where
+  pub rule : (case book : List ℕ) (σ : State) (w s t : ℕ)
+      → EqualMarks case book w s t
+      → interviewed (σ .interviews) s w ≡ true
+      → interviewed (σ .interviews) t w ≡ true
+      → below (marketIn case) (resultsIn book) σ w t s ≡ true
+  pub fits : (case book : List ℕ) (O : Profile)
+      → FitsBook case book O
+      → (w s t : ℕ)
+      → EqualMarks case book w s t
+      → O .workshopRank w s < O .workshopRank w t
 
 -- ---- That these say something.
 

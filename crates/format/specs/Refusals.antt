@@ -1,4 +1,5 @@
--- The eleven refusals (document 01, "When the desk says no"). Each cause is a test on one record, given by its place, or on a whole file.
+-- The twelve refusals (document 01, "When the desk says no"; 13: document 02, Paper 3). Each cause is a test on one record, given by its place, or on a
+-- whole file.
 use Prim.Native.Nat.{ℕ, suc, _+_, _-_, _*_, _%_}
 use mathlib.Core.Bool.{Bool, not, _&&_, _||_}
 use mathlib.Core.List.{List, [], _∷_, _++_}
@@ -8,7 +9,7 @@ use lib.Dec.{ltb, eqb}
 use Rattle.base.specs.Lists.{any, tally}
 use Rattle.lgs.specs.Market.{Market, allSeats}
 use Rattle.format.specs.Layout.{Row, Entry, noRow, noEntry, rows, entries, rowCount, entryCount, ofKind, unnamed, isStudent, isWorkshop}
-use Rattle.format.specs.Layout.{isPair, isInterview, marketOf, outsideScore, saysNever}
+use Rattle.format.specs.Layout.{hasLot, isPair, isInterview, marketOf, outsideScore, saysNever}
 use Rattle.format.specs.Causes.{Cause, whole, each, firstCause}
 
 -- the number is not from low to high
@@ -81,6 +82,10 @@ module _ (rs : List Row) where
   unfoldable pub badRange : ℕ → Bool
   badRange i = badStudent i || (badWorkshop i || badTiers i)
 
+  -- 13: "when a lot is out of range", 1 to 512, "or already used by an earlier student"
+  unfoldable pub badLot : ℕ → Bool
+  badLot i = eqb (row i .kind) 1 && (notWithin 1 512 (row i .fourth) || any (hasLot (row i .fourth)) (take i rs))
+
   -- the lengths needed (document 01, "Buffers"): places and states "one for each student", visits "two 16-bit entries per pair record",
   -- seats "one 16-bit entry per seat of all quotas", index "one 16-bit entry per pair record"
   unfoldable pub needed : Room
@@ -119,24 +124,17 @@ module _ (rs : List Row) where
     unfoldable pub badRepeat : ℕ → Bool
     badRepeat i = any (isInterview (entry i .student) (entry i .workshop)) (take i es)
 
-    -- 11: "one person gave an equal mark earlier in the same group": the student of both records
+    -- 11: "one person gave an equal mark earlier in the same group"; it "remains for students' marks only" (document 02, Paper 3): the student of both records
     unfoldable pub studentTies : Entry → Entry → Bool
     studentTies e f =
         let tier = marketOf rs .studentTier (e .student) in
         eqb (f .student) (e .student)
         && (eqb (tier (f .workshop)) (tier (e .workshop)) && tiedScores (f .studentScore) (e .studentScore))
 
-    -- 11: or the workshop of both records
-    unfoldable pub workshopTies : Entry → Entry → Bool
-    workshopTies e f =
-        let tier = marketOf rs .workshopTier (e .workshop) in
-        eqb (f .workshop) (e .workshop)
-        && (eqb (tier (f .student)) (tier (e .student)) && tiedScores (f .workshopScore) (e .workshopScore))
-
     unfoldable pub badTie : ℕ → Bool
-    badTie i = any (λ f. studentTies (entry i) f || workshopTies (entry i) f) (take i es)
+    badTie i = any (studentTies (entry i)) (take i es)
 
--- ---- the causes: those of the case, the lent buffers' and those of the book, each in the table's order
+-- ---- the causes: those of the case, the lent buffers' and those of the book, each in the table's order; 13 is "tested after 5 and before 6"
 
 unfoldable pub caseCauses : List ℕ → List Cause
 caseCauses case =
@@ -146,6 +144,7 @@ caseCauses case =
     ∷ (3, each (rowCount case) (badOrder rs))
     ∷ (4, whole (badCounts rs))
     ∷ (5, each (rowCount case) (badRange rs))
+    ∷ (13, each (rowCount case) (badLot rs))
     ∷ []
 
 unfoldable pub roomCauses : List ℕ → Room → List Cause

@@ -34,7 +34,7 @@ noneAgree none = true
 unfoldable pub stagesRoomCauses : List ℕ → ℕ → List Cause
 stagesRoomCauses case room = (6, whole (ltb room (marketIn case .students))) ∷ []
 
--- "The stages in the file are only checked for range": 1 to 5 as for the engine. "12 .., tested after 6 .., with place 0".
+-- "The stages in the file are only checked for range": the case's causes as for the engine. "12 .., tested after 6 .., with place 0".
 unfoldable pub stagesCauses : List ℕ → ℕ → List Cause
 stagesCauses case room = caseCauses case ++ (stagesRoomCauses case room ++ ((12, whole (noneAgree (leastStages (marketIn case)))) ∷ []))
 
@@ -92,6 +92,7 @@ marketWith M stages =
       students = M .students;
       workshops = M .workshops;
       stage = stageOf stages;
+      lot = M .lot;
       quota = M .quota;
       paired = M .paired;
       studentTier = M .studentTier;
@@ -124,7 +125,7 @@ StagesPromised case room (staged stages) =
     × ShortList case stages
 StagesPromised case room (unstaged k i) = FoundFirst (stagesCauses case room) k i × (k ≡ 12 → NoStages (marketIn case))
 
--- "6 covers their own buffers too (an entry for each thing returned ..)": in a case that 1 to 5 pass, exactly when there are fewer entries than students
+-- "6 covers their own buffers too (an entry for each thing returned ..)": in a case that 1 to 5 and 13 pass, exactly when there are fewer entries than students
 pub record SixExactly : Type 0 where
   pub given : (case : List ℕ) (room : ℕ) (i : ℕ)
       → workOut case room ≡ unstaged 6 i
@@ -150,11 +151,11 @@ pub record TwelveExactly : Type 0 where
       → (stages : List ℕ) × (workOut case room ≡ staged stages)
 
 -- "tested after 6": the numbers of the causes, in the order in which they are tested
-abbrev pub SevenCauses : Type 0
-SevenCauses =
-    (case : List ℕ) (room : ℕ) → map (λ (c : Cause). c .0) (stagesCauses case room) ≡ 1 ∷ 2 ∷ 3 ∷ 4 ∷ 5 ∷ 6 ∷ 12 ∷ []
+abbrev pub EightCauses : Type 0
+EightCauses =
+    (case : List ℕ) (room : ℕ) → map (λ (c : Cause). c .0) (stagesCauses case room) ≡ 1 ∷ 2 ∷ 3 ∷ 4 ∷ 5 ∷ 13 ∷ 6 ∷ 12 ∷ []
 
--- "The stages in the file are only checked for range": in a case that 1 to 5 pass, any others within it give the same answer
+-- "The stages in the file are only checked for range": in a case that 1 to 5 and 13 pass, any others within it give the same answer
 abbrev pub FileStagesUnread : Type 0
 FileStagesUnread =
     (case : List ℕ) (room : ℕ) (stages : List ℕ)

@@ -5,7 +5,7 @@ use mathlib.Core.Path.{_≡_}
 use mathlib.Core.Bool.{Bool, true, false}
 use mathlib.Core.List.{List, [], _∷_, _++_, map, flatMap}
 use lib.ListN.{getD, take, replicate}
-use Rattle.base.specs.Lists.{upto}
+use Rattle.base.specs.Lists.{upto, entryFor}
 use Rattle.lgs.specs.Rule.{Interview}
 use Rattle.format.specs.Layout.{Row}
 use Rattle.format.specs.Encoding.{words, rowBytes, caseBytes}
@@ -52,10 +52,14 @@ f3 a b c = a ∷ b ∷ c ∷ []
 abbrev pub f4 : ℕ → ℕ → ℕ → ℕ → List ℕ
 f4 a b c d = a ∷ b ∷ c ∷ d ∷ []
 
+-- student n by stage and line group: "the table's cases take lots equal to student numbers" (document 02, Paper 3)
+abbrev pub numbered : ℕ → ℕ → ℕ → List ℕ
+numbered n stage line = f4 n stage line n
+
 -- ---- example K, with what its variants change: the quotas, and the line group of workshop 2
 
 unfoldable pub studentsK : List (List ℕ)
-studentsK = f3 1 1 2 ∷ f3 2 2 2 ∷ f3 3 2 2 ∷ []
+studentsK = numbered 1 1 2 ∷ numbered 2 2 2 ∷ numbered 3 2 2 ∷ []
 
 unfoldable pub workshopsK : ℕ → ℕ → ℕ → List (List ℕ)
 workshopsK q1 q2 line2 = f3 1 q1 3 ∷ f3 2 q2 line2 ∷ []
@@ -76,11 +80,19 @@ K = caseWith 1 1 3
 unfoldable pub bookK : List ℕ
 bookK = bookWith 5 4 1 4 6
 
+-- workshop 2's mark for 3 at 1, as for 2
+unfoldable pub tiedK : List ℕ
+tiedK = bookWith 5 4 1 4 1
+
 unfoldable pub visitsK : List Interview
 visitsK = (1, 1) ∷ (1, 2) ∷ (2, 2) ∷ (3, 2) ∷ []
 
 unfoldable pub answerK : Outcome
 answerK = placed (1 ∷ 0 ∷ 2 ∷ []) visitsK
+
+-- to equal marks of workshop 2 for 2 and 3, of whom 2 has the lower lot
+unfoldable pub answerTiedK : Outcome
+answerTiedK = placed (1 ∷ 2 ∷ 0 ∷ []) visitsK
 
 -- a case, a book, and the answer to them
 pub record Sample : Type 0 where
@@ -105,7 +117,7 @@ table =
     ∷ sample (caseOf studentsK (workshopsK 1 1 3) []) [] (placed (0 ∷ 0 ∷ 0 ∷ []) [])
     ∷ sample (caseWith 1 1 2) (bookWith 5 4 1 4 (neg 6)) (placed (1 ∷ 2 ∷ 0 ∷ []) visitsK)
     ∷ sample K (bookWith 5 1 1 4 6) answerK
-    ∷ sample K (bookWith 5 4 1 4 1) (refused 11 3)
+    ∷ sample K tiedK answerTiedK
     ∷ sample K (bookWith 1000 4 1 4 6) answerK
     ∷ sample K (bookWith 1001 4 1 4 6) (refused 9 0)
     ∷ sample [] [] (refused 4 0)
@@ -121,28 +133,28 @@ oneEach s w pairs = caseOf (s ∷ []) (w ∷ []) pairs
 unfoldable pub ownTable : List Sample
 ownTable =
     -- a negative mark outside the line group closes nothing
-    sample (oneEach (f3 1 1 1) (f3 1 1 2) (f4 1 1 1 1 ∷ [])) (bookOf (f4 1 1 1 (neg 1) ∷ [])) (placed (1 ∷ []) ((1, 1) ∷ []))
+    sample (oneEach (numbered 1 1 1) (f3 1 1 2) (f4 1 1 1 1 ∷ [])) (bookOf (f4 1 1 1 (neg 1) ∷ [])) (placed (1 ∷ []) ((1, 1) ∷ []))
     -- a workshop with a free seat is deleted for nobody
-    ∷ sample (caseOf (f3 1 1 1 ∷ f3 2 1 1 ∷ []) (f3 1 2 2 ∷ []) (f4 1 1 1 1 ∷ f4 2 1 1 2 ∷ [])) (bookOf (f4 1 1 1 1 ∷ []))
+    ∷ sample (caseOf (numbered 1 1 1 ∷ numbered 2 1 1 ∷ []) (f3 1 2 2 ∷ []) (f4 1 1 1 1 ∷ f4 2 1 1 2 ∷ [])) (bookOf (f4 1 1 1 1 ∷ []))
     (next 2 1 ((1, 1) ∷ []))
     -- marks of two groups are not compared
-    ∷ sample (caseOf (f3 1 1 2 ∷ f3 2 1 2 ∷ []) (f3 1 1 3 ∷ []) (f4 1 1 1 2 ∷ f4 2 1 1 1 ∷ [])) (bookOf (f4 1 1 1 5 ∷ f4 2 1 1 1 ∷ []))
+    ∷ sample (caseOf (numbered 1 1 2 ∷ numbered 2 1 2 ∷ []) (f3 1 1 3 ∷ []) (f4 1 1 1 2 ∷ f4 2 1 1 1 ∷ [])) (bookOf (f4 1 1 1 5 ∷ f4 2 1 1 1 ∷ []))
     (placed (0 ∷ 1 ∷ []) ((1, 1) ∷ (2, 1) ∷ []))
     -- the next group is opened only when nothing is open; groups may have gaps
-    ∷ sample (caseOf (f3 1 1 9 ∷ []) (f3 1 1 2 ∷ f3 2 1 2 ∷ []) (f4 1 1 3 1 ∷ f4 1 2 7 1 ∷ [])) (bookOf (f4 1 1 (neg 5) 1 ∷ []))
+    ∷ sample (caseOf (numbered 1 1 9 ∷ []) (f3 1 1 2 ∷ f3 2 1 2 ∷ []) (f4 1 1 3 1 ∷ f4 1 2 7 1 ∷ [])) (bookOf (f4 1 1 (neg 5) 1 ∷ []))
     (placed (1 ∷ []) ((1, 1) ∷ []))
     -- stages come before numbers
-    ∷ sample (caseOf (f3 1 2 2 ∷ f3 2 1 2 ∷ []) (f3 1 2 3 ∷ []) (f4 1 1 1 1 ∷ f4 2 1 1 1 ∷ [])) [] (next 2 1 [])
+    ∷ sample (caseOf (numbered 1 2 2 ∷ numbered 2 1 2 ∷ []) (f3 1 2 3 ∷ []) (f4 1 1 1 1 ∷ f4 2 1 1 1 ∷ [])) [] (next 2 1 [])
     -- a mark below 0 of the student in her line group leaves her without a place, and the visit stays on the list
-    ∷ sample (oneEach (f3 1 1 1) (f3 1 1 1) (f4 1 1 1 1 ∷ [])) (bookOf (f4 1 1 (neg 1) 1 ∷ [])) (placed (0 ∷ []) ((1, 1) ∷ []))
+    ∷ sample (oneEach (numbered 1 1 1) (f3 1 1 1) (f4 1 1 1 1 ∷ [])) (bookOf (f4 1 1 (neg 1) 1 ∷ [])) (placed (0 ∷ []) ((1, 1) ∷ []))
     -- a workshop's mark below 0 in its line group is a no
-    ∷ sample (oneEach (f3 1 1 1) (f3 1 1 1) (f4 1 1 1 1 ∷ [])) (bookOf (f4 1 1 1 (neg 1) ∷ [])) (placed (0 ∷ []) ((1, 1) ∷ []))
+    ∷ sample (oneEach (numbered 1 1 1) (f3 1 1 1) (f4 1 1 1 1 ∷ [])) (bookOf (f4 1 1 1 (neg 1) ∷ [])) (placed (0 ∷ []) ((1, 1) ∷ []))
     -- a workshop beyond the student's line is never visited, nor a student beyond the workshop's line
-    ∷ sample (oneEach (f3 1 1 1) (f3 1 1 1) (f4 1 1 2 1 ∷ [])) [] (placed (0 ∷ []) [])
-    ∷ sample (oneEach (f3 1 1 1) (f3 1 1 1) (f4 1 1 1 2 ∷ [])) [] (placed (0 ∷ []) [])
+    ∷ sample (oneEach (numbered 1 1 1) (f3 1 1 1) (f4 1 1 2 1 ∷ [])) [] (placed (0 ∷ []) [])
+    ∷ sample (oneEach (numbered 1 1 1) (f3 1 1 1) (f4 1 1 1 2 ∷ [])) [] (placed (0 ∷ []) [])
     -- a dropped student is in hand next
     ∷ sample
-    (caseOf (f3 1 1 3 ∷ f3 2 1 3 ∷ f3 3 1 3 ∷ []) (f3 1 1 2 ∷ f3 2 1 2 ∷ []) (f4 1 1 1 1 ∷ f4 1 2 2 1 ∷ f4 2 1 1 1 ∷ f4 3 2 1 1 ∷ []))
+    (caseOf (numbered 1 1 3 ∷ numbered 2 1 3 ∷ numbered 3 1 3 ∷ []) (f3 1 1 2 ∷ f3 2 1 2 ∷ []) (f4 1 1 1 1 ∷ f4 1 2 2 1 ∷ f4 2 1 1 1 ∷ f4 3 2 1 1 ∷ []))
     (bookOf (f4 1 1 1 1 ∷ f4 1 2 1 1 ∷ f4 2 1 1 2 ∷ f4 3 2 1 2 ∷ []))
     (placed (0 ∷ 1 ∷ 2 ∷ []) ((1, 1) ∷ (2, 1) ∷ (1, 2) ∷ (3, 2) ∷ []))
     -- a stop inside a group keeps its visits
@@ -150,44 +162,43 @@ ownTable =
     -- a student's equal marks in two groups are fine
     ∷ sample K (bookOf (f4 1 1 5 3 ∷ f4 1 2 2 4 ∷ f4 2 2 (neg 1) 1 ∷ f4 3 1 4 9 ∷ f4 3 2 4 6 ∷ [])) answerK
     -- the ends of the ranges are allowed
-    ∷ sample (oneEach (f3 1 512 65) (f3 1 512 513) (f4 1 1 65 513 ∷ [])) (bookOf (f4 1 1 (neg 1000) (neg 1000) ∷ []))
+    ∷ sample (oneEach (numbered 1 512 65) (f3 1 512 513) (f4 1 1 65 513 ∷ [])) (bookOf (f4 1 1 (neg 1000) (neg 1000) ∷ []))
     (placed (0 ∷ []) ((1, 1) ∷ []))
     -- each refusal that the fifteen lack, at its first record
-    ∷ sample (oneEach (f3 1 1 1) (1 ∷ 1 ∷ 1 ∷ 7 ∷ []) []) [] (refused 2 1)
+    ∷ sample (oneEach (numbered 1 1 1) (1 ∷ 1 ∷ 1 ∷ 7 ∷ []) []) [] (refused 2 1)
     ∷ sample (caseBytes (rowWith 4 (f3 1 1 1) ∷ [])) [] (refused 2 0)
-    ∷ sample (oneEach (f3 1 1 1) (f3 2 1 1) []) [] (refused 3 1)
-    ∷ sample (caseOf (f3 1 1 1 ∷ []) [] (f4 1 1 1 1 ∷ [])) [] (refused 3 1)
-    ∷ sample (oneEach (f3 1 1 1) (f3 1 1 1) (f4 1 1 1 1 ∷ f4 1 1 1 1 ∷ [])) [] (refused 3 3)
-    ∷ sample (caseOf (f3 1 1 1 ∷ []) [] []) [] (refused 4 0)
-    ∷ sample (oneEach (f3 1 513 1) (f3 1 1 1) []) [] (refused 5 0)
-    ∷ sample (oneEach (f3 1 1 1) (f3 1 513 1) []) [] (refused 5 1)
-    ∷ sample (oneEach (f3 1 1 1) (f3 1 1 1) (f4 1 1 66 1 ∷ [])) [] (refused 5 2)
-    ∷ sample (oneEach (f3 1 1 1) (f3 1 1 1) []) (1 ∷ []) (refused 7 0)
-    ∷ sample (oneEach (f3 1 1 1) (f3 1 1 1) []) (bookOf (f4 1 1 1 1 ∷ [])) (refused 8 0)
+    ∷ sample (oneEach (numbered 1 1 1) (f3 2 1 1) []) [] (refused 3 1)
+    ∷ sample (caseOf (numbered 1 1 1 ∷ []) [] (f4 1 1 1 1 ∷ [])) [] (refused 3 1)
+    ∷ sample (oneEach (numbered 1 1 1) (f3 1 1 1) (f4 1 1 1 1 ∷ f4 1 1 1 1 ∷ [])) [] (refused 3 3)
+    ∷ sample (caseOf (numbered 1 1 1 ∷ []) [] []) [] (refused 4 0)
+    ∷ sample (oneEach (numbered 1 513 1) (f3 1 1 1) []) [] (refused 5 0)
+    ∷ sample (oneEach (numbered 1 1 1) (f3 1 513 1) []) [] (refused 5 1)
+    ∷ sample (oneEach (numbered 1 1 1) (f3 1 1 1) (f4 1 1 66 1 ∷ [])) [] (refused 5 2)
+    ∷ sample (oneEach (numbered 1 1 1) (f3 1 1 1) []) (1 ∷ []) (refused 7 0)
+    ∷ sample (oneEach (numbered 1 1 1) (f3 1 1 1) []) (bookOf (f4 1 1 1 1 ∷ [])) (refused 8 0)
     ∷ sample K (bookOf (f4 1 1 5 3 ∷ f4 1 2 2 0 ∷ [])) (refused 9 1)
     ∷ sample K (bookOf (f4 1 1 5 3 ∷ f4 1 1 4 2 ∷ [])) (refused 10 1)
-    -- byte 1, bytes 8 and 9 of a student, and bytes 10 to 15
-    ∷ sample (1 ∷ 1 ∷ words (f3 1 1 1) ++ replicate 8 0) [] (refused 2 0)
-    ∷ sample (oneEach (f4 1 1 1 7) (f3 1 1 1) []) [] (refused 2 0)
-    ∷ sample (oneEach (f3 1 1 1) (f3 1 1 1) ((1 ∷ 1 ∷ 1 ∷ 1 ∷ 1 ∷ []) ∷ [])) [] (refused 2 2)
-    ∷ sample (oneEach (f3 1 1 1) (f3 1 1 1) ((1 ∷ 1 ∷ 1 ∷ 1 ∷ 0 ∷ 256 ∷ []) ∷ [])) [] (refused 2 2)
-    ∷ sample (oneEach (1 ∷ 1 ∷ 1 ∷ 0 ∷ 0 ∷ 0 ∷ 256 ∷ []) (f3 1 1 1) []) [] (refused 2 0)
+    -- byte 1, and bytes 10 to 15
+    ∷ sample (1 ∷ 1 ∷ words (numbered 1 1 1) ++ replicate 6 0) [] (refused 2 0)
+    ∷ sample (oneEach (numbered 1 1 1) (f3 1 1 1) ((1 ∷ 1 ∷ 1 ∷ 1 ∷ 1 ∷ []) ∷ [])) [] (refused 2 2)
+    ∷ sample (oneEach (numbered 1 1 1) (f3 1 1 1) ((1 ∷ 1 ∷ 1 ∷ 1 ∷ 0 ∷ 256 ∷ []) ∷ [])) [] (refused 2 2)
+    ∷ sample (oneEach (1 ∷ 1 ∷ 1 ∷ 1 ∷ 0 ∷ 0 ∷ 256 ∷ []) (f3 1 1 1) []) [] (refused 2 0)
     ∷ sample (caseBytes (rowWith 0 (f3 1 1 1) ∷ [])) [] (refused 2 0)
     -- a pair before its workshop, kinds that fall, a pair with nobody, pairs not rising by workshop and by student
-    ∷ sample (caseBytes (rowWith 1 (f3 1 1 1) ∷ rowWith 3 (f4 1 1 1 1) ∷ rowWith 2 (f3 1 1 1) ∷ [])) [] (refused 3 1)
-    ∷ sample (caseBytes (rowWith 2 (f3 1 1 1) ∷ rowWith 1 (f3 1 1 1) ∷ [])) [] (refused 3 1)
-    ∷ sample (oneEach (f3 1 1 1) (f3 1 1 1) (f4 2 1 1 1 ∷ [])) [] (refused 3 2)
-    ∷ sample (caseOf (f3 1 1 1 ∷ []) (f3 1 1 1 ∷ f3 2 1 1 ∷ []) (f4 1 2 1 1 ∷ f4 1 1 1 1 ∷ [])) [] (refused 3 4)
-    ∷ sample (caseOf (f3 1 1 1 ∷ f3 2 1 1 ∷ []) (f3 1 1 1 ∷ []) (f4 2 1 1 1 ∷ f4 1 1 1 1 ∷ [])) [] (refused 3 4)
+    ∷ sample (caseBytes (rowWith 1 (numbered 1 1 1) ∷ rowWith 3 (f4 1 1 1 1) ∷ rowWith 2 (f3 1 1 1) ∷ [])) [] (refused 3 1)
+    ∷ sample (caseBytes (rowWith 2 (f3 1 1 1) ∷ rowWith 1 (numbered 1 1 1) ∷ [])) [] (refused 3 1)
+    ∷ sample (oneEach (numbered 1 1 1) (f3 1 1 1) (f4 2 1 1 1 ∷ [])) [] (refused 3 2)
+    ∷ sample (caseOf (numbered 1 1 1 ∷ []) (f3 1 1 1 ∷ f3 2 1 1 ∷ []) (f4 1 2 1 1 ∷ f4 1 1 1 1 ∷ [])) [] (refused 3 4)
+    ∷ sample (caseOf (numbered 1 1 1 ∷ numbered 2 1 1 ∷ []) (f3 1 1 1 ∷ []) (f4 2 1 1 1 ∷ f4 1 1 1 1 ∷ [])) [] (refused 3 4)
     ∷ sample (caseOf [] (f3 1 1 1 ∷ []) []) [] (refused 4 0)
     -- the first numbers out of range
-    ∷ sample (oneEach (f3 1 0 1) (f3 1 1 1) []) [] (refused 5 0)
-    ∷ sample (oneEach (f3 1 1 66) (f3 1 1 1) []) [] (refused 5 0)
-    ∷ sample (oneEach (f3 1 1 0) (f3 1 1 1) []) [] (refused 5 0)
-    ∷ sample (oneEach (f3 1 1 1) (f3 1 1 0) []) [] (refused 5 1)
-    ∷ sample (oneEach (f3 1 1 1) (f3 1 1 514) []) [] (refused 5 1)
-    ∷ sample (oneEach (f3 1 1 1) (f3 1 1 1) (f4 1 1 0 1 ∷ [])) [] (refused 5 2)
-    ∷ sample (oneEach (f3 1 1 1) (f3 1 1 1) (f4 1 1 1 514 ∷ [])) [] (refused 5 2)
+    ∷ sample (oneEach (numbered 1 0 1) (f3 1 1 1) []) [] (refused 5 0)
+    ∷ sample (oneEach (numbered 1 1 66) (f3 1 1 1) []) [] (refused 5 0)
+    ∷ sample (oneEach (numbered 1 1 0) (f3 1 1 1) []) [] (refused 5 0)
+    ∷ sample (oneEach (numbered 1 1 1) (f3 1 1 0) []) [] (refused 5 1)
+    ∷ sample (oneEach (numbered 1 1 1) (f3 1 1 514) []) [] (refused 5 1)
+    ∷ sample (oneEach (numbered 1 1 1) (f3 1 1 1) (f4 1 1 0 1 ∷ [])) [] (refused 5 2)
+    ∷ sample (oneEach (numbered 1 1 1) (f3 1 1 1) (f4 1 1 1 514 ∷ [])) [] (refused 5 2)
     ∷ sample K (bookWith (neg 1001) 4 1 4 6) (refused 9 0)
     ∷ sample K (bookWith 5 1001 1 4 6) (refused 9 1)
     ∷ sample K (bookWith 5 4 (neg 1001) 4 6) (refused 9 2)
@@ -206,19 +217,19 @@ out = neg 1000
 
 -- student 1 prefers workshop 1 to none, and it her, by group; their marks
 abbrev pub wanted : ℕ → ℕ → Outcome → Sample
-wanted m w answer = sample (oneEach (f3 1 1 2) (f3 1 1 2) (f4 1 1 1 1 ∷ [])) (bookOf (f4 1 1 m w ∷ [])) answer
+wanted m w answer = sample (oneEach (numbered 1 1 2) (f3 1 1 2) (f4 1 1 1 1 ∷ [])) (bookOf (f4 1 1 m w ∷ [])) answer
 
 -- the same, but that she is in the workshop's line group, or it in hers
 abbrev pub doubted : ℕ → ℕ → Outcome → Sample
-doubted m w answer = sample (oneEach (f3 1 1 2) (f3 1 1 1) (f4 1 1 1 1 ∷ [])) (bookOf (f4 1 1 m w ∷ [])) answer
+doubted m w answer = sample (oneEach (numbered 1 1 2) (f3 1 1 1) (f4 1 1 1 1 ∷ [])) (bookOf (f4 1 1 m w ∷ [])) answer
 
 abbrev pub doubtful : ℕ → ℕ → Outcome → Sample
-doubtful m w answer = sample (oneEach (f3 1 1 1) (f3 1 1 2) (f4 1 1 1 1 ∷ [])) (bookOf (f4 1 1 m w ∷ [])) answer
+doubtful m w answer = sample (oneEach (numbered 1 1 1) (f3 1 1 2) (f4 1 1 1 1 ∷ [])) (bookOf (f4 1 1 m w ∷ [])) answer
 
 -- student 1, with this line group, has three workshops in group 1; her marks
 abbrev pub threeMarks : ℕ → ℕ → ℕ → ℕ → Outcome → Sample
 threeMarks line a b c answer =
-    sample (caseOf (f3 1 1 line ∷ []) (f3 1 1 2 ∷ f3 2 1 2 ∷ f3 3 1 2 ∷ []) (f4 1 1 1 1 ∷ f4 1 2 1 1 ∷ f4 1 3 1 1 ∷ []))
+    sample (caseOf (numbered 1 1 line ∷ []) (f3 1 1 2 ∷ f3 2 1 2 ∷ f3 3 1 2 ∷ []) (f4 1 1 1 1 ∷ f4 1 2 1 1 ∷ f4 1 3 1 1 ∷ []))
     (bookOf (f4 1 1 a 1 ∷ f4 1 2 b 1 ∷ f4 1 3 c 1 ∷ []))
     answer
 
@@ -249,19 +260,85 @@ neverTable =
     -- equal ordinary marks beside one: refused; so is 1000 twice
     ∷ threeMarks 2 out 7 7 (refused 11 2)
     ∷ threeMarks 2 1000 7 1000 (refused 11 2)
-    -- the other mark of such a record is tested, in the earlier record and in the later one
-    ∷ sample K (bookOf (f4 1 1 5 3 ∷ f4 1 2 2 4 ∷ f4 2 2 out 6 ∷ f4 3 2 4 6 ∷ [])) (refused 11 3)
+    -- the student's mark of a record is tested where the workshop's is never, in the earlier record and in the later one
     ∷ sample K (bookOf (f4 1 1 5 out ∷ f4 1 2 5 4 ∷ [])) (refused 11 1)
-    ∷ sample K (bookOf (f4 3 2 4 6 ∷ f4 2 2 out 6 ∷ [])) (refused 11 1)
     ∷ sample K (bookOf (f4 1 2 5 4 ∷ f4 1 1 5 out ∷ [])) (refused 11 1)
     -- nothing open after a never: on to the next group
-    ∷ sample (caseOf (f3 1 1 3 ∷ []) (f3 1 1 2 ∷ f3 2 1 2 ∷ []) (f4 1 1 1 1 ∷ f4 1 2 2 1 ∷ [])) (bookOf (f4 1 1 out 1 ∷ f4 1 2 1 1 ∷ []))
+    ∷ sample (caseOf (numbered 1 1 3 ∷ []) (f3 1 1 2 ∷ f3 2 1 2 ∷ []) (f4 1 1 1 1 ∷ f4 1 2 2 1 ∷ [])) (bookOf (f4 1 1 out 1 ∷ f4 1 2 1 1 ∷ []))
     (placed (2 ∷ []) ((1, 1) ∷ (1, 2) ∷ []))
     -- a never takes no seat: the workshop is deleted for nobody
-    ∷ sample (caseOf (f3 1 1 2 ∷ f3 2 2 2 ∷ []) (f3 1 1 3 ∷ []) (f4 1 1 1 1 ∷ f4 2 1 1 2 ∷ [])) (bookOf (f4 1 1 1 out ∷ f4 2 1 1 1 ∷ []))
+    ∷ sample (caseOf (numbered 1 1 2 ∷ numbered 2 2 2 ∷ []) (f3 1 1 3 ∷ []) (f4 1 1 1 1 ∷ f4 2 1 1 2 ∷ [])) (bookOf (f4 1 1 1 out ∷ f4 2 1 1 1 ∷ []))
     (placed (0 ∷ 1 ∷ []) ((1, 1) ∷ (2, 1) ∷ []))
     -- a visit that ended in never does not end the group: the next of it is called for
     ∷ sample K (bookOf (f4 1 1 out 3 ∷ [])) (next 1 2 ((1, 1) ∷ []))
+    ∷ []
+
+-- ---- our own of lots (document 02, Paper 3)
+
+-- students 1 to 3 with these lots want workshop 1, which has so many seats, and it has them in these groups, of which 3 is its line group; its marks
+abbrev pub rivals : ℕ → List ℕ → List ℕ → List ℕ → Outcome → Sample
+rivals seats lots groups marks answer =
+    sample
+    (caseOf
+    (map (λ s. f4 s 1 2 (entryFor lots s)) (upto 3))
+    (f3 1 seats 3 ∷ [])
+    (map (λ s. f4 s 1 1 (entryFor groups s)) (upto 3)))
+    (bookOf (map (λ s. f4 s 1 1 (entryFor marks s)) (upto 3)))
+    answer
+
+-- the places of the three, who have all visited
+abbrev pub rivalsPlaced : ℕ → ℕ → ℕ → Outcome
+rivalsPlaced a b c = placed (a ∷ b ∷ c ∷ []) ((1, 1) ∷ (2, 1) ∷ (3, 1) ∷ [])
+
+-- K with these lots
+unfoldable pub lotsK : ℕ → ℕ → ℕ → List ℕ
+lotsK a b c = caseOf (f4 1 1 2 a ∷ f4 2 2 2 b ∷ f4 3 2 2 c ∷ []) (workshopsK 1 1 3) pairsK
+
+unfoldable pub lotsTable : List Sample
+lotsTable =
+    -- one seat, equal marks: the lowest lot is held from the first; comes second and is held; comes last
+    rivals 1 (f3 1 2 3) (f3 1 1 1) (f3 5 5 5) (rivalsPlaced 1 0 0)
+    ∷ rivals 1 (f3 2 1 3) (f3 1 1 1) (f3 5 5 5) (rivalsPlaced 0 1 0)
+    ∷ rivals 1 (f3 3 2 1) (f3 1 1 1) (f3 5 5 5) (rivalsPlaced 0 0 1)
+    -- two seats: the highest lot is dropped, is not taken, or was between
+    ∷ rivals 2 (f3 3 1 2) (f3 1 1 1) (f3 5 5 5) (rivalsPlaced 0 1 1)
+    ∷ rivals 2 (f3 1 2 3) (f3 1 1 1) (f3 5 5 5) (rivalsPlaced 1 1 0)
+    ∷ rivals 2 (f3 1 3 2) (f3 1 1 1) (f3 5 5 5) (rivalsPlaced 1 0 1)
+    -- marks come before lots, and groups before marks and lots
+    ∷ rivals 1 (f3 3 2 1) (f3 1 1 1) (f3 6 5 5) (rivalsPlaced 1 0 0)
+    ∷ rivals 1 (f3 3 1 2) (f3 1 1 1) (f3 6 5 6) (rivalsPlaced 0 0 1)
+    ∷ rivals 1 (f3 1 2 3) (f3 2 2 1) (f3 5 5 5) (rivalsPlaced 0 0 1)
+    -- below 0, at the ends of the marks, in the line group: equal marks are parted there too
+    ∷ rivals 1 (f3 2 1 3) (f3 1 1 1) (f3 (neg 5) (neg 5) (neg 5)) (rivalsPlaced 0 1 0)
+    ∷ rivals 1 (f3 2 1 3) (f3 1 1 1) (f3 1000 1000 999) (rivalsPlaced 0 1 0)
+    ∷ rivals 1 (f3 2 1 3) (f3 3 3 3) (f3 5 5 5) (rivalsPlaced 0 1 0)
+    -- a mark below 0 in the line group is a no, and -1000 a never, whatever the lots
+    ∷ rivals 1 (f3 1 2 3) (f3 3 3 3) (f3 (neg 5) (neg 5) 5) (rivalsPlaced 0 0 1)
+    ∷ rivals 1 (f3 1 2 3) (f3 1 1 1) (f3 out out (neg 999)) (rivalsPlaced 0 0 1)
+    ∷ rivals 2 (f3 1 2 3) (f3 1 1 1) (f3 out out out) (rivalsPlaced 0 0 0)
+    -- the ends of the range, gaps, and both bytes of a lot
+    ∷ rivals 1 (f3 512 511 1) (f3 1 1 1) (f3 5 5 4) (rivalsPlaced 0 1 0)
+    ∷ rivals 1 (f3 256 1 512) (f3 1 1 1) (f3 5 5 5) (rivalsPlaced 0 1 0)
+    -- out of range
+    ∷ rivals 1 (f3 0 2 3) (f3 1 1 1) (f3 5 5 5) (refused 13 0)
+    ∷ rivals 1 (f3 1 513 3) (f3 1 1 1) (f3 5 5 5) (refused 13 1)
+    ∷ rivals 1 (f3 1 2 65535) (f3 1 1 1) (f3 5 5 5) (refused 13 2)
+    -- used by an earlier student: the later record, the first such
+    ∷ rivals 1 (f3 2 2 3) (f3 1 1 1) (f3 5 5 5) (refused 13 1)
+    ∷ rivals 1 (f3 2 1 2) (f3 1 1 1) (f3 5 5 5) (refused 13 2)
+    ∷ rivals 1 (f3 7 7 0) (f3 1 1 1) (f3 5 5 5) (refused 13 1)
+    -- K with other lots, as K where marks differ; with equal marks of workshop 2 the lower lot has it
+    ∷ sample (lotsK 9 8 7) bookK answerK
+    ∷ sample (lotsK 9 8 7) tiedK answerK
+    -- a workshop's equal marks, one of them of a visit that ended in never
+    ∷ sample K (bookOf (f4 1 1 5 3 ∷ f4 1 2 2 4 ∷ f4 2 2 out 6 ∷ f4 3 2 4 6 ∷ [])) answerK
+    -- a student's equal marks in one group are refused, whatever the lots, and beside a workshop's
+    ∷ sample (lotsK 9 8 7) (bookOf (f4 1 1 5 3 ∷ f4 1 2 5 4 ∷ [])) (refused 11 1)
+    ∷ sample K (bookOf (f4 2 2 4 6 ∷ f4 3 2 4 6 ∷ f4 1 1 5 3 ∷ f4 1 2 5 4 ∷ [])) (refused 11 3)
+    -- after 5, in any record, and before 7
+    ∷ sample (caseOf (f4 1 1 2 0 ∷ f4 2 513 2 2 ∷ []) (f3 1 1 3 ∷ []) []) [] (refused 5 1)
+    ∷ sample (oneEach (f4 1 1 2 513) (f3 1 513 3) []) [] (refused 5 1)
+    ∷ sample (lotsK 1 1 2) (0 ∷ []) (refused 13 1)
     ∷ []
 
 -- room enough for each of these
@@ -354,7 +431,7 @@ within room case answer = record { case = case; room = room; answer = answer }
 
 -- n students at stage 1, and pairs by student, workshop and the workshop's group for the student
 unfoldable pub wished : ℕ → List (List ℕ) → List (List ℕ) → List ℕ
-wished n workshops pairs = caseOf (map (λ s. f3 s 1 1) (upto n)) workshops (map (λ (p : List ℕ). f4 (getD p 0 0) (getD p 1 0) 1 (getD p 2 0)) pairs)
+wished n workshops pairs = caseOf (map (λ s. numbered s 1 1) (upto n)) workshops (map (λ (p : List ℕ). f4 (getD p 0 0) (getD p 1 0) 1 (getD p 2 0)) pairs)
 
 -- workshops 1 to m with one seat and line group 9
 abbrev pub oneSeat : ℕ → List (List ℕ)
@@ -366,7 +443,7 @@ crossed q1 q2 line2 = wished 2 (f3 1 q1 9 ∷ f3 2 q2 line2 ∷ []) (f3 1 1 1 �
 
 -- K with these stages in its student records; its own are 1, 2, 2
 unfoldable pub stagedK : ℕ → ℕ → ℕ → List ℕ
-stagedK a b c = caseOf (f3 1 a 2 ∷ f3 2 b 2 ∷ f3 3 c 2 ∷ []) (workshopsK 1 1 3) pairsK
+stagedK a b c = caseOf (numbered 1 a 2 ∷ numbered 2 b 2 ∷ numbered 3 c 2 ∷ []) (workshopsK 1 1 3) pairsK
 
 -- no stage numbers agree
 abbrev pub noneAgreed : StagesOutcome
@@ -388,7 +465,7 @@ stagesTable =
     ∷ within 4 (crossed 1 1 1) (staged (1 ∷ 2 ∷ []))
     ∷ within 4 (crossed 1 1 2) noneAgreed
     -- it is the workshop's line: a workshop that is beyond the student's own still ranks her
-    ∷ within 4 (caseOf (f3 1 1 1 ∷ f3 2 1 1 ∷ []) (oneSeat 1) (f4 1 1 2 2 ∷ f4 2 1 2 1 ∷ [])) (staged (2 ∷ 1 ∷ []))
+    ∷ within 4 (caseOf (numbered 1 1 1 ∷ numbered 2 1 1 ∷ []) (oneSeat 1) (f4 1 1 2 2 ∷ f4 2 1 2 1 ∷ [])) (staged (2 ∷ 1 ∷ []))
     -- no pairs, and a student without pairs: stage 1
     ∷ within 4 (wished 2 (oneSeat 1) []) (staged (1 ∷ 1 ∷ []))
     ∷ within 4 (wished 3 (oneSeat 1) (f3 1 1 1 ∷ f3 3 1 2 ∷ [])) (staged (1 ∷ 1 ∷ 2 ∷ []))
@@ -406,10 +483,17 @@ stagesTable =
     -- refusals 1 to 5 as the engine's: "the stages in the file are only checked for range"
     ∷ within 4 (take 15 K) (unstaged 1 0)
     ∷ within 4 (caseBytes (rowWith 4 (f3 1 1 1) ∷ [])) (unstaged 2 0)
-    ∷ within 4 (oneEach (f3 1 1 1) (f3 2 1 1) []) (unstaged 3 1)
+    ∷ within 4 (oneEach (numbered 1 1 1) (f3 2 1 1) []) (unstaged 3 1)
     ∷ within 4 [] (unstaged 4 0)
     ∷ within 4 (stagedK 1 0 2) (unstaged 5 1)
     ∷ within 4 (stagedK 1 2 513) (unstaged 5 2)
+    -- 13, after 5, and before 6 and 12
+    ∷ within 4 (lotsK 1 2 513) (unstaged 13 2)
+    ∷ within 2 (lotsK 1 1 2) (unstaged 13 1)
+    ∷ within 4 (caseOf (f4 1 1 2 5 ∷ f4 2 0 2 5 ∷ []) (oneSeat 1) []) (unstaged 5 1)
+    ∷ within 4 (caseOf (f4 1 1 1 3 ∷ f4 2 1 1 3 ∷ []) (oneSeat 2) (f4 1 1 1 1 ∷ f4 1 2 1 2 ∷ f4 2 1 1 2 ∷ f4 2 2 1 1 ∷ [])) (unstaged 13 1)
+    -- lots change no stage
+    ∷ within 3 (lotsK 512 1 7) (staged (1 ∷ 2 ∷ 2 ∷ []))
     -- one entry short: 6, after 5 and before 12
     ∷ within 2 K (unstaged 6 0)
     ∷ within 2 (stagedK 1 0 2) (unstaged 5 1)
@@ -433,6 +517,7 @@ stagesLeft =
     ∷ restaged (1 ∷ 2 ∷ 2 ∷ []) K
     ∷ restaged (1 ∷ 2 ∷ 2 ∷ []) (stagedK 9 9 9)
     ∷ restaged (512 ∷ 256 ∷ 1 ∷ []) K
+    ∷ restaged (1 ∷ 2 ∷ 2 ∷ []) (lotsK 512 256 1)
     ∷ []
 
 unfoldable pub stagesLeftExpected : List (List ℕ)
@@ -444,6 +529,7 @@ stagesLeftExpected =
     ∷ stagedK 1 2 2
     ∷ stagedK 1 2 2
     ∷ stagedK 512 256 1
+    ∷ lotsK 512 256 1
     ∷ []
 
 -- what the engine answers to the samples, and what it should
@@ -453,23 +539,27 @@ given ls = map (λ (l : Sample). engine (l .case) (l .book) ample) ls
 unfoldable pub expected : List Sample → List Outcome
 expected ls = map (λ (l : Sample). l .answer) ls
 
--- the tables hold, by computation: answers, counts, exact and short buffers (cause 6, before a bad book length), buffers after an answer, the
--- printed text, the least stages
+-- the tables hold, by computation: answers, counts, exact and short buffers (cause 6, after a bad lot and before a bad book length), buffers after an
+-- answer, the printed text, the least stages
 pub record Computed : Type 0 where
   pub answers : given table ≡ expected table
   pub own : given ownTable ≡ expected ownTable
   pub nevers : given neverTable ≡ expected neverTable
+  pub lots : given lotsTable ≡ expected lotsTable
   pub counts : countsRefused ≡ true ∷ true ∷ false ∷ true ∷ true ∷ []
   pub exactly : engine K bookK exact ≡ answerK
   pub exactlyNever : engine K neverK exact ≡ answerNeverK
+  pub exactlyTied : engine K tiedK exact ≡ answerTiedK
   pub shortly : map (λ (room : Room). engine K (0 ∷ []) room) shortRooms ≡ map (λ (room : Room). refused 6 0) shortRooms
+  pub lotFirst : map (λ (room : Room). engine (lotsK 1 2 2) (0 ∷ []) room) shortRooms ≡ map (λ (room : Room). refused 13 2) shortRooms
   pub buffers : buffersAfter ≡ buffersExpected
   pub text : texts ≡ textsExpected
   pub stages : stagesGiven stagesTable ≡ stagesExpected stagesTable
   pub stagesBuffers : stagesLeft ≡ stagesLeftExpected
 
--- and K is a run with agreeing stages, also where two of the listed visits ended in never
+-- and K is a run with agreeing stages, also where two of the listed visits ended in never, and where a lot decides
 pub record TablesHold : Type 0 where
   pub computed : Computed
   pub agreeing : Example K bookK exact
   pub agreeingNever : Example K neverK exact
+  pub agreeingLots : Example K tiedK exact

@@ -1,4 +1,4 @@
-// Tests a case, the lent room and a book for the eleven refusals, of which the first in the order of the causes is told, and builds the pairs' table and index.
+// Tests a case, the lent room and a book for the twelve refusals, of which the first in the order of the causes is told, and builds the pairs' table and index.
 use case_tests::Checked;
 use case_tests::refused;
 ghost use mathlib.Core.Path.{_≡_};

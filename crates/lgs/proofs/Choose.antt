@@ -7,7 +7,7 @@ use mathlib.Core.Bool.{Bool, true}
 use mathlib.Core.List.{List, _∷_, List·Memᴰ as Mem, List·Memᴰ·head as here, List·Memᴰ·tail as later, List·Memᴰ·cases-cons as cases-cons}
 use native.Mathlib.Omega.{arith}
 use lib.Dec.{eqb, ltb}
-use borrow.Author.Tests.{ltb-false, ltb-true, eqb-true, eqb-false}
+use borrow.Author.Tests.{ltb-true, le-ltb, eqb-true, eqb-false}
 use Rattle.base.specs.Lists.{upto, keep}
 use Rattle.base.proofs.Tests.{bool-cases}
 use Rattle.base.proofs.Members.{in-upto, in-keep, keep-in, in-rest, in-front, consIf-in, Picked, picked}
@@ -59,8 +59,9 @@ module _ (M : Market) (B : Results) (O : Profile) (Vs : ℕ → ℕ → Bool) (E
     best-picked =
         picked (λ y z. ltb (B .studentScore s z) (B .studentScore s y)) (λ y z. O .studentRank s y ≤ O .studentRank s z) Choice
         (λ y. omega arith) (λ a b c l r. omega arith)
-        (λ a b ka kb e. student-by-score M B O Vs E s b a (kb .known) (ka .known) (possible b kb) (kb .tier ∙ sym (ka .tier)) (omega (arith, ltb-true)))
-        (λ a b ka kb e. student-by-score M B O Vs E s a b (ka .known) (kb .known) (possible a ka) (ka .tier ∙ sym (kb .tier)) (ltb-false _ _ e))
+        (λ a b ka kb e. student-by-score M B O Vs E s b a (kb .known) (ka .known) (possible b kb) (kb .tier ∙ sym (ka .tier))
+        (le-ltb (B .studentScore s b) (B .studentScore s a) (omega (arith, ltb-true (B .studentScore s a) (B .studentScore s b) e))))
+        (λ a b ka kb e. student-by-score M B O Vs E s a b (ka .known) (kb .known) (possible a ka) (ka .tier ∙ sym (kb .tier)) e)
         x xs (choice-in x (rw some (here refl))) (λ y m. choice-in y (rw some (later m)))
 
     pub best-chosen : Chosen M B O Vs σ s (best M B s x xs)

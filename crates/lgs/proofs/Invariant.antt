@@ -9,12 +9,12 @@ use native.Mathlib.Omega.{arith}
 use native.Mathlib.Nat.{eq-or-lt-of-le}
 use lib.Dec.{eqb}
 use borrow.Author.Tests.{eqb-true, eqb-false, eq-eqb, ltb-true, ltb-false, not-true}
-use Rattle.base.proofs.Tests.{bool-cases, never, and-left, and-right, and-false, or-true, or-false, less?}
+use Rattle.base.proofs.Tests.{bool-cases, never, is-false, and-left, and-right, and-false, or-true, or-false, less?}
 use Rattle.base.proofs.Members.{NoDup}
-use Rattle.lgs.specs.Market.{Market, Results, studentOutside, workshopOutside}
+use Rattle.lgs.specs.Market.{Market, Results, studentOutside, workshopOutside, scoredLower, outscored}
 use Rattle.lgs.specs.Profiles.{Profile, Fits, RespectsScores, SameNever, Acceptable, Stable, outsideOr, flip, seated}
 use Rattle.lgs.specs.Rule.{State, start, interviewed, unopened, declined, open?}
-use Rattle.lgs.proofs.Valid.{WellFormed, Refining, Possible, Distinct, refining}
+use Rattle.lgs.proofs.Valid.{WellFormed, Refining, Possible, Distinct, refining, by-lower-score, outscored-by}
 use Rattle.lgs.proofs.Sides.{Known, real, by-score, no-worse}
 use Rattle.lgs.proofs.Optimal.{Unattainable}
 
@@ -112,29 +112,29 @@ module _ (M : Market) (B : Results) (O : Profile) (Vs : ℕ → ℕ → Bool) wh
 module _ (M : Market) (B : Results) (O : Profile) (Vs : ℕ → ℕ → Bool) (E : Setting M B O Vs) where
   -- both sides' comparison by results
   pub student-by-score : (s x y : ℕ) → Known (M .paired) Vs s x → Known (M .paired) Vs s y → Possible (B .never) s x
-      → M .studentTier s x ≡ M .studentTier s y → B .studentScore s y ≤ B .studentScore s x → O .studentRank s x ≤ O .studentRank s y
+      → M .studentTier s x ≡ M .studentTier s y → scoredLower (B .studentScore) s x y ≡ false → O .studentRank s x ≤ O .studentRank s y
   student-by-score =
-      by-score (M .paired) Vs (B .met) (B .never) (M .studentTier) (B .studentScore) (O .studentRank) (E .full .students) (E .results .students)
+      by-score (M .paired) Vs (B .met) (B .never) (M .studentTier) (scoredLower (B .studentScore)) (O .studentRank) (E .full .students) (E .results .students)
       (E .distinct .students) (E .known)
 
   pub workshop-by-score : (w x y : ℕ) → Known (flip (M .paired)) (flip Vs) w x → Known (flip (M .paired)) (flip Vs) w y
-      → Possible (flip (B .never)) w x → M .workshopTier w x ≡ M .workshopTier w y → B .workshopScore w y ≤ B .workshopScore w x
+      → Possible (flip (B .never)) w x → M .workshopTier w x ≡ M .workshopTier w y → outscored M B w x y ≡ false
       → O .workshopRank w x ≤ O .workshopRank w y
   workshop-by-score =
-      by-score (flip (M .paired)) (flip Vs) (flip (B .met)) (flip (B .never)) (M .workshopTier) (B .workshopScore) (O .workshopRank) (E .full .workshops)
+      by-score (flip (M .paired)) (flip Vs) (flip (B .met)) (flip (B .never)) (M .workshopTier) (outscored M B) (O .workshopRank) (E .full .workshops)
       (E .results .workshops) (E .distinct .workshops) (λ w s. E .known s w)
 
   pub student-no-worse : (s x y : ℕ) → outsideOr (M .paired s) x ≡ true → outsideOr (M .paired s) y ≡ true → O .studentRank s x ≤ O .studentRank s y
       → M .studentTier s x ≤ M .studentTier s y
   student-no-worse =
-      no-worse (M .paired) Vs (B .met) (B .never) (M .studentTier) (B .studentScore) (O .studentRank) (E .full .students) (E .results .students)
+      no-worse (M .paired) Vs (B .met) (B .never) (M .studentTier) (scoredLower (B .studentScore)) (O .studentRank) (E .full .students) (E .results .students)
       (E .distinct .students) (E .known)
 
   pub workshop-no-worse : (w x y : ℕ) → outsideOr (flip (M .paired) w) x ≡ true → outsideOr (flip (M .paired) w) y ≡ true
       → O .workshopRank w x ≤ O .workshopRank w y
       → M .workshopTier w x ≤ M .workshopTier w y
   workshop-no-worse =
-      no-worse (flip (M .paired)) (flip Vs) (flip (B .met)) (flip (B .never)) (M .workshopTier) (B .workshopScore) (O .workshopRank) (E .full .workshops)
+      no-worse (flip (M .paired)) (flip Vs) (flip (B .met)) (flip (B .never)) (M .workshopTier) (outscored M B) (O .workshopRank) (E .full .workshops)
       (E .results .workshops) (E .distinct .workshops) (λ w s. E .known s w)
 
   pub knows : (σ : State) (s w : ℕ) → Seen M Vs σ s w → Known (M .paired) Vs s w
@@ -156,7 +156,7 @@ module _ (M : Market) (B : Results) (O : Profile) (Vs : ℕ → ℕ → Bool) (E
   declined-below σ s w k t =
       E .results .workshops .higher w 0 s refl (known-by σ s w k .option) refl (known-by σ s w k .seen)
       (sym (eqb-true _ _ (and-left (eqb (M .workshopTier w s) (workshopOutside M w)) _ t)))
-      (ltb-true _ _ (and-right (eqb (M .workshopTier w s) (workshopOutside M w)) _ t))
+      (by-lower-score M B w s 0 (ltb-true _ _ (and-right (eqb (M .workshopTier w s) (workshopOutside M w)) _ t)))
 
   -- a pair whose interview opened nothing is not acceptable
   pub unopened-out : (σ : State) (s w : ℕ) → Seen M Vs σ s w → unopened M B s w ≡ true → Acceptable M O s w → ⊥
@@ -183,12 +183,17 @@ module _ (M : Market) (B : Results) (O : Profile) (Vs : ℕ → ℕ → Bool) (E
           (λ l. l)
           (eq-or-lt-of-le le)
 
+      -- no score equals the outside option's, so that lots do not come in
+      above : scoredLower (B .workshopScore) w s 0 ≡ false → outscored M B w s 0 ≡ true → ⊥
+      above f e =
+          ⊎-elim (λ l. omega (arith, l, ltb-false (B .workshopScore w s) (B .workshopScore w 0) f)) (λ r. E .distinct .outside s w (k .pair) (E .known s w (k .seen)) (r .0)) (outscored-by M B w s 0 e)
+
       same : workshopOutside M w ≤ M .workshopTier w s → O .workshopRank w s < O .workshopRank w 0
       same le =
           let g : M .workshopTier w s ≡ workshopOutside M w = omega (arith, k .outside) in
           ⊎-elim (λ f. absurd (eqb-false _ _ f g))
           (λ f. apart (workshop-by-score w s 0 (known-by σ s w k) (none-known (flip (M .paired)) (flip Vs) w)
-          (λ l. unopened-possible M B s w u) g (ltb-false _ _ f)))
+          (λ l. unopened-possible M B s w u) g (is-false _ (above f))))
           (and-false (eqb (M .workshopTier w s) (workshopOutside M w)) _ t)
 
   -- what the student holds is acceptable to both

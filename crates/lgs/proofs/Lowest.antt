@@ -17,14 +17,13 @@ use Rattle.lgs.specs.Market.{Market, Results, outscored}
 use Rattle.lgs.specs.Profiles.{Profile, flip, seated}
 use Rattle.lgs.specs.Rule.{State, interviewed, unopened, below, holders, lowestOf}
 use Rattle.lgs.proofs.Sides.{Known, real}
-use Rattle.lgs.proofs.Valid.{outscored-less, outscored-not}
 use Rattle.lgs.proofs.Invariant.{Setting, Seen, unopened-possible, workshop-by-score, known-by}
 
 module _ (M : Market) (B : Results) (O : Profile) (Vs : ℕ → ℕ → Bool) (E : Setting M B O Vs) (σ τ : State) (c : ℕ)
     (seen : (x : ℕ) → interviewed (τ .interviews) x c ≡ true → Seen M Vs σ x c) where
-  -- y was interviewed, and x has a lower score
+  -- y was interviewed, and x comes below
   abbrev lower? : ℕ → ℕ → Bool
-  lower? x y = interviewed (τ .interviews) y c && outscored B c x y
+  lower? x y = interviewed (τ .interviews) y c && outscored M B c x y
 
   -- strictly below in the rule is below in the profile
   pub below-rank : (x y : ℕ) → M .paired x c ≡ true → M .paired y c ≡ true → below M B τ c x y ≡ true → O .workshopRank c y < O .workshopRank c x
@@ -43,7 +42,7 @@ module _ (M : Market) (B : Results) (O : Profile) (Vs : ℕ → ℕ → Bool) (E
           let ky : Known (flip (M .paired)) (flip Vs) c y = known-by M B O Vs E σ y c (seen y (and-left _ _ a₂)) in
           E .results .workshops .higher c y x (ky .option) (kx .option) (ky .seen) (kx .seen)
           (sym (eqb-true _ _ (and-left (eqb (M .workshopTier c x) (M .workshopTier c y)) _ a)))
-          (outscored-less B c x y (and-right (interviewed (τ .interviews) y c) _ a₂))
+          (and-right (interviewed (τ .interviews) y c) _ a₂)
 
   -- of two interviewed, one that is not never and not strictly below is above or the same
   pub not-below-rank : (x y : ℕ) → interviewed (τ .interviews) x c ≡ true → interviewed (τ .interviews) y c ≡ true → B .never x c ≡ false
@@ -67,7 +66,7 @@ module _ (M : Market) (B : Results) (O : Profile) (Vs : ℕ → ℕ → Bool) (E
       same : M .workshopTier c y ≤ M .workshopTier c x → O .workshopRank c x ≤ O .workshopRank c y
       same le =
           let g : M .workshopTier c x ≡ M .workshopTier c y = omega (arith, ltb-false (M .workshopTier c y) (M .workshopTier c x) (parts .0)) in
-          workshop-by-score M B O Vs E c x y kx ky (λ l. ok) g (outscored-not B c x y (rw (eq-eqb _ _ g, vx, vy) at (parts .1)))
+          workshop-by-score M B O Vs E c x y kx ky (λ l. ok) g (rw (eq-eqb _ _ g, vx, vy) at (parts .1))
 
   -- the holder that no holder is below
   pub record Lowest (l : ℕ) : Type 0 where

@@ -1,14 +1,17 @@
 -- Every strict profile that respects the tiers has a student-optimal matching: the one that the rule gives where all interviews are held, with the
 -- scores that the profile gives.
-use Prim.Native.Nat.{ℕ, _-_, _≤_}
-use mathlib.Core.Path.{_≡_, refl}
+use Prim.Native.Nat.{ℕ, _-_, _≤_, _<_}
+use mathlib.Core.Path.{_≡_, refl, ap}
+use mathlib.Core.Logic.{_⊎_, inl, inr}
 use mathlib.Core.Bool.{Bool, true}
 use native.Mathlib.Omega.{arith}
+use borrow.Author.Tests.{ltb-true, ltb-false}
 use Rattle.base.proofs.Tests.{never}
 use Rattle.lgs.specs.Market.{Market, Results}
 use Rattle.lgs.specs.Profiles.{Profile, StrictProfile, RespectsTiers, StudentOptimal, outsideOr, flip}
 use Rattle.lgs.specs.Rule.{Step, going, stopped, finished, lazyGaleShapley}
-use Rattle.lgs.proofs.Valid.{WellFormed, Refining, Refines, refining}
+use Rattle.lgs.proofs.Valid.{WellFormed, Refining, Refines, refining, outscored-by, unparted}
+use Rattle.lgs.proofs.Sides.{real}
 use Rattle.lgs.proofs.Invariant.{Setting}
 use Rattle.lgs.proofs.Finished.{lgs-optimal}
 use Rattle.lgs.proofs.Stopped.{lgs-stopped}
@@ -35,24 +38,36 @@ module _ (M : Market) (wf : WellFormed M) (O : Profile) (strict : StrictProfile 
   full : Refining M O
   full = refining M O strict tiers
 
+  workshop-apart : (w x y : ℕ) → outsideOr (flip (M .paired) w) x ≡ true → outsideOr (flip (M .paired) w) y ≡ true
+      → told .workshopScore w x ≡ told .workshopScore w y → x ≡ y
+  workshop-apart = apart (flip (M .paired)) (M .workshopTier) (O .workshopRank) (M .students) (full .workshops) (λ w s q. wf .student s w q)
+
+  -- whoever comes below in these results comes below by score, as no two scores are equal
+  told-higher : (w x y : ℕ) → outsideOr (flip (M .paired) w) x ≡ true → outsideOr (flip (M .paired) w) y ≡ true
+      → (told .workshopScore w y < told .workshopScore w x) ⊎ ((told .workshopScore w y ≡ told .workshopScore w x) × (M .lot x < M .lot y))
+      → O .workshopRank w x < O .workshopRank w y
+  told-higher w x y ox oy (inl l) = omega arith
+  told-higher w x y ox oy (inr r) = absurd (omega (arith, r .1, ap (M .lot) (workshop-apart w y x oy ox (r .0))))
+
   told-setting : Setting M told O (λ s w. true)
   told-setting =
       record {
         wf = wf;
         distinct = record {
           students = record {
-            apart = λ p x y ox oy mx my ok g e.
-                apart (M .paired) (M .studentTier) (O .studentRank) (M .workshops) (full .students) (wf .workshop) p x y ox oy e;
+            apart = λ p x y ox oy mx my ok g e f.
+                apart (M .paired) (M .studentTier) (O .studentRank) (M .workshops) (full .students) (wf .workshop) p x y ox oy
+                (omega (arith, ltb-false (told .studentScore p x) (told .studentScore p y) e, ltb-false (told .studentScore p y) (told .studentScore p x) f));
           };
-          workshops = record {
-            apart = λ p x y ox oy mx my ok g e.
-                apart (flip (M .paired)) (M .workshopTier) (O .workshopRank) (M .students) (full .workshops) (λ w s q. wf .student s w q) p x y ox oy e;
-          };
+          workshops = record { apart = λ p x y ox oy mx my ok g e f. workshop-apart p x y ox oy (unparted M told p x y e f .0) };
+          outside = λ s w q m e.
+              let z : s ≡ 0 = workshop-apart w s 0 (real (flip (M .paired) w) s q) refl e in
+              omega (arith, wf .student s w q, z);
         };
         full = full;
         results = record {
-          students = record { higher = λ p x y ox oy mx my g l. omega arith };
-          workshops = record { higher = λ p x y ox oy mx my g l. omega arith };
+          students = record { higher = λ p x y ox oy mx my g l. omega (arith, ltb-true (told .studentScore p y) (told .studentScore p x) l) };
+          workshops = record { higher = λ p x y ox oy mx my g l. told-higher p x y ox oy (outscored-by M told p y x l) };
         };
         never = record { same = λ s w p v. refl };
         known = λ s w v. v;

@@ -1,14 +1,13 @@
--- How a profile that fits the results compares two options of one person: in one tier by score, and a better rank is in no worse tier. Each
+-- How a profile that fits the results compares two options of one person: in one tier by the results, and a better rank is in no worse tier. Each
 -- lemma is about one side of the market, and is used for both.
 use Prim.Native.Nat.{ℕ, zero, suc, _≤_, _<_}
-use mathlib.Core.Path.{_≡_, refl, sym, ap}
+use mathlib.Core.Path.{_≡_, refl, ap}
 use mathlib.Core.Logic.{⊎-elim}
-use mathlib.Core.Bool.{Bool, true}
+use mathlib.Core.Bool.{Bool, true, false}
 use native.Mathlib.Omega.{arith}
-use native.Mathlib.Nat.{eq-or-lt-of-le}
-use Rattle.base.proofs.Tests.{less?}
+use Rattle.base.proofs.Tests.{bool-cases, less?}
 use Rattle.lgs.specs.Profiles.{KeepsScores, outsideOr}
-use Rattle.lgs.proofs.Valid.{Refines, Possible, DistinctScores}
+use Rattle.lgs.proofs.Valid.{Refines, Possible, Parted}
 
 pub real : (p : ℕ → Bool) (x : ℕ) → p x ≡ true → outsideOr p x ≡ true
 real p zero e = refl
@@ -24,22 +23,22 @@ pub record Known (opts vs : ℕ → ℕ → Bool) (p x : ℕ) : Type 0 where
   pub option : outsideOr (opts p) x ≡ true
   pub seen : outsideOr (vs p) x ≡ true
 
-module _ (option seen met never : ℕ → ℕ → Bool) (tier score rank : ℕ → ℕ → ℕ)
-    (keeps : Refines option tier rank) (results : KeepsScores option seen tier score rank) (distinct : DistinctScores option met never tier score)
+module _ (option seen met never : ℕ → ℕ → Bool) (tier : ℕ → ℕ → ℕ) (lower : ℕ → ℕ → ℕ → Bool) (rank : ℕ → ℕ → ℕ)
+    (keeps : Refines option tier rank) (results : KeepsScores option seen tier lower rank) (distinct : Parted option met never tier lower)
     (known : (p x : ℕ) → seen p x ≡ true → met p x ≡ true) where
   met-too : (p x : ℕ) → outsideOr (seen p) x ≡ true → outsideOr (met p) x ≡ true
   met-too p = wider (seen p) (met p) (known p)
 
-  -- in one tier the higher score is better
-  pub by-score : (p x y : ℕ) → Known option seen p x → Known option seen p y → Possible never p x → tier p x ≡ tier p y → score p y ≤ score p x
+  -- in one tier, whoever does not come below is no worse
+  pub by-score : (p x y : ℕ) → Known option seen p x → Known option seen p y → Possible never p x → tier p x ≡ tier p y → lower p x y ≡ false
       → rank p x ≤ rank p y
   by-score p x y kx ky ok g m =
       ⊎-elim
-      (λ (e : score p y ≡ score p x).
-      let xy : x ≡ y = distinct .apart p x y (kx .option) (ky .option) (met-too p x (kx .seen)) (met-too p y (ky .seen)) ok g (sym e) in
+      (λ (l : lower p y x ≡ true). omega (arith, results .higher p x y (kx .option) (ky .option) (kx .seen) (ky .seen) g l))
+      (λ (e : lower p y x ≡ false).
+      let xy : x ≡ y = distinct .apart p x y (kx .option) (ky .option) (met-too p x (kx .seen)) (met-too p y (ky .seen)) ok g m e in
       omega (arith, ap (rank p) xy))
-      (λ (l : score p y < score p x). omega (arith, results .higher p x y (kx .option) (ky .option) (kx .seen) (ky .seen) g l))
-      (eq-or-lt-of-le m)
+      (bool-cases (lower p y x))
 
   -- a better rank is in no worse tier
   pub no-worse : (p x y : ℕ) → outsideOr (option p) x ≡ true → outsideOr (option p) y ≡ true → rank p x ≤ rank p y → tier p x ≤ tier p y

@@ -1,8 +1,8 @@
 -- The market that a case describes, and the results of the interviews that a book holds.
 use Prim.Native.Nat.{ℕ, _-_, _≤_, _<_}
-use mathlib.Core.Bool.{Bool, true}
+use mathlib.Core.Bool.{Bool, true, _&&_, _||_}
 use mathlib.Core.Path.{_≡_}
-use lib.Dec.{ltb}
+use lib.Dec.{ltb, eqb}
 use Rattle.base.specs.Lists.{total}
 
 -- The case, decoded: students 1 to `students`, workshops 1 to `workshops`. A tier is document 01's group, and a lower one is better.
@@ -11,6 +11,7 @@ pub record Market : Type 0 where
   pub students : ℕ
   pub workshops : ℕ
   pub stage : ℕ → ℕ  -- of a student
+  pub lot : ℕ → ℕ  -- of a student (document 02, Paper 3)
   pub quota : ℕ → ℕ  -- of a workshop
   pub paired : ℕ → ℕ → Bool  -- student, workshop: there is a pair record
   pub studentTier : ℕ → ℕ → ℕ  -- student, then a workshop or 0
@@ -48,9 +49,16 @@ pub record Results : Type 0 where
   pub studentScore : ℕ → ℕ → ℕ  -- student, then a workshop or 0: what she gave
   pub workshopScore : ℕ → ℕ → ℕ  -- workshop, then a student or 0: what it gave
 
--- of two students of one tier whom the workshop has interviewed, it scored y higher than x
-unfoldable pub outscored : Results → ℕ → ℕ → ℕ → Bool
-outscored B w x y = ltb (B .workshopScore w x) (B .workshopScore w y)
+-- "inside one group a higher mark is better": the person gave x a lower score than y
+abbrev pub scoredLower : (ℕ → ℕ → ℕ) → ℕ → ℕ → ℕ → Bool
+scoredLower score p x y = ltb (score p x) (score p y)
+
+-- How a workshop compares those of one tier whom it has interviewed, and the outside option: x comes below y where she has the lower score; "a workshop's
+-- equal marks in one group are parted by the lower lot" (document 02, Paper 3), which comes first. The outside option has no lot: no score equals its own.
+unfoldable pub outscored : Market → Results → ℕ → ℕ → ℕ → Bool
+outscored M B w x y =
+    scoredLower (B .workshopScore) w x y
+    || (eqb (B .workshopScore w x) (B .workshopScore w y) && ltb (M .lot y) (M .lot x))
 
 -- ---- Stages.
 

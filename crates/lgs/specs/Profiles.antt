@@ -6,7 +6,7 @@ use mathlib.Core.Path.{_≡_}
 use mathlib.Core.Logic.{_⊎_}
 use lib.Dec.{eqb}
 use Rattle.base.specs.Lists.{count}
-use Rattle.lgs.specs.Market.{Market, Results}
+use Rattle.lgs.specs.Market.{Market, Results, scoredLower, outscored}
 
 -- the outside option (0), or whoever passes the test
 abbrev pub outsideOr : (ℕ → Bool) → ℕ → Bool
@@ -36,15 +36,15 @@ pub record KeepsTiers (option : ℕ → ℕ → Bool) (tier rank : ℕ → ℕ �
       → tier p x < tier p y
       → rank p x < rank p y
 
--- inside a tier, of those met and the outside option, a higher score has a better rank
-pub record KeepsScores (option met : ℕ → ℕ → Bool) (tier score rank : ℕ → ℕ → ℕ) : Type 0 where
+-- inside a tier, of those met and the outside option, whoever comes below (`lower p y x`: y below x) has the worse rank
+pub record KeepsScores (option met : ℕ → ℕ → Bool) (tier : ℕ → ℕ → ℕ) (lower : ℕ → ℕ → ℕ → Bool) (rank : ℕ → ℕ → ℕ) : Type 0 where
   pub higher : (p x y : ℕ)
       → outsideOr (option p) x ≡ true
       → outsideOr (option p) y ≡ true
       → outsideOr (met p) x ≡ true
       → outsideOr (met p) y ≡ true
       → tier p x ≡ tier p y
-      → score p y < score p x
+      → lower p y x ≡ true
       → rank p x < rank p y
 
 -- those met, and the outside option, compare by the second rank as by the first
@@ -82,10 +82,10 @@ module _ (M : Market) where
     pub students : KeepsTiers (M .paired) (M .studentTier) (O .studentRank)
     pub workshops : KeepsTiers (flip (M .paired)) (M .workshopTier) (O .workshopRank)
 
-  -- it keeps the order of the marks given in the interviews Vs
+  -- it keeps the order of the marks given in the interviews Vs, a workshop's equal ones by lot
   pub record RespectsScores (B : Results) (Vs : ℕ → ℕ → Bool) (O : Profile) : Type 0 where
-    pub students : KeepsScores (M .paired) Vs (M .studentTier) (B .studentScore) (O .studentRank)
-    pub workshops : KeepsScores (flip (M .paired)) (flip Vs) (M .workshopTier) (B .workshopScore) (O .workshopRank)
+    pub students : KeepsScores (M .paired) Vs (M .studentTier) (scoredLower (B .studentScore)) (O .studentRank)
+    pub workshops : KeepsScores (flip (M .paired)) (flip Vs) (M .workshopTier) (outscored M B) (O .workshopRank)
 
   -- a full order that fits the groups and the results of the interviews Vs; "the groups and the book" where Vs are all that the book has. It may
   -- "put any unvisited pair down as never, and a visited one exactly when" the interview ended so.

@@ -4,7 +4,7 @@ use mathlib.Core.Bool.{Bool, true, false, not, cond, _&&_, _||_}
 use mathlib.Core.List.{List, [], _∷_, _++_}
 use lib.Dec.{ltb, eqb}
 use Rattle.base.specs.Lists.{count, total, upto, keep, any, pick, update, consIf}
-use Rattle.lgs.specs.Market.{Market, Results, studentOutside, workshopOutside, outscored}
+use Rattle.lgs.specs.Market.{Market, Results, studentOutside, workshopOutside, scoredLower, outscored}
 
 -- an interview (document 01: visit): student, workshop
 abbrev pub Interview : Type 0
@@ -51,7 +51,7 @@ module _ (M : Market) (B : Results) where
 
   -- "she is in that workshop's line group with a negative mark"
   unfoldable pub declined : ℕ → ℕ → Bool
-  declined s w = eqb (M .workshopTier w s) (workshopOutside M w) && ltb (B .workshopScore w s) (B .workshopScore w 0)
+  declined s w = eqb (M .workshopTier w s) (workshopOutside M w) && scoredLower (B .workshopScore) w s 0
 
   -- the interview opens nothing: she was declined ("each is then open, unless"), or it ended in never ("such a visit opens nothing": document 02, Paper 1)
   unfoldable pub unopened : ℕ → ℕ → Bool
@@ -59,7 +59,7 @@ module _ (M : Market) (B : Results) where
 
   -- the best of these choices: all are in the tier reached, so their scores tell
   unfoldable pub best : ℕ → ℕ → List ℕ → ℕ
-  best s x xs = pick (λ y z. ltb (B .studentScore s z) (B .studentScore s y)) x xs
+  best s x xs = pick (λ y z. scoredLower (B .studentScore) s z y) x xs
 
   module _ (σ : State) where
     -- the workshop is open to the student: interviewed, in the tier that she has reached, and neither deleted nor left unopened by the interview
@@ -82,13 +82,13 @@ module _ (M : Market) (B : Results) where
     unfoldable pub holders : ℕ → List ℕ
     holders w = keep (λ s. eqb (σ .held s) w) (upto (M .students))
 
-    -- the workshop ranks x strictly below y, "by group, or by mark in the same group where both have visited"
+    -- the workshop ranks x strictly below y, "by group, or by mark in the same group where both have visited", equal marks by lot
     unfoldable pub below : ℕ → ℕ → ℕ → Bool
     below w x y =
         ltb (M .workshopTier w y) (M .workshopTier w x)
         || (eqb (M .workshopTier w x) (M .workshopTier w y)
         && (interviewed (σ .interviews) x w
-        && (interviewed (σ .interviews) y w && outscored B w x y)))
+        && (interviewed (σ .interviews) y w && outscored M B w x y)))
 
     -- the lowest of these students; a workshop that has just been applied to holds somebody, so the list is not empty where this is used
     unfoldable pub lowestOf : ℕ → List ℕ → ℕ

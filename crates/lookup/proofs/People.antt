@@ -6,7 +6,7 @@ use mathlib.Core.List.{List}
 use native.Mathlib.Omega.{arith}
 use Rattle.format.specs.Layout.{rowAt, rowCount}
 use Rattle.format.specs.Engine.{marketIn}
-use Rattle.format.proofs.Positions.{Clean, places, pair-says, pair-names, stage-at, student-outside-at, quota-at, workshop-outside-at, student-tier-at}
+use Rattle.format.proofs.Positions.{Clean, places, pair-says, pair-names, stage-at, lot-at, student-outside-at, quota-at, workshop-outside-at, student-tier-at}
 use Rattle.format.proofs.Positions.{workshop-tier-at}
 use Rattle.records.specs.Records.{pairPlace}
 use Rattle.tables.proofs.Reading.{pair-there}
@@ -21,7 +21,7 @@ module _ (case : List ℕ) (c : Clean case (rowCount case)) where
 
   pub student-at : (s : ℕ) → 1 ≤ s → s ≤ n → StudentAt case s
   student-at s a b =
-      record { from = a; to = omega (arith, places case c .whole); stage = stage-at case c s a b; outside = student-outside-at case c s a b }
+      record { from = a; to = omega (arith, places case c .whole); stage = stage-at case c s a b; lot = lot-at case c s a b; outside = student-outside-at case c s a b }
 
   pub workshop-at : (w : ℕ) → 1 ≤ w → w ≤ m → WorkshopAt case n w
   workshop-at w a b =

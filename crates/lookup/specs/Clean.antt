@@ -16,6 +16,7 @@ pub record StudentAt (case : List ℕ) (s : ℕ) : Type 0 where
   pub from : 1 ≤ s
   pub to : s ≤ rowCount case
   pub stage : marketIn case .stage s ≡ rowAt case (s - 1) .second
+  pub lot : marketIn case .lot s ≡ rowAt case (s - 1) .fourth
   pub outside : studentOutside (marketIn case) s ≡ rowAt case (s - 1) .third
 
 -- with n students, record n + w - 1 is that of workshop w

@@ -19,6 +19,13 @@ pub fn stage_of(case: &[u8], s: usize) -> u16
     records::second_at(case, s - 1)
 }
 
+pub fn lot_of(case: &[u8], s: usize) -> u16
+    requires { ⌜ StudentAt (now case) s ⌝ }
+    ensures { λ r. ⌜ r ≡ marketIn (now (case .entry)) .lot s ⌝ }
+{
+    records::fourth_at(case, s - 1)
+}
+
 pub fn student_outside(case: &[u8], s: usize) -> u16
     requires { ⌜ StudentAt (now case) s ⌝ }
     ensures { λ r. ⌜ r ≡ studentOutside (marketIn (now (case .entry))) s ⌝ }

@@ -16,7 +16,6 @@ use Rattle.lgs.specs.Profiles.{Profile, flip}
 use Rattle.model.specs.Model.{before, push}
 use Rattle.base.proofs.Tests.{bool-cases, and-left, and-right, or-true, or-false, less?}
 use Rattle.lgs.proofs.Sides.{Known}
-use Rattle.lgs.proofs.Valid.{outscored-less, outscored-not}
 use Rattle.lgs.proofs.Invariant.{Setting, workshop-by-score}
 
 -- strictly rising ranks
@@ -110,7 +109,7 @@ module _ (M : Market) (B : Results) (O : Profile) (Vs : ℕ → ℕ → Bool) (E
       (λ f.
       E .results .workshops .higher w x y (kx .option) (ky .option) (kx .seen) (ky .seen)
       (eqb-true _ _ (and-left (eqb (M .workshopTier w x) (M .workshopTier w y)) _ f))
-      (outscored-less B w y x (and-right (eqb (M .workshopTier w x) (M .workshopTier w y)) _ f)))
+      (and-right (eqb (M .workshopTier w x) (M .workshopTier w y)) _ f))
       (or-true (ltb (M .workshopTier w x) (M .workshopTier w y)) _ e)
 
   pub not-before-rank : B .never y w ≡ false → before M B w x y ≡ false → O .workshopRank w y ≤ O .workshopRank w x
@@ -119,11 +118,11 @@ module _ (M : Market) (B : Results) (O : Profile) (Vs : ℕ → ℕ → Bool) (E
       ⊎-elim (λ l. omega (arith, E .full .workshops .keeps w y x (ky .option) (kx .option) l))
       (λ (le : M .workshopTier w x ≤ M .workshopTier w y).
       let g : M .workshopTier w x ≡ M .workshopTier w y = omega (arith, ltb-false (M .workshopTier w x) (M .workshopTier w y) (parts .0)) in
-      workshop-by-score M B O Vs E w y x ky kx (λ l. ok) (sym g) (outscored-not B w y x (rw (eq-eqb _ _ g) at (parts .1))))
+      workshop-by-score M B O Vs E w y x ky kx (λ l. ok) (sym g) (rw (eq-eqb _ _ g) at (parts .1)))
       (less? (M .workshopTier w y) (M .workshopTier w x))
     where
       parts : (ltb (M .workshopTier w x) (M .workshopTier w y) ≡ false)
-          × ((eqb (M .workshopTier w x) (M .workshopTier w y) && outscored B w y x) ≡ false)
+          × ((eqb (M .workshopTier w x) (M .workshopTier w y) && outscored M B w y x) ≡ false)
       parts = or-false (ltb (M .workshopTier w x) (M .workshopTier w y)) _ e
 
 -- the last of a full list is behind everybody

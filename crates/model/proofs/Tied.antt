@@ -7,10 +7,9 @@ use mathlib.Core.Bool.{Bool, true, false, not, cond, _&&_}
 use mathlib.Core.List.{List, [], _∷_, _++_}
 use mathlib.Core.List.{List·Memᴰ as Mem, List·Memᴰ·head as here, List·Memᴰ·tail as later, List·Memᴰ·cases-cons as cases-cons, List·Memᴰ·not-nil as not-nil}
 use native.Mathlib.Omega.{arith}
-use native.Mathlib.Nat.{le-antisymm}
 use lib.Dec.{eqb, ltb}
 use lib.ListN.{length, getD, List·getD-eq-default}
-use borrow.Author.Tests.{eqb-true, eq-eqb, ltb-true, ltb-false, lt-ltb}
+use borrow.Author.Tests.{eqb-true, eq-eqb, ltb-true, ltb-false, lt-ltb, le-ltb}
 use Rattle.base.specs.Lists.{upto, keep, pick}
 use Rattle.lgs.specs.Market.{Market, Results, studentOutside, workshopOutside}
 use Rattle.lgs.specs.Profiles.{Profile, seated, outsideOr, flip}
@@ -222,7 +221,7 @@ module _ (M : Market) (B : Results) (O : Profile) (E : Setting M B O (B .met)) (
         let ob : Offer (best M B s y ys) = option-offer _ bo in
         let of : Offer (best M B s x xs) = option-offer _ (rw o (f .0)) in
         E .distinct .students .apart s _ _ (ob .pair) (of .pair) (ob .met) (of .met) (ob .possible) (ob .tier ∙ sym (of .tier))
-        (le-antisymm (f .1 _ (rw o at bo)) (b .1 _ (rw c at m)))
+        (le-ltb _ _ (b .1 _ (rw c at m))) (le-ltb _ _ (f .1 _ (rw o at bo)))
 
 -- ---- the interviews of one tier
 module _ (M : Market) (B : Results) (s : ℕ) where

@@ -61,7 +61,7 @@ module _ (M : Market) (B : Results) where
   unfoldable pub before : ℕ → ℕ → ℕ → Bool
   before w x y =
       ltb (M .workshopTier w x) (M .workshopTier w y)
-      || (eqb (M .workshopTier w x) (M .workshopTier w y) && outscored B w y x)
+      || (eqb (M .workshopTier w x) (M .workshopTier w y) && outscored M B w y x)
 
   -- x takes her place among at most q seats; whoever has no seat left, or 0
   unfoldable pub push : ℕ → ℕ → ℕ → List ℕ → List ℕ × ℕ

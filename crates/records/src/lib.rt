@@ -3,7 +3,7 @@ ghost use mathlib.Core.Path.{_≡_};
 ghost use mathlib.Core.Bool.{not, cond};
 ghost use Prim.Native.Nat.{_+_, _*_, _/_, _%_, _≤_, _<_};
 ghost use lib.ListN.{length, replicate};
-ghost use lib.Dec.{ltb};
+ghost use lib.Dec.{ltb, eqb};
 ghost use Rattle.base.specs.Lists.{one};
 ghost use Rattle.base.specs.Words.{word, signed, biased};
 ghost use Rattle.format.specs.Layout.{rowAt, entryAt, rowCount, entryCount, outsideScore, saysNever};
@@ -78,6 +78,13 @@ pub fn above(a: i16, b: i16) -> bool
     ensures { λ r. ⌜ r ≡ ltb (biased b) (biased a) ⌝ }
 {
     a > b
+}
+
+// The scores are equal.
+pub fn equal(a: i16, b: i16) -> bool
+    ensures { λ r. ⌜ r ≡ eqb (biased a) (biased b) ⌝ }
+{
+    a == b
 }
 
 // Score a stands below that of the outside option.
@@ -164,18 +171,6 @@ pub fn fourth_at(case: &[u8], i: usize) -> u16
     ensures { λ r. ⌜ r ≡ rowAt (now (case .entry)) i .fourth ⌝ }
 {
     field_at(case, i, 4)
-}
-
-// The tier that the side, the students' or the workshops', has in the pair record i.
-pub fn tier_at(case: &[u8], i: usize, student: bool) -> u16
-    requires { ⌜ i < rowCount (now case) ⌝ }
-    ensures { λ r. ⌜ r ≡ cond student (rowAt (now (case .entry)) i .third) (rowAt (now (case .entry)) i .fourth) ⌝ }
-{
-    if student {
-        third_at(case, i)
-    } else {
-        fourth_at(case, i)
-    }
 }
 
 pub fn row_at(case: &[u8], i: usize) -> Row

@@ -9,13 +9,16 @@ use lib.ListN.{length, getD, take, drop, set, length-set, length-take, List·get
 use lib.Seq.{drop-cons, take-length, drop-length, length-take-le, take-take, getD-take, set-split, take-set-le, drop-at}
 use lib.Dec.{eqb, ltb}
 use lib.IntN.{ℤ}
-use borrow.Author.Tests.{eqb-true, ltb-true, eq-eqb, ne-eqb, lt-ltb, not-true, not-false}
+use borrow.Author.Tests.{eqb-true, ltb-true, eq-eqb, ne-eqb, lt-ltb, le-ltb, not-true, not-false}
 use Rattle.base.specs.Words.{biased}
-use Rattle.base.proofs.Tests.{never, is-false, and-left, and-right, and-make, or-true, or-left, or-right, eq?, less?}
+use Rattle.base.proofs.Tests.{never, is-false, and-left, and-right, and-make, and-false, or-true, or-left, or-right, or-none, eq?, less?}
 use Rattle.lgs.specs.Market.{Market, Results, outscored, seatsOf, seatsBefore}
+use Rattle.lgs.proofs.Valid.{outscored-on}
 use Rattle.model.specs.Model.{before}
 use Rattle.model.specs.Store.{pushPadded, part, lastOf}
-use Rattle.model.specs.Ready.{InOrder}
+use Rattle.model.specs.Ready.{Booked, InOrder}
+use Rattle.format.specs.Engine.{marketIn, resultsIn}
+use Rattle.lookup.specs.Clean.{StudentAt, Clean}
 
 pub positive : (y : ℕ) → (y ≡ 0 → ⊥) → 0 < y
 positive y f = ⊎-elim (λ (l : 0 < y). l) (λ (l : y ≤ 0). absurd (f (omega arith))) (less? 0 y)
@@ -23,13 +26,31 @@ positive y f = ⊎-elim (λ (l : 0 < y). l) (λ (l : y ≤ 0). absurd (f (omega 
 zero-of : (y : ℕ) → (0 < y → ⊥) → y ≡ 0
 zero-of y f = ⊎-elim (λ (l : 0 < y). absurd (f l)) (λ (l : y ≤ 0). omega arith) (less? 0 y)
 
+-- whoever has been interviewed has a record
+pub booked-student : {case book index table : List ℕ} {n m x w : ℕ} → Clean case book index table n m
+    → Booked (marketIn case) (resultsIn book) x w → StudentAt case x
+booked-student {x = x} c b = c .student x (b .student .0) (rw (sym (c .students)) (b .student .1))
+
+-- tiers t and u, scores p and q: with equal tiers and scores the lots decide, and else they do not come in
+pub by-lots : (t u p q : ℕ) (l : Bool) → (eqb t u && eqb p q) ≡ true → l ≡ (ltb t u || (eqb t u && (ltb p q || (eqb p q && l))))
+by-lots t u p q l e =
+    let a : t ≡ u = eqb-true _ _ (and-left (eqb t u) _ e) in
+    let b : p ≡ q = eqb-true _ _ (and-right (eqb t u) _ e) in
+    rw (le-ltb t u (omega arith), le-ltb p q (omega arith), eq-eqb t u a, eq-eqb p q b)
+
+pub by-scores : (t u p q : ℕ) (l : Bool) → (eqb t u && eqb p q) ≡ false
+    → (ltb t u || (eqb t u && ltb p q)) ≡ (ltb t u || (eqb t u && (ltb p q || (eqb p q && l))))
+by-scores t u p q l e =
+    ⊎-elim (λ (f : eqb t u ≡ false). rw f) (λ (f : eqb p q ≡ false). rw f (ap (λ b. ltb t u || (eqb t u && b)) (sym (or-none (ltb p q)))))
+    (and-false (eqb t u) _ e)
+
 -- student x stands in tier t at workshop w, with the score a
 pub record Stands (M : Market) (B : Results) (w x t : ℕ) (a : ℤ) : Type 0 where
   pub tier : t ≡ M .workshopTier w x
   pub score : biased a ≡ B .workshopScore w x
 
-pub before-by : (M : Market) (B : Results) (w x y t u : ℕ) (a b : ℤ) → Stands M B w x t a → Stands M B w y u b → (r : Bool) → r ≡
-    (ltb t u || (eqb t u && ltb (biased b) (biased a))) → before M B w x y ≡ r
+pub before-by : (M : Market) (B : Results) (w x y t u : ℕ) (a b : ℤ) → Stands M B w x t a → Stands M B w y u b → (r : Bool)
+    → r ≡ (ltb t u || (eqb t u && (ltb (biased b) (biased a) || (eqb (biased b) (biased a) && ltb (M .lot x) (M .lot y))))) → before M B w x y ≡ r
 unfolding before outscored
 before-by M B w x y t u a b p q r e = sym (e ∙ rw (p .tier, p .score, q .tier, q .score))
 
@@ -58,23 +79,22 @@ stays-false M B w x y r e t pos =
     not-false (before M B w x y) f
 
 module _ (M : Market) (B : Results) (w : ℕ) where
-  -- `before` is by tier, then by score: so it carries on
+  -- `before` is by tier, then by how the workshop compares those of a tier: so it carries on
   abbrev Ahead : ℕ → ℕ → Type 0
-  Ahead x y = (M .workshopTier w x < M .workshopTier w y) ⊎
-      ((M .workshopTier w x ≡ M .workshopTier w y) × (B .workshopScore w y < B .workshopScore w x))
+  Ahead x y = (M .workshopTier w x < M .workshopTier w y) ⊎ ((M .workshopTier w x ≡ M .workshopTier w y) × (outscored M B w y x ≡ true))
 
   before-ahead : (x y : ℕ) → before M B w x y ≡ true → Ahead x y
-  unfolding before outscored
+  unfolding before
   before-ahead x y e =
       ⊎-elim (λ f. inl (ltb-true _ _ f))
-      (λ f. inr (eqb-true _ _ (and-left (eqb (M .workshopTier w x) _) _ f), ltb-true _ _ (and-right (eqb (M .workshopTier w x) _) _ f)))
+      (λ f. inr (eqb-true _ _ (and-left (eqb (M .workshopTier w x) _) _ f), and-right (eqb (M .workshopTier w x) _) _ f))
       (or-true (ltb (M .workshopTier w x) (M .workshopTier w y)) _ e)
 
   ahead-before : (x y : ℕ) → Ahead x y → before M B w x y ≡ true
-  unfolding before outscored
+  unfolding before
   ahead-before x y c =
       ⊎-elim (λ l. or-left (ltb (M .workshopTier w x) (M .workshopTier w y)) _ (lt-ltb _ _ l))
-      (λ l. or-right (ltb (M .workshopTier w x) (M .workshopTier w y)) _ (and-make (eq-eqb _ _ (l .0)) (lt-ltb _ _ (l .1))))
+      (λ l. or-right (ltb (M .workshopTier w x) (M .workshopTier w y)) _ (and-make (eq-eqb _ _ (l .0)) (l .1)))
       c
 
   before-on : (x y z : ℕ) → before M B w x y ≡ true → before M B w y z ≡ true → before M B w x z ≡ true
@@ -84,7 +104,7 @@ module _ (M : Market) (B : Results) (w : ℕ) where
       both (inl a) (inl b) = inl (omega arith)
       both (inl a) (inr b) = inl (omega arith)
       both (inr a) (inl b) = inl (omega arith)
-      both (inr a) (inr b) = inr (omega arith, omega arith)
+      both (inr a) (inr b) = inr (omega arith, outscored-on M B w z y x (b .1) (a .1))
 
   -- z ranks before whoever has a seat from i on
   abbrev pub Wins : ℕ → List ℕ → ℕ → Type 0

@@ -10,16 +10,22 @@ ghost use Rattle.format.specs.Engine.{marketIn, resultsIn};
 ghost use Rattle.model.specs.Model.{before};
 ghost use Rattle.model.specs.Store.{pushPadded, part, putPart, lastOf};
 ghost use Rattle.model.specs.Ready.{Booked, InOrder};
-ghost use Rattle.lookup.specs.Clean.{WorkshopAt, Clean};
+ghost use Rattle.lookup.specs.Clean.{StudentAt, WorkshopAt, Clean};
 
-// Whoever stands in tier t with score a ranks before whoever stands in tier u with score b: by tier, and inside a tier by score.
-fn ranks_before(t: u16, a: i16, u: u16, b: i16) -> bool
-    ensures { λ r. ⌜ r ≡ (ltb t u || (eqb t u && ltb (biased b) (biased a))) ⌝ }
+// Student x, who stands in tier t with score a, ranks before student y, who stands in tier u with score b: by tier, inside a tier by score, and with
+// equal scores by the lower lot.
+fn ranks_before(case: &[u8], x: u16, t: u16, a: i16, y: u16, u: u16, b: i16) -> bool
+    requires { ⌜ StudentAt (now case) x × StudentAt (now case) y ⌝ }
+    ensures { λ r. ⌜ r ≡ (ltb t u || (eqb t u && (ltb (biased b) (biased a)
+        || (eqb (biased b) (biased a) && ltb (marketIn (now (case .entry)) .lot x) (marketIn (now (case .entry)) .lot y))))) ⌝ }
 {
+    if (t == u) & records::equal(b, a) {
+        return lookup::lot_of(case, x as usize) < lookup::lot_of(case, y as usize);
+    }
     (t < u) | ((t == u) & records::above(a, b))
 }
 
-// The seat of y is not given to whoever stands in tier t with score a: it is taken (not 0), and she does not rank before y.
+// The seat of y is not given to student x, who stands in tier t with score a: it is taken (not 0), and she does not rank before y.
 fn stays(
     case: &[u8],
     book: &[u8],
@@ -29,19 +35,21 @@ fn stays(
     workshops: usize,
     w: usize,
     y: u16,
+    x: u16,
     t: u16,
     a: i16,
 ) -> bool
     requires { ⌜ Clean (now case) (now book) (now index) (now table) students workshops ⌝ }
     requires { ⌜ (0 < y → Booked (marketIn (now case)) (resultsIn (now book)) y w) ⌝ }
-    ensures { λ r. ⌜ ((x : ℕ) → t ≡ marketIn (now (case .entry)) .workshopTier w x → biased a ≡ resultsIn (now (book .entry)) .workshopScore w x
-        → r ≡ (ltb 0 y && not (before (marketIn (now (case .entry))) (resultsIn (now (book .entry))) w x y))) ⌝ }
+    requires { ⌜ Booked (marketIn (now case)) (resultsIn (now book)) x w ⌝ }
+    requires { ⌜ (t ≡ marketIn (now case) .workshopTier w x) × (biased a ≡ resultsIn (now book) .workshopScore w x) ⌝ }
+    ensures { λ r. ⌜ r ≡ (ltb 0 y && not (before (marketIn (now (case .entry))) (resultsIn (now (book .entry))) w x y)) ⌝ }
 {
     if y == 0 {
         return false;
     }
     let other = lookup::standing_of(case, book, index, table, students, workshops, y as usize, w);
-    !ranks_before(t, a, other.tier, other.score)
+    !ranks_before(case, x, t, a, y, other.tier, other.score)
 }
 
 // Student x, who stands in tier t with score a, takes her place, from the back: whoever is behind her moves on one seat, and the last holder has
@@ -60,6 +68,7 @@ fn settle(
     a: i16,
 )
     requires { ⌜ Clean (now case) (now book) (now index) (now table) students workshops ⌝ }
+    requires { ⌜ Booked (marketIn (now case)) (resultsIn (now book)) x w ⌝ }
     requires { ⌜ (t ≡ marketIn (now case) .workshopTier w x) × (biased a ≡ resultsIn (now book) .workshopScore w x) ⌝ }
     requires { ⌜ ((i : ℕ) → i < length (now part) → 0 < getD (now part) i 0 → Booked (marketIn (now case)) (resultsIn (now book)) (getD (now part) i 0) w) ⌝ }
     requires { ⌜ InOrder (marketIn (now case)) (resultsIn (now book)) w (now part) ⌝ }
@@ -72,7 +81,7 @@ fn settle(
     let mut i = part.len() - 1;
     while i > 0 {
         let y = part[i - 1];
-        if stays(case, book, index, table, students, workshops, w, y, t, a) {
+        if stays(case, book, index, table, students, workshops, w, y, x, t, a) {
             part[i] = x;
             return;
         }
@@ -109,7 +118,19 @@ fn seat(
     let t = own.tier;
     let a = own.score;
     let out = part[n - 1];
-    if stays(case, book, index, table, students, workshops, w, out, t, a) {
+    if stays(
+        case,
+        book,
+        index,
+        table,
+        students,
+        workshops,
+        w,
+        out,
+        x,
+        t,
+        a,
+    ) {
         return x;
     }
     settle(

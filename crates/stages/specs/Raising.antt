@@ -14,7 +14,7 @@ use Rattle.format.specs.Engine.{marketIn}
 use Rattle.tables.specs.Table.{Tabled}
 use Rattle.lookup.specs.Clean.{WorkshopAt, PairAt}
 
--- What the code needs of a case with n students and m workshops, and of its table: true where causes 1 to 5 find nothing.
+-- What the code needs of a case with n students and m workshops, and of its table: true where the case's causes find nothing.
 pub record Ready (case table : List ℕ) (n m : ℕ) : Type 0 where
   pub students : marketIn case .students ≡ n
   pub workshops : marketIn case .workshops ≡ m

@@ -27,7 +27,7 @@ fn put_stages(own: &[u16], n: usize, stages: &mut [u16])
     }
 }
 
-// The stages of a case that causes 1 to 6 pass, or cause 12.
+// The stages of a case in which causes 1 to 5, 13 and 6 find nothing, or cause 12.
 fn work_out(
     case: &[u8],
     table: &[u64],

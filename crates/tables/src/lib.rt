@@ -110,17 +110,6 @@ pub fn pair_at(case: &[u8], table: &[u64], s: usize, w: usize) -> usize
     first + members_below(table[s - 1], w)
 }
 
-// The number of the pair's record, or how many records there are where it has none.
-pub fn pair_of(case: &[u8], table: &[u64], s: usize, w: usize) -> usize
-    requires { ⌜ Tabled (now case) (now table) ⌝ }
-    ensures { λ r. ⌜ r ≡ pairPlace (now (case .entry)) s w ⌝ }
-{
-    if is_paired(case, table, s, w) {
-        return pair_at(case, table, s, w);
-    }
-    records::row_count(case.len())
-}
-
 // A student's pairs: the number of the first record, and how many there are.
 pub struct Pairs {
     pub first: usize,

@@ -1,3 +1,2 @@
 pub mod Seen
 pub mod Ties
-pub mod Cursors

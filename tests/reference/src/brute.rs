@@ -6,6 +6,7 @@
 
 use crate::model::*;
 use std::cell::Cell;
+use std::cmp::Ordering;
 use std::collections::HashMap;
 
 /// Larger worlds are not built.
@@ -213,8 +214,9 @@ impl World {
         })
     }
 
-    /// Which rankings of a person keep the order of the marks, none counting as 0. Two marks of
-    /// -1000 say nothing about each other.
+    /// Which rankings of a person keep the order of the marks, none counting as 0, and at a
+    /// workshop the order of the lots where marks are equal. Two marks of -1000 say nothing about
+    /// each other.
     fn rankings_that_fit(&self, index: usize, records: &[Record]) -> Vec<bool> {
         let person = &self.people[index];
         let is_student = index < self.case.students.len();
@@ -233,14 +235,25 @@ impl World {
                 record.workshop_mark
             })
         };
+        // Nobody's mark equals that of none.
+        let lot = |item: usize| {
+            let pair = self.case.pairs[person.pairs[item]];
+            self.case.students[usize::from(pair.student) - 1].lot
+        };
+        let first_is_better = |a: usize, b: usize| -> Option<bool> {
+            let (first, second) = (mark(a)?, mark(b)?);
+            match first.cmp(&second) {
+                _ if person.groups[a] != person.groups[b] => None,
+                Ordering::Equal if is_student || first == NEVER => None,
+                Ordering::Equal => Some(lot(a) < lot(b)),
+                Ordering::Greater => Some(true),
+                Ordering::Less => Some(false),
+            }
+        };
         let keeps = |ranking: &Ranking| {
-            item_pairs(none + 1).all(|(a, b)| match (mark(a), mark(b)) {
-                (Some(first), Some(second))
-                    if person.groups[a] == person.groups[b] && first != second =>
-                {
-                    (first > second) == (ranking.positions[a] < ranking.positions[b])
-                }
-                _ => true,
+            item_pairs(none + 1).all(|(a, b)| {
+                let ranked = ranking.positions[a] < ranking.positions[b];
+                first_is_better(a, b).is_none_or(|better| better == ranked)
             })
         };
         person.rankings.iter().map(keeps).collect()

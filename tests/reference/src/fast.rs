@@ -13,6 +13,9 @@ const STUDENT_GROUPS: usize = MAX_STUDENT_GROUP as usize + 1;
 const CLOSED: i16 = i16::MIN;
 /// Mark keys of one group.
 const GROUP_KEYS: u32 = 1 << 11;
+/// Who has a lot that no student has.
+const NOBODY: u16 = u16::MAX;
+const LOTS: usize = MAX_LOT as usize;
 
 /// What is known of one student and one workshop. Group 0: no pair. Mark 0: not in the book.
 #[derive(Clone, Copy, Default)]
@@ -27,6 +30,7 @@ struct Cell {
 struct StudentCard {
     stage: u16,
     line: u16,
+    lot: u16,
     reached: u16,
     held: u16,
 }
@@ -42,9 +46,10 @@ struct WorkshopCard {
 }
 
 /// Tables that are kept from call to call, so that their memory is reused.
-#[derive(Default)]
 pub struct Fast {
     students: Vec<StudentCard>,
+    /// By lot from 0: who has it.
+    by_lot: [u16; LOTS],
     workshops: Vec<WorkshopCard>,
     workshop_count: usize,
     /// By student, then workshop.
@@ -55,6 +60,22 @@ pub struct Fast {
     open: Vec<[i16; MAX_WORKSHOPS]>,
     seen: SeenMarks,
     order: Vec<u16>,
+}
+
+impl Default for Fast {
+    fn default() -> Fast {
+        Fast {
+            students: Vec::new(),
+            by_lot: [NOBODY; LOTS],
+            workshops: Vec::new(),
+            workshop_count: 0,
+            cells: Vec::new(),
+            members: Vec::new(),
+            open: Vec::new(),
+            seen: SeenMarks::default(),
+            order: Vec::new(),
+        }
+    }
 }
 
 /// The answer of a single call.
@@ -140,23 +161,29 @@ impl Fast {
         records: &'a [[u8; CASE_RECORD]],
     ) -> Option<&'a [[u8; CASE_RECORD]]> {
         self.students.clear();
+        self.by_lot.fill(NOBODY);
         for (index, record) in records.iter().enumerate() {
             let fields = CaseFields::of(record);
             if fields.kind() != 1 {
                 return (index > 0).then(|| &records[index..]);
             }
-            let [number, stage, line, _] = fields.all();
+            let [number, stage, line, lot] = fields.all();
+            // Lot 0 wraps to one that is too high.
+            let owner = self.by_lot.get_mut(usize::from(lot.wrapping_sub(1)))?;
             if index == MAX_STUDENTS
                 || !fields.well_formed()
                 || usize::from(number) != index + 1
                 || !(1..=MAX_STAGE).contains(&stage)
                 || !(1..=MAX_STUDENT_GROUP).contains(&line)
+                || *owner != NOBODY
             {
                 return None;
             }
+            *owner = index as u16;
             self.students.push(StudentCard {
                 stage,
                 line,
+                lot: lot - 1,
                 reached: 0,
                 held: 0,
             });
@@ -235,7 +262,7 @@ impl Fast {
                 return Err(self.earlier_cause(records, number, place));
             }
         }
-        if self.some_mark_repeats() {
+        if self.some_student_repeats_a_mark() {
             return Err((11, self.first_repeated_mark(records)));
         }
         Ok(())
@@ -291,21 +318,13 @@ impl Fast {
         (number, place)
     }
 
-    /// Whether some student or some workshop gave one mark twice in a group, never aside.
-    fn some_mark_repeats(&mut self) -> bool {
-        let by_student = self.cells.chunks_exact(self.workshop_count).any(|row| {
+    /// Whether some student gave one mark twice in a group, never aside.
+    fn some_student_repeats_a_mark(&mut self) -> bool {
+        self.cells.chunks_exact(self.workshop_count).any(|row| {
             let in_book = row.iter().filter(|cell| cell.student_mark != 0);
             self.seen
                 .any_twice(in_book.map(|cell| mark_key(cell.student_group, cell.student_mark)))
-        });
-        by_student
-            || (0..self.workshop_count).any(|w| {
-                let column = self.cells[w..].iter().step_by(self.workshop_count);
-                let in_book = column.filter(|cell| cell.workshop_mark != 0);
-                self.seen.any_twice(
-                    in_book.map(|cell| mark_key(cell.workshop_group, cell.workshop_mark)),
-                )
-            })
+        })
     }
 
     #[cold]
@@ -313,12 +332,8 @@ impl Fast {
         let mut given = HashSet::new();
         let first = records.iter().map(book_fields).position(|(s, w, ..)| {
             let cell = &self.cells[s * self.workshop_count + w];
-            let student_key = mark_key(cell.student_group, cell.student_mark);
-            let workshop_key = mark_key(cell.workshop_group, cell.workshop_mark);
-            let student_ties = may_tie(student_key) && !given.insert((s, student_key));
-            let workshop_ties =
-                may_tie(workshop_key) && !given.insert((MAX_STUDENTS + w, workshop_key));
-            student_ties || workshop_ties
+            let key = mark_key(cell.student_group, cell.student_mark);
+            may_tie(key) && !given.insert((s, key))
         });
         first.expect("some mark repeats")
     }
@@ -427,7 +442,11 @@ impl Fast {
     fn apply(&mut self, s: usize, w: usize) -> Option<usize> {
         self.open[s][w] = CLOSED;
         let cell = &self.cells[s * self.workshop_count + w];
-        let key = rank_key(cell.workshop_group, cell.workshop_mark, s);
+        let key = rank_key(
+            cell.workshop_group,
+            cell.workshop_mark,
+            self.students[s].lot,
+        );
         let workshop = &mut self.workshops[w];
         let dropped = if workshop.holders.len() < workshop.quota {
             workshop.holders.push(key);
@@ -437,7 +456,8 @@ impl Fast {
             if key > *lowest {
                 return Some(s);
             }
-            Some(student_of(std::mem::replace(&mut *lowest, key)))
+            let dropped = std::mem::replace(&mut *lowest, key);
+            Some(usize::from(self.by_lot[lot_of(dropped)]))
         };
         self.students[s].held = w as u16 + 1;
         if let Some(dropped) = dropped {
@@ -451,18 +471,19 @@ impl Fast {
     }
 }
 
-/// A key that is higher for a student the workshop ranks lower.
-fn rank_key(group: u16, mark: i16, s: usize) -> u32 {
+/// A key that is higher for a student the workshop ranks lower: group, mark from the top down, and
+/// lot from 0.
+fn rank_key(group: u16, mark: i16, lot: u16) -> u32 {
     let below_top = (MAX_MARK - mark) as u32;
-    u32::from(group) << 21 | below_top << 10 | s as u32
+    u32::from(group) << 20 | below_top << 9 | u32::from(lot)
 }
 
-fn student_of(key: u32) -> usize {
-    (key & 0x3ff) as usize
+fn lot_of(key: u32) -> usize {
+    key as usize % LOTS
 }
 
 fn group_of(key: u32) -> u16 {
-    (key >> 21) as u16
+    (key >> 20) as u16
 }
 
 fn bad_mark(mark: i16) -> bool {
@@ -512,8 +533,8 @@ impl CaseFields {
     /// The kind is known and every byte that should be zero is zero.
     pub(crate) fn well_formed(self) -> bool {
         match self.low as u16 {
-            1 | 2 => self.high == 0,
-            3 => self.high >> 16 == 0,
+            1 | 3 => self.high >> 16 == 0,
+            2 => self.high == 0,
             _ => false,
         }
     }
@@ -581,8 +602,31 @@ pub(crate) fn case_refusal(records: &[[u8; CASE_RECORD]]) -> (u16, usize) {
     if !(1..=MAX_STUDENTS).contains(&students) || !(1..=MAX_WORKSHOPS).contains(&workshops) {
         return (4, 0);
     }
-    let place = fields.iter().position(|fields| !fields.in_range());
-    (5, place.expect("no other cause is left"))
+    if let Some(place) = fields.iter().position(|fields| !fields.in_range()) {
+        return (5, place);
+    }
+    let mut lots = Lots::default();
+    let place = of_kind(1).position(|fields| !lots.take(fields.all()[3]));
+    (13, place.expect("no other cause is left"))
+}
+
+/// The lots that are taken, one bit for each.
+#[derive(Default)]
+pub(crate) struct Lots([u64; LOTS / 64]);
+
+impl Lots {
+    /// Takes a lot; false if there is none such or it is taken already.
+    pub(crate) fn take(&mut self, lot: u16) -> bool {
+        // Lot 0 wraps to one that is too high.
+        let at = usize::from(lot.wrapping_sub(1));
+        let Some(word) = self.0.get_mut(at / 64) else {
+            return false;
+        };
+        let bit = 1 << (at % 64);
+        let free = *word & bit == 0;
+        *word |= bit;
+        free
+    }
 }
 
 /// The case must be a run of students, one of workshops, and then rising pairs only.
@@ -620,7 +664,7 @@ struct SeenMarks(Vec<u64>);
 
 impl Default for SeenMarks {
     fn default() -> SeenMarks {
-        let keys = u32::from(MAX_WORKSHOP_GROUP + 1) * GROUP_KEYS;
+        let keys = u32::from(MAX_STUDENT_GROUP + 1) * GROUP_KEYS;
         SeenMarks(vec![0; keys as usize / 64])
     }
 }

@@ -1,6 +1,8 @@
 //! Deterministic generation of cases, books and damaged input.
 
+use crate::literal::PairTable;
 use crate::model::*;
+use std::cmp::Reverse;
 use std::collections::HashSet;
 
 /// SplitMix64.
@@ -70,6 +72,9 @@ pub struct Shape {
     pub agreeing: bool,
     /// Marks go from minus this to this.
     pub reach: i16,
+    /// How many different marks a workshop gives, equal ones in one group among them; with 0 there
+    /// are no equal ones.
+    pub equal: usize,
     /// How many people have their line at or after their last group, in percent.
     pub late_lines: usize,
     /// How many books are full, in percent.
@@ -94,6 +99,7 @@ impl Shape {
             closed: rng.pick(&[0, 0, 20]),
             agreeing: rng.chance(50),
             reach: rng.pick(&[9, 9, 1000]),
+            equal: rng.pick(&[0, 0, 1, 2, 2, 4]),
             late_lines: rng.pick(&[0, 40, 100]),
             full_books: 50,
             never: rng.pick(&[0, 0, 0, 5, 15, 40]),
@@ -101,8 +107,43 @@ impl Shape {
         }
     }
 
+    /// 3 students with few seats and equal marks, few enough orders to try them all.
+    fn rivals(rng: &mut Rng) -> Shape {
+        let rivals = Shape {
+            students: 3,
+            workshops: rng.pick(&[1, 2, 2]),
+            student_groups: rng.pick(&[1, 1, 2]),
+            workshop_groups: rng.pick(&[1, 1, 2]),
+            pairs: rng.pick(&[80, 100]),
+            uneven: 0,
+            quota: rng.pick(&[1, 1, 2]),
+            closed: 0,
+            agreeing: rng.chance(70),
+            reach: 9,
+            equal: rng.pick(&[1, 1, 2]),
+            late_lines: rng.pick(&[70, 100, 100]),
+            full_books: 85,
+            never: rng.pick(&[0, 0, 10]),
+            picky: 10,
+        };
+        if rng.chance(60) {
+            return rivals;
+        }
+        // Two seats of one workshop, for students of two groups.
+        Shape {
+            workshops: 1,
+            workshop_groups: 2,
+            quota: 2,
+            equal: 1,
+            ..rivals
+        }
+    }
+
     /// At most 3 students and 3 workshops.
     pub fn tiny(rng: &mut Rng) -> Shape {
+        if rng.chance(40) {
+            return Shape::rivals(rng);
+        }
         Shape {
             students: rng.pick(&[1, 2, 2, 3, 3, 3]),
             workshops: rng.pick(&[1, 2, 2, 3]),
@@ -112,6 +153,7 @@ impl Shape {
             uneven: 0,
             quota: rng.pick(&[1, 1, 2]),
             reach: 9,
+            equal: rng.pick(&[0, 1, 2]),
             full_books: 70,
             never: rng.pick(&[0, 20, 40]),
             picky: 70,
@@ -127,6 +169,7 @@ impl Shape {
             pairs: rng.pick(&[5, 15, 30, 70, 95, 100]),
             quota: rng.range(1, 8),
             reach: 200,
+            equal: rng.pick(&[0, 1, 3, 8]),
             ..Shape::small(rng)
         }
     }
@@ -162,6 +205,7 @@ impl Shape {
             workshops,
             quota: quotas[quota],
             reach: 1000,
+            equal: rng.pick(&[0, 1, 3, 8, 40]),
             late_lines: rng.pick(&[20, 80, 100]),
             full_books: 80,
             ..Shape::small(rng)
@@ -228,15 +272,45 @@ pub fn case(rng: &mut Rng, shape: &Shape) -> Case {
 fn add_students(rng: &mut Rng, shape: &Shape, stages: &[u16], case: &mut Case) -> Vec<Vec<u16>> {
     let top = usize::from(MAX_STUDENT_GROUP);
     let mut all = Vec::new();
-    for _ in 0..shape.students {
+    for lot in lots(rng, shape.students) {
         let groups = group_numbers(rng, shape.student_groups, top);
         case.students.push(Student {
             stage: rng.pick(stages),
             line: line(rng, &groups, top, shape.late_lines),
+            lot,
         });
         all.push(groups);
     }
     all
+}
+
+/// Different lots for so many students: any of all lots, the lowest, the highest or those around
+/// 256 in any order, the numbers themselves, or the highest falling.
+pub fn lots(rng: &mut Rng, students: usize) -> Vec<u16> {
+    let all = usize::from(MAX_LOT);
+    let start = match rng.below(8) {
+        0 => return (1..=students as u16).collect(),
+        1 => return (1..=MAX_LOT).rev().take(students).collect(),
+        2 => 0,
+        3 => all - students,
+        4 => (all - students) / 2,
+        _ => {
+            let mut lots: Vec<u16> = (1..=MAX_LOT).collect();
+            rng.draw(&mut lots, students);
+            return lots.split_off(all - students);
+        }
+    };
+    let mut lots: Vec<u16> = (start as u16 + 1..).take(students).collect();
+    rng.shuffle(&mut lots);
+    lots
+}
+
+/// Other lots for the students of a case.
+pub fn draw_lots(rng: &mut Rng, case: &mut Case) {
+    let lots = lots(rng, case.students.len());
+    for (student, lot) in case.students.iter_mut().zip(lots) {
+        student.lot = lot;
+    }
 }
 
 /// Gives the groups each workshop uses, as many as there are stages.
@@ -295,7 +369,8 @@ fn quota(rng: &mut Rng, shape: &Shape) -> u16 {
     }
 }
 
-/// A result for every pair, in the order of the pairs, and none of them never.
+/// A result for every pair, in the order of the pairs, none of them never, and no two marks of one
+/// person equal in a group.
 pub fn full_book(rng: &mut Rng, case: &Case, reach: i16) -> Vec<Record> {
     let mut given = HashSet::new();
     let mut fresh_mark = |rng: &mut Rng, side: u8, person: u16, group: u16| loop {
@@ -331,20 +406,67 @@ pub fn full_book(rng: &mut Rng, case: &Case, reach: i16) -> Vec<Record> {
     book
 }
 
-/// Gives so many of a hundred records a mark of -1000, from the student, from the workshop or from
-/// both; or one of -999, where its giver has no other.
-pub fn put_never(rng: &mut Rng, book: &mut [Record], percent: usize) {
-    let given = |record: &Record| {
-        [
-            (0, record.student, record.student_mark),
-            (1, record.workshop, record.workshop_mark),
-        ]
+/// Each workshop gives one of so many marks to most students.
+pub fn put_equal(rng: &mut Rng, case: &Case, book: &mut [Record], marks: usize, reach: i16) {
+    let mut mark = || {
+        let size = rng.range(1, reach.min(MAX_MARK - 1) as usize) as i16;
+        match rng.below(12) {
+            0 => NEVER + 1,
+            1 => MAX_MARK,
+            2..7 => -size,
+            _ => size,
+        }
     };
-    let mut lowest: HashSet<(u8, u16)> = book
+    let marks: Vec<Vec<i16>> = (0..case.workshops.len())
+        .map(|_| (0..marks).map(|_| mark()).collect())
+        .collect();
+    for record in book {
+        if rng.chance(90) {
+            record.workshop_mark = rng.pick(&marks[usize::from(record.workshop) - 1]);
+        }
+    }
+}
+
+/// The book with other marks of the workshops, that say by themselves what marks and lots say: on
+/// each side of none they go up from its end by one, and no two are equal, but those of -1000.
+pub fn parted(case: &Case, book: &[Record]) -> Vec<Record> {
+    let groups = PairTable::new(case);
+    let side = |record: &Record| {
+        let pair = groups.get(record.student, record.workshop);
+        let (_, group) = pair.expect("the book was checked");
+        (record.workshop, group, record.workshop_mark > 0)
+    };
+    let lot = |record: &Record| case.students[usize::from(record.student) - 1].lot;
+    let mut order: Vec<usize> = (0..book.len())
+        .filter(|&at| book[at].workshop_mark != NEVER)
+        .collect();
+    order.sort_by_key(|&at| {
+        let record = &book[at];
+        (side(record), record.workshop_mark, Reverse(lot(record)))
+    });
+    let mut parted = book.to_vec();
+    let mut last = None;
+    let mut mark = 0;
+    for at in order {
+        let side = side(&book[at]);
+        mark = match side {
+            _ if last == Some(side) => mark + 1,
+            (.., true) => 1,
+            (.., false) => NEVER + 1,
+        };
+        last = Some(side);
+        parted[at].workshop_mark = mark;
+    }
+    parted
+}
+
+/// Gives so many of a hundred records a mark of -1000, from the student, from the workshop or from
+/// both; or one of -999, of a student where she has no other.
+pub fn put_never(rng: &mut Rng, book: &mut [Record], percent: usize) {
+    let mut lowest: HashSet<u16> = book
         .iter()
-        .flat_map(given)
-        .filter(|&(.., mark)| mark == NEVER + 1)
-        .map(|(side, person, _)| (side, person))
+        .filter(|record| record.student_mark == NEVER + 1)
+        .map(|record| record.student)
         .collect();
     for record in book {
         if !rng.chance(percent) {
@@ -353,8 +475,8 @@ pub fn put_never(rng: &mut Rng, book: &mut [Record], percent: usize) {
         match rng.below(5) {
             0 => (record.student_mark, record.workshop_mark) = (NEVER, NEVER),
             1 | 2 => record.student_mark = NEVER,
-            3 if lowest.insert((0, record.student)) => record.student_mark = NEVER + 1,
-            4 if lowest.insert((1, record.workshop)) => record.workshop_mark = NEVER + 1,
+            3 if lowest.insert(record.student) => record.student_mark = NEVER + 1,
+            4 if rng.chance(70) => record.workshop_mark = NEVER + 1,
             _ => record.workshop_mark = NEVER,
         }
     }
@@ -380,6 +502,9 @@ fn put_picky(rng: &mut Rng, book: &mut [Record]) {
 /// A result for every pair, as the shape says.
 pub fn shaped_book(rng: &mut Rng, case: &Case, shape: &Shape) -> Vec<Record> {
     let mut book = full_book(rng, case, shape.reach);
+    if shape.equal > 0 {
+        put_equal(rng, case, &mut book, shape.equal, shape.reach);
+    }
     if shape.never > 0 {
         put_never(rng, &mut book, shape.never);
         if rng.chance(shape.picky) {
@@ -419,7 +544,8 @@ pub fn small_input(rng: &mut Rng) -> Input {
 }
 
 /// The case of source document 000's experiment: all pairs, everybody acceptable, each
-/// student with `d` groups, all workshops with the same `e` groups, seats for all.
+/// student with `d` groups, all workshops with the same `e` groups, seats for all. The lots are the
+/// numbers.
 pub fn experiment(rng: &mut Rng, students: usize, workshops: usize, d: usize, e: usize) -> Case {
     let mut classes: Vec<u16> = (0..students)
         .map(|s| (s * e / students) as u16 + 1)
@@ -441,6 +567,7 @@ pub fn experiment(rng: &mut Rng, students: usize, workshops: usize, d: usize, e:
         case.students.push(Student {
             stage: class,
             line: d as u16 + 1,
+            lot: s as u16 + 1,
         });
         for w in 0..workshops {
             case.pairs.push(Pair {
@@ -462,9 +589,12 @@ type Damage = fn(&mut Rng, &mut Input);
 /// Damage of a file with records of a size.
 type FileDamage = fn(&mut Rng, &mut Vec<u8>, usize);
 
-const DAMAGES: [Damage; 10] = [
+const DAMAGES: [Damage; 13] = [
     case_field,
     case_field,
+    bad_lot,
+    two_bad_lots,
+    workshop_lot,
     case_remove,
     crowd,
     nobody,
@@ -570,9 +700,59 @@ fn case_field(rng: &mut Rng, input: &mut Input) {
         0, 1, 2, 63, 64, 65, 66, 67, 511, 512, 513, 514, 32768, 65535,
     ];
     if let Some(start) = record_start(rng, &input.case, CASE_RECORD) {
-        let fields = if input.case[start] == 3 { 4 } else { 3 };
+        let fields = if input.case[start] == 2 { 3 } else { 4 };
         let at = start + 2 * rng.range(1, fields);
         set_field(&mut input.case, at, rng.pick(&EDGES));
+    }
+}
+
+/// Where the lots of the first students stand.
+fn lot_places(case: &[u8]) -> Vec<usize> {
+    let records = case.chunks_exact(CASE_RECORD);
+    let students = records.take_while(|record| record[0] == 1).count();
+    (0..students).map(|s| s * CASE_RECORD + 8).collect()
+}
+
+/// One lot out of range, or one student's lot for another: the next, the last, or any.
+pub fn bad_lot(rng: &mut Rng, input: &mut Input) {
+    let lots = lot_places(&input.case);
+    let Some(last) = lots.len().checked_sub(1) else {
+        return;
+    };
+    let one = rng.range(0, last);
+    if last == 0 || rng.chance(40) {
+        let high_bit = get_field(&input.case, lots[one]) ^ rng.pick(&[0x8000, 0x0400]);
+        let lot = rng.pick(&[0, 0, 513, 513, 514, 768, 1024, 65535, high_bit, high_bit]);
+        set_field(&mut input.case, lots[one], lot);
+        return;
+    }
+    let (from, to) = match rng.below(4) {
+        0 => (0, last),
+        1 => (one.min(last - 1), one.min(last - 1) + 1),
+        _ => (one, (one + rng.range(1, last)) % lots.len()),
+    };
+    let lot = get_field(&input.case, lots[from]);
+    set_field(&mut input.case, lots[to], lot);
+}
+
+/// One lot is out of range, and perhaps another is used again.
+fn two_bad_lots(rng: &mut Rng, input: &mut Input) {
+    bad_lot(rng, input);
+    if let Some(&at) = lot_places(&input.case).last() {
+        let student = rng.below(at / CASE_RECORD + 1);
+        let lot = rng.pick(&[0, MAX_LOT + 1]);
+        set_field(&mut input.case, student * CASE_RECORD + 8, lot);
+    }
+}
+
+/// A workshop has something where a student has her lot.
+fn workshop_lot(rng: &mut Rng, input: &mut Input) {
+    let students = lot_places(&input.case).len();
+    let records = input.case.chunks_exact(CASE_RECORD).skip(students);
+    let workshops = records.take_while(|record| record[0] == 2).count();
+    if workshops > 0 {
+        let at = (students + rng.below(workshops)) * CASE_RECORD + 8;
+        set_field(&mut input.case, at, rng.pick(&[1, 2, 255, 256, 512, 513]));
     }
 }
 
@@ -593,9 +773,14 @@ fn crowd(rng: &mut Rng, input: &mut Input) {
     } else {
         (2, of_kind(2), of_kind(1) + of_kind(2), rng.range(64, 65))
     };
+    let lots = lot_places(&input.case).into_iter();
+    let taken: HashSet<u16> = lots.map(|at| get_field(&input.case, at)).collect();
+    let mut free = (1..=MAX_LOT).filter(|lot| !taken.contains(lot));
     let mut added = Vec::new();
     for number in present + 1..=wanted {
-        push_case_record(&mut added, kind, &[number as u16, 1, 1]);
+        let fields = [number as u16, 1, 1, free.next().unwrap_or(1)];
+        let named = if kind == 1 { 4 } else { 3 };
+        push_case_record(&mut added, kind, &fields[..named]);
     }
     let more = added.len() / CASE_RECORD;
     let at = behind * CASE_RECORD;
@@ -667,7 +852,7 @@ fn book_mark(rng: &mut Rng, input: &mut Input) {
 }
 
 /// Gives a record the mark of another record of the same person, if one is found; the other mark
-/// of one of the two may become never.
+/// of one of the two may become never, or a third mark of the student.
 fn book_equal_mark(rng: &mut Rng, input: &mut Input) {
     let book = &mut input.book;
     for _ in 0..20 {
@@ -677,13 +862,20 @@ fn book_equal_mark(rng: &mut Rng, input: &mut Input) {
         ) else {
             return;
         };
-        let side = rng.pick(&[0, 2]);
-        if from != to && get_field(book, from + side) == get_field(book, to + side) {
+        let side = rng.pick(&[0, 0, 2]);
+        let person = get_field(book, from + side);
+        if from != to && person == get_field(book, to + side) {
             let mark = get_field(book, from + side + 4);
             set_field(book, to + side + 4, mark);
-            if rng.chance(30) {
+            if rng.chance(40) {
                 let other_side = 2 - side;
                 set_field(book, rng.pick(&[from, to]) + other_side + 4, NEVER as u16);
+            }
+            let third = (0..book.len() / BOOK_RECORD)
+                .map(|record| record * BOOK_RECORD)
+                .find(|&at| at != from && at != to && get_field(book, at) == person);
+            if let Some(at) = third.filter(|_| side == 0 && rng.chance(40)) {
+                set_field(book, at + 4, NEVER as u16);
             }
             return;
         }
@@ -768,6 +960,11 @@ pub fn oversized_inputs(rng: &mut Rng) -> Vec<Input> {
 
     let largest = crowded_pairs(512, 64);
     inputs.extend(buffer_sweep(&largest));
+    for (student, lot) in [(0, 0), (0, 513), (0, 512), (511, 1), (511, 511), (256, 1)] {
+        let mut wrong = largest.clone();
+        set_field(&mut wrong.case, student * CASE_RECORD + 8, lot);
+        inputs.push(wrong);
+    }
     let mut long_book = largest;
     for _ in 0..70_000 {
         let record = [1u16, 1, 5, 5].map(u16::to_le_bytes);
@@ -787,7 +984,8 @@ pub fn oversized_inputs(rng: &mut Rng) -> Vec<Input> {
 fn many_students(students: usize) -> Input {
     let mut case = Vec::new();
     for number in 1..=students {
-        push_case_record(&mut case, 1, &[number as u16, 1, 1]);
+        let lot = (number - 1) % usize::from(MAX_LOT) + 1;
+        push_case_record(&mut case, 1, &[number as u16, 1, 1, lot as u16]);
     }
     push_case_record(&mut case, 2, &[1, 1, 1]);
     Input {
@@ -799,8 +997,13 @@ fn many_students(students: usize) -> Input {
 
 /// All pairs, every quota at 512, an empty book.
 fn crowded_pairs(students: usize, workshops: usize) -> Input {
+    let student = |lot: u16| Student {
+        stage: 1,
+        line: 2,
+        lot,
+    };
     let mut case = Case {
-        students: vec![Student { stage: 1, line: 2 }; students],
+        students: (1..=students as u16).map(student).collect(),
         workshops: vec![
             Workshop {
                 quota: 512,

@@ -7,6 +7,7 @@ pub mod gen;
 pub mod header;
 pub mod lending;
 pub mod literal;
+pub mod lots;
 pub mod model;
 pub mod mutants;
 pub mod never;

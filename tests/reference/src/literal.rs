@@ -13,13 +13,17 @@ pub struct Refusal {
 }
 
 pub fn answer(input: &Input) -> Answer {
+    answer_with_events(input).0
+}
+
+pub fn answer_with_events(input: &Input) -> (Answer, Vec<Event>) {
     match read(input) {
-        Ok((case, book)) => run(&case, &book),
-        Err(Refusal { number, place }) => Answer::Refused { number, place },
+        Ok((case, book)) => run_with_events(&case, &book),
+        Err(Refusal { number, place }) => (Answer::Refused { number, place }, Vec::new()),
     }
 }
 
-/// Tests the eleven causes in their order and decodes what passes.
+/// Tests the twelve causes in their order and decodes what passes.
 pub fn read(input: &Input) -> Result<(Case, Vec<Record>), Refusal> {
     let (case, book) = read_before_ties(input)?;
     refuse_at(11, first_equal_mark(&PairTable::new(&case), &book))?;
@@ -61,6 +65,7 @@ pub fn read_case(bytes: &[u8]) -> Result<Case, Refusal> {
         return refuse(4, 0);
     }
     refuse_at(5, first_out_of_range(&records))?;
+    refuse_at(13, first_bad_lot(&records))?;
     Ok(case)
 }
 
@@ -73,7 +78,8 @@ fn field(record: &[u8], position: usize) -> u16 {
 pub fn first_misformed(records: &[&[u8]]) -> Option<usize> {
     records.iter().position(|record| {
         let named_end = match record[0] {
-            1 | 2 => 8,
+            1 => 10,
+            2 => 8,
             3 => 10,
             _ => return true,
         };
@@ -129,6 +135,20 @@ pub fn first_out_of_range(records: &[&[u8]]) -> Option<usize> {
     })
 }
 
+/// Cause 13: a lot out of its range, or one that an earlier student has.
+pub fn first_bad_lot(records: &[&[u8]]) -> Option<usize> {
+    let mut earlier = Vec::new();
+    records.iter().position(|record| {
+        if record[0] != 1 {
+            return false;
+        }
+        let lot = field(record, 4);
+        let bad = !(1..=512).contains(&lot) || earlier.contains(&lot);
+        earlier.push(lot);
+        bad
+    })
+}
+
 /// Cause 4 is that this fails.
 fn counts_allowed(case: &Case) -> bool {
     (1..=512).contains(&case.students.len()) && (1..=64).contains(&case.workshops.len())
@@ -141,6 +161,7 @@ pub fn decode_case(records: &[&[u8]]) -> Case {
             1 => case.students.push(Student {
                 stage: field(record, 2),
                 line: field(record, 3),
+                lot: field(record, 4),
             }),
             2 => case.workshops.push(Workshop {
                 quota: field(record, 2),
@@ -196,20 +217,15 @@ fn first_repeated_pair(book: &[Record]) -> Option<usize> {
         .position(|record| !earlier.insert((record.student, record.workshop)))
 }
 
-/// Cause 11 passes over marks of -1000, and over nothing else of their records.
+/// Cause 11 is of students' marks, and passes over those of -1000.
 fn first_equal_mark(pairs: &PairTable, book: &[Record]) -> Option<usize> {
-    let mut by_students = HashSet::new();
-    let mut by_workshops = HashSet::new();
+    let mut earlier = HashSet::new();
     book.iter().position(|record| {
-        let (student_group, workshop_group) = pairs
+        let (student_group, _) = pairs
             .get(record.student, record.workshop)
             .expect("cause 8 comes first");
-        let (by_student, by_workshop) = (record.student_mark, record.workshop_mark);
-        let student_ties =
-            by_student != NEVER && !by_students.insert((record.student, student_group, by_student));
-        let workshop_ties = by_workshop != NEVER
-            && !by_workshops.insert((record.workshop, workshop_group, by_workshop));
-        student_ties || workshop_ties
+        let mark = record.student_mark;
+        mark != NEVER && !earlier.insert((record.student, student_group, mark))
     })
 }
 
@@ -240,6 +256,23 @@ fn square<T: Clone>(case: &Case, value: T) -> Vec<Vec<T>> {
 
 // ---- The staged rule ----
 
+/// What happens at a workshop.
+#[derive(Clone, Copy, Debug, PartialEq, Eq)]
+pub enum Event {
+    /// Steps 2 and 3: somebody applies, and somebody, perhaps she herself, may be dropped.
+    Applied {
+        workshop: usize,
+        newcomer: usize,
+        dropped: Option<usize>,
+    },
+    /// Step 4: it closes to a student to whom it was open, for she is below its lowest holder.
+    Closed {
+        workshop: usize,
+        student: usize,
+        lowest: usize,
+    },
+}
+
 /// The pair whose visit has no result in the book.
 struct Unanswered {
     student: usize,
@@ -261,24 +294,29 @@ struct Run<'a> {
     /// Who each workshop holds.
     holders: Vec<Vec<usize>>,
     visits: Vec<(u16, u16)>,
+    events: Vec<Event>,
 }
 
 pub fn run(case: &Case, book: &[Record]) -> Answer {
+    run_with_events(case, book).0
+}
+
+pub fn run_with_events(case: &Case, book: &[Record]) -> (Answer, Vec<Event>) {
     let mut run = Run::new(case, book);
     run.delete_hopeless_pairs();
-    for student in students_by_stage(case) {
-        if let Err(Unanswered { student, workshop }) = run.settle(student) {
-            return Answer::Next {
-                student: student as u16,
-                workshop: workshop as u16,
-                visits: run.visits,
-            };
-        }
-    }
-    Answer::Placed {
-        places: run.places(),
-        visits: run.visits,
-    }
+    let mut turns = students_by_stage(case).into_iter();
+    let answer = match turns.try_for_each(|student| run.settle(student)) {
+        Err(Unanswered { student, workshop }) => Answer::Next {
+            student: student as u16,
+            workshop: workshop as u16,
+            visits: run.visits,
+        },
+        Ok(()) => Answer::Placed {
+            places: run.places(),
+            visits: run.visits,
+        },
+    };
+    (answer, run.events)
 }
 
 /// Stages in rising number, students inside one in rising number.
@@ -306,6 +344,7 @@ impl<'a> Run<'a> {
             reached: vec![0; case.students.len() + 1],
             holders: vec![Vec::new(); case.workshops.len() + 1],
             visits: Vec::new(),
+            events: Vec::new(),
         }
     }
 
@@ -327,6 +366,10 @@ impl<'a> Run<'a> {
 
     fn quota(&self, workshop: usize) -> usize {
         usize::from(self.case.workshops[workshop - 1].quota)
+    }
+
+    fn lot(&self, student: usize) -> u16 {
+        self.case.students[student - 1].lot
     }
 
     fn student_group(&self, student: usize, workshop: usize) -> Option<u16> {
@@ -441,6 +484,11 @@ impl<'a> Run<'a> {
             self.holders[workshop].retain(|&holder| holder != lowest);
             dropped = Some(lowest);
         }
+        self.events.push(Event::Applied {
+            workshop,
+            newcomer: student,
+            dropped,
+        });
         if self.holders[workshop].len() == self.quota(workshop) {
             self.delete_below(workshop, self.lowest_holder(workshop));
         }
@@ -450,9 +498,12 @@ impl<'a> Run<'a> {
     fn lowest_holder(&self, workshop: usize) -> usize {
         let holders = self.holders[workshop].iter().copied();
         holders
-            .max_by_key(|&holder| {
-                let mark = self.workshop_mark(holder, workshop);
-                (self.workshop_group(holder, workshop), -mark)
+            .reduce(|lowest, holder| {
+                if self.strictly_below(workshop, holder, lowest) {
+                    holder
+                } else {
+                    lowest
+                }
             })
             .expect("it holds somebody")
     }
@@ -460,23 +511,41 @@ impl<'a> Run<'a> {
     fn delete_below(&mut self, workshop: usize, lowest: usize) {
         for student in self.students() {
             if self.strictly_below(workshop, student, lowest) {
+                if self.open[student][workshop] {
+                    self.events.push(Event::Closed {
+                        workshop,
+                        student,
+                        lowest,
+                    });
+                }
                 self.deleted[student][workshop] = true;
                 self.open[student][workshop] = false;
             }
         }
     }
 
-    /// By group, or by mark in the same group where both have visited.
-    fn strictly_below(&self, workshop: usize, student: usize, lowest: usize) -> bool {
-        let lowest_group = self.workshop_group(lowest, workshop);
+    /// By group, or in the same group, where both have visited, by mark, and where their marks are
+    /// equal, by lot.
+    fn strictly_below(&self, workshop: usize, student: usize, other: usize) -> bool {
+        let other_group = self.workshop_group(other, workshop);
         match self.workshop_group(student, workshop) {
             None => false,
-            group if group == lowest_group => {
-                self.visited[student][workshop]
-                    && self.workshop_mark(student, workshop) < self.workshop_mark(lowest, workshop)
+            group if group == other_group => {
+                let visited = |one: usize| self.visited[one][workshop];
+                visited(student) && visited(other) && self.met_below(workshop, student, other)
             }
-            group => group > lowest_group,
+            group => group > other_group,
         }
+    }
+
+    /// Of two in one group who have visited: a lower mark, or an equal one and the higher lot.
+    fn met_below(&self, workshop: usize, student: usize, other: usize) -> bool {
+        let mark = self.workshop_mark(student, workshop);
+        let other_mark = self.workshop_mark(other, workshop);
+        if mark == other_mark {
+            return self.lot(student) > self.lot(other);
+        }
+        mark < other_mark
     }
 
     fn places(&self) -> Vec<u16> {

@@ -7,9 +7,11 @@ use reference::brute::{Effort, World};
 use reference::fast::Fast;
 use reference::gen::{self, Rng, Shape};
 use reference::lending::{self, Call, Loan};
+use reference::literal::Event;
+use reference::lots;
 use reference::model::*;
 use reference::mutants::{self, Mutant};
-use reference::never::{Kinds, Ties};
+use reference::never::{self, Ties};
 use reference::proved::Proved;
 use reference::stages;
 use reference::tally::{self, Part, Tally};
@@ -86,7 +88,11 @@ impl Comparison {
 
     /// Gives the literal answer.
     fn check(&mut self, tally: &mut Tally, input: &Input) -> Answer {
-        let expected = literal::answer(input);
+        self.check_with_events(tally, input).0
+    }
+
+    fn check_with_events(&mut self, tally: &mut Tally, input: &Input) -> (Answer, Vec<Event>) {
+        let (expected, events) = literal::answer_with_events(input);
         let got = self.fast.answer(input);
         tally.check(got == expected, || {
             format!("fast: {got:?}\nliteral: {expected:?}\n{}", input.describe())
@@ -98,19 +104,38 @@ impl Comparison {
                 format!("engine: {found:?}\nliteral: {expected:?}\n{input}")
             });
         }
-        expected
+        (expected, events)
     }
 
-    /// The same for a case and a book with buffers that just suffice; counts the kinds of never.
+    /// The same for a case and a book with buffers that just suffice; counts the kinds met.
     fn check_counting(
         &mut self,
         tally: &mut Tally,
         (case, book): &(Case, Vec<Record>),
         kinds: &mut Kinds,
     ) -> Answer {
-        let answer = self.check(tally, &case.input(book));
-        kinds.count(case, book, answer.visits());
+        let (answer, events) = self.check_with_events(tally, &case.input(book));
+        kinds.count(case, book, &answer, &events);
         answer
+    }
+}
+
+/// The kinds of never and of lots.
+#[derive(Default)]
+struct Kinds {
+    never: never::Kinds,
+    lots: lots::Kinds,
+}
+
+impl Kinds {
+    fn count(&mut self, case: &Case, book: &[Record], answer: &Answer, events: &[Event]) {
+        self.never.count(case, book, answer.visits());
+        self.lots.count(case, book, answer, events);
+    }
+
+    fn check(&self, tally: &mut Tally, runs: &str) {
+        self.never.check(tally, runs);
+        self.lots.check(tally, runs);
     }
 }
 
@@ -159,6 +184,7 @@ fn parts(options: &Options) -> Vec<Part<'_>> {
         part("middle cases", middle_cases),
         part("mutants", mutants_told_apart),
         part("visit by visit", visit_by_visit),
+        part("lots put into the marks", lots_put_into_marks),
         part("byte sweeps", byte_sweeps),
         part("stages, whole circle", stages_whole_circle),
         part("stages, byte sweeps", |tally, options| {
@@ -169,6 +195,9 @@ fn parts(options: &Options) -> Vec<Part<'_>> {
         part("oversized input", oversized_input),
         part("slips break demands", slips_break_demands),
         part("C header", |tally, _| header::run(tally)),
+        part("stored runs", |tally, _| {
+            program::stored_as_reference(tally)
+        }),
         part("stages, all numbers", |tally, options| {
             let (rng, own) = (options.rng(23), options.rng(123));
             stages::tests::all_numbers(tally, rng, own, options.count(40_000));
@@ -209,21 +238,18 @@ fn proved_cases(tally: &mut Tally, options: &Options) {
     let mut comparison = Comparison::new(options.rng(0));
     let table = proved::table();
     let never = proved::of_never();
+    let lots = proved::of_lots();
     tally.check(table.len() == 15, || "the table has 15 cases".to_string());
     tally.check(never.len() == 26, || "never has 26 rows".to_string());
-    for proved in table.iter().chain(&never) {
+    tally.check(lots.len() == 67, || "lots have 67 rows".to_string());
+    for proved in table.iter().chain(&never).chain(&lots) {
         let answer = comparison.check(tally, &proved.input);
         tally.check(proved.expected.holds(&answer), || {
             format!("{}: {answer:?}", proved.name)
         });
     }
-    tally.note(&format!("{} rows for never, failed by:", never.len()));
-    for mutant in mutants::about_never() {
-        let fails = |row: &&Proved| !row.expected.holds(&(mutant.answer)(&row.input));
-        let count = never.iter().filter(fails).count();
-        tally.note(&format!("{count:6} {}", mutant.name));
-        tally.check(count > 0, || format!("fails no row: {}", mutant.name));
-    }
+    rows_failed(tally, "never", &never, &mutants::about_never());
+    rows_failed(tally, "lots", &lots, &mutants::about_lots());
     let (case, book) = proved::example();
     let text = literal::answer(&case.input(&book)).text();
     let lines = [
@@ -237,6 +263,17 @@ fn proved_cases(tally: &mut Tally, options: &Options) {
         "visit 3 2",
     ];
     tally.check(text.lines().eq(lines), || text);
+}
+
+/// Each of the mutants fails one of these rows.
+fn rows_failed(tally: &mut Tally, about: &str, rows: &[Proved], mutants: &[Mutant]) {
+    tally.note(&format!("{} rows for {about}, failed by:", rows.len()));
+    for mutant in mutants {
+        let fails = |row: &&Proved| !row.expected.holds(&(mutant.answer)(&row.input));
+        let count = rows.iter().filter(fails).count();
+        tally.note(&format!("{count:6} {}", mutant.name));
+        tally.check(count > 0, || format!("fails no row: {}", mutant.name));
+    }
 }
 
 fn small_cases(tally: &mut Tally, options: &Options) {
@@ -289,6 +326,9 @@ fn large_cases(tally: &mut Tally, options: &Options) {
         let book = gen::full_book(&mut rng, &case, MAX_MARK);
         let mut drawn = (case, book);
         check(&drawn);
+        gen::draw_lots(&mut rng, &mut drawn.0);
+        gen::put_equal(&mut rng, &drawn.0, &mut drawn.1, 8, MAX_MARK);
+        check(&drawn);
         gen::put_never(&mut rng, &mut drawn.1, 10);
         check(&drawn);
         // The last groups become the line groups.
@@ -307,6 +347,7 @@ fn byte_sweeps(tally: &mut Tally, options: &Options) {
     let (case, book) = proved::example();
     let mut bases = vec![case.input(&book)];
     bases.extend(proved::of_never().into_iter().map(|row| row.input));
+    bases.extend(proved::of_lots().into_iter().map(|row| row.input));
     for _ in 0..options.count(100) {
         bases.push(gen::small_input(&mut rng));
     }
@@ -320,9 +361,10 @@ fn byte_sweeps(tally: &mut Tally, options: &Options) {
 fn damaged_input(tally: &mut Tally, options: &Options) {
     let mut rng = options.rng(4);
     let mut comparison = Comparison::new(options.rng(104));
-    let mut seen = [0; 12];
-    let mut later_record = [false; 12];
+    let mut seen = [0; 14];
+    let mut later_record = [false; 14];
     let mut ties = Ties::default();
+    let mut of_lots = lots::Refusals::default();
     for _ in 0..options.count(400_000) {
         let input = gen::damaged_input(&mut rng);
         let (number, place) = match comparison.check(tally, &input) {
@@ -333,15 +375,18 @@ fn damaged_input(tally: &mut Tally, options: &Options) {
             let (case, book) = literal::read_before_ties(&input).expect("refused by 11");
             ties.count(&case, &book, place);
         }
+        of_lots.count(&input, number as u16, place);
         seen[number] += 1;
         later_record[number] |= place > 0;
     }
     tally.note(&format!(
-        "good input {}, refusals 1 to 11 {:?}",
+        "good input {}, refusals 1 to 11 {:?}, 13 {}",
         seen[0],
-        &seen[1..]
+        &seen[1..12],
+        seen[13]
     ));
-    for number in 1..=11 {
+    tally.check(seen[12] == 0, || "12 is none of these".to_string());
+    for number in (1..=11).chain([13]) {
         let of_record = !matches!(number, 1 | 4 | 6 | 7);
         tally.check(seen[number] >= 20, || format!("refusal {number} is rare"));
         tally.check(later_record[number] == of_record, || {
@@ -349,6 +394,7 @@ fn damaged_input(tally: &mut Tally, options: &Options) {
         });
     }
     ties.check(tally);
+    of_lots.check(tally);
 }
 
 fn oversized_input(tally: &mut Tally, options: &Options) {
@@ -367,7 +413,7 @@ fn visit_by_visit(tally: &mut Tally, options: &Options) {
     let mut rng = options.rng(6);
     let mut comparison = Comparison::new(options.rng(106));
     let mut kinds = Kinds::default();
-    for _ in 0..options.count(20_000) {
+    for _ in 0..options.count(20_000).max(4000) {
         let shape = Shape::small(&mut rng);
         drive(tally, &mut comparison, &mut rng, &shape, &mut kinds);
     }
@@ -412,6 +458,30 @@ fn drive(
     }
 }
 
+/// Marks that say by themselves what marks and lots say give the same answer, whatever the lots.
+fn lots_put_into_marks(tally: &mut Tally, options: &Options) {
+    let mut rng = options.rng(12);
+    let mut comparison = Comparison::new(options.rng(112));
+    let mut other_answers = 0;
+    let mut shapes: Vec<Shape> = (0..options.count(20_000))
+        .map(|_| Shape::small(&mut rng))
+        .collect();
+    shapes.extend((0..options.count(500)).map(|_| Shape::middle(&mut rng)));
+    shapes.extend(Shape::large(&mut rng).into_iter().step_by(41));
+    for shape in shapes {
+        let (mut case, mut book) = gen::case_and_book(&mut rng, &shape);
+        let answer = comparison.check(tally, &case.input(&book));
+        let parted = gen::parted(&case, &book);
+        gen::draw_lots(&mut rng, &mut case);
+        other_answers += usize::from(comparison.check(tally, &case.input(&book)) != answer);
+        book = parted;
+        let same = comparison.check(tally, &case.input(&book)) == answer;
+        tally.check(same, || format!("not {answer:?}: {case:?}\n{book:?}"));
+    }
+    tally.note(&format!("{other_answers} other answers with other lots"));
+    tally.check(other_answers > 0, || "no lot counts".to_string());
+}
+
 /// Demands 2 and 3 on tiny cases, and that wrong answers break them.
 fn all_strict_orders(tally: &mut Tally, options: &Options) {
     let mut rng = options.rng(7);
@@ -420,11 +490,11 @@ fn all_strict_orders(tally: &mut Tally, options: &Options) {
     let (mut met, mut met_agreeing) = (Kinds::default(), Kinds::default());
     let (mut finished, mut agreeing, mut orders) = (0, 0, 0);
     let mut without_record = 0;
-    while finished < options.count(6000).max(600) {
+    while finished < options.count(6000).max(1500) {
         let shape = Shape::tiny(&mut rng);
         let (case, book) = gen::case_and_book(&mut rng, &shape);
-        let answer = comparison.check(tally, &case.input(&book));
-        let Answer::Placed { places, visits } = answer else {
+        let (answer, events) = comparison.check_with_events(tally, &case.input(&book));
+        let Answer::Placed { places, visits } = &answer else {
             continue;
         };
         let Some(world) = World::new(&case) else {
@@ -432,18 +502,18 @@ fn all_strict_orders(tally: &mut Tally, options: &Options) {
         };
         finished += 1;
         orders += world.orders();
-        met.count(&case, &book, &visits);
+        met.count(&case, &book, &answer, &events);
         without_record += usize::from(book.len() < case.pairs.len());
         let trial = Trial {
             world: &world,
             case: &case,
             book: &book,
         };
-        trial.demand_two(tally, &places, &visits);
+        trial.demand_two(tally, places, visits);
         if case.stages_agree() {
             agreeing += 1;
-            met_agreeing.count(&case, &book, &visits);
-            trial.demand_three(tally, &places, &visits, &mut effort);
+            met_agreeing.count(&case, &book, &answer, &events);
+            trial.demand_three(tally, places, visits, &mut effort);
         }
     }
     tally.note(&format!(

@@ -9,6 +9,7 @@ pub const MAX_STUDENTS: usize = 512;
 pub const MAX_WORKSHOPS: usize = 64;
 pub const MAX_STAGE: u16 = 512;
 pub const MAX_QUOTA: u16 = 512;
+pub const MAX_LOT: u16 = 512;
 /// Largest group or line a student may use.
 pub const MAX_STUDENT_GROUP: u16 = 65;
 /// Largest group or line a workshop may use.
@@ -21,6 +22,8 @@ pub const NEVER: i16 = -1000;
 pub struct Student {
     pub stage: u16,
     pub line: u16,
+    /// Of two students with equal marks in one group of a workshop, the lower lot is better.
+    pub lot: u16,
 }
 
 #[derive(Clone, Copy, Debug, PartialEq, Eq)]
@@ -116,7 +119,8 @@ impl Case {
         let mut bytes = Vec::new();
         for (index, student) in self.students.iter().enumerate() {
             let number = index as u16 + 1;
-            push_case_record(&mut bytes, 1, &[number, student.stage, student.line]);
+            let Student { stage, line, lot } = *student;
+            push_case_record(&mut bytes, 1, &[number, stage, line, lot]);
         }
         for (index, workshop) in self.workshops.iter().enumerate() {
             let number = index as u16 + 1;

@@ -3,6 +3,7 @@
 use crate::literal::{self, PairTable};
 use crate::model::*;
 use crate::proved;
+use std::cmp::Ordering;
 use std::collections::HashSet;
 
 pub struct Mutant {
@@ -40,6 +41,13 @@ enum Slip {
     NeverInLineGroupOnly,
     NeverNotListed,
     LowestIsNever,
+    HigherLotWins,
+    LotBeforeMark,
+    LotsAcrossGroups,
+    NumberForLot,
+    LowByteOfLot,
+    LotOfUnvisited,
+    EqualIsNotBelow,
 }
 
 /// Without a slip; they must agree with the literal reference.
@@ -47,8 +55,9 @@ pub fn controls() -> Vec<Mutant> {
     vec![
         rule("no slip", Slip::Nothing),
         on_ties("no slip in cause 11", |given| {
-            (given.mark != NEVER).then_some((given.group, given.mark))
+            (given.by_student && given.mark != NEVER).then_some((given.group, given.mark))
         }),
+        on_lots("no slip in the lots", |_| ()),
     ]
 }
 
@@ -58,6 +67,7 @@ pub fn all() -> Vec<Mutant> {
     mutants.extend(bad_engines());
     mutants.extend(slips_of_refusal());
     mutants.extend(refusals_of_never());
+    mutants.extend(refusals_of_lots());
     mutants
 }
 
@@ -68,10 +78,17 @@ pub fn about_never() -> Vec<Mutant> {
     mutants
 }
 
-/// The slips that document 01 lists and those around never; each of them breaks demand 2 or
-/// demand 3.
+/// The slips around lots.
+pub fn about_lots() -> Vec<Mutant> {
+    let mut mutants = rules(Slip::about_lots);
+    mutants.extend(refusals_of_lots());
+    mutants
+}
+
+/// The slips that document 01 lists, those around never and those around lots; each of them breaks
+/// demand 2 or demand 3.
 pub fn that_break_demands() -> Vec<Mutant> {
-    rules(|slip| slip.of_a_careful_hand() || slip.about_never())
+    rules(|slip| slip.of_a_careful_hand() || slip.about_never() || slip.about_lots())
 }
 
 fn rules(chosen: fn(Slip) -> bool) -> Vec<Mutant> {
@@ -103,6 +120,44 @@ impl Slip {
         )
     }
 
+    /// The lot of student `s`, counted from 0, as a run with this slip takes it.
+    fn lot(self, s: usize, lot: u16) -> i32 {
+        match self {
+            Slip::HigherLotWins => -i32::from(lot),
+            Slip::NumberForLot => s as i32,
+            Slip::LowByteOfLot => i32::from(lot & 255),
+            Slip::EqualIsNotBelow => 0,
+            _ => i32::from(lot),
+        }
+    }
+
+    /// Greater is lower at a workshop that both have visited.
+    fn compare(self, one: &Cell, other: &Cell) -> Ordering {
+        let mark = |cell: &Cell| -cell.marks.map_or(0, |marks| marks.1);
+        let by_group = one.workshop_group.cmp(&other.workshop_group);
+        let by_mark = mark(one).cmp(&mark(other));
+        let by_lot = one.lot.cmp(&other.lot);
+        match self {
+            Slip::MarksAcrossGroups => by_mark.then(by_lot),
+            Slip::LotBeforeMark => by_group.then(by_lot).then(by_mark),
+            Slip::LotsAcrossGroups if by_mark == Ordering::Equal => by_lot,
+            _ => by_group.then(by_mark).then(by_lot),
+        }
+    }
+
+    fn about_lots(self) -> bool {
+        matches!(
+            self,
+            Slip::HigherLotWins
+                | Slip::LotBeforeMark
+                | Slip::LotsAcrossGroups
+                | Slip::NumberForLot
+                | Slip::LowByteOfLot
+                | Slip::LotOfUnvisited
+                | Slip::EqualIsNotBelow
+        )
+    }
+
     /// `in_line_groups`: whether the workshop is in the student's line group, and she in its.
     fn takes_for_never(self, record: &Record, in_line_groups: (bool, bool)) -> bool {
         let last = match self {
@@ -122,7 +177,7 @@ impl Slip {
     }
 }
 
-const SLIPS: [(Slip, &str); 25] = [
+const SLIPS: [(Slip, &str); 32] = [
     (Slip::DeleteOnlyVisited, "deletes only visited students"),
     (Slip::OpenWhileOpen, "opens a group while one is open"),
     (Slip::MarksAcrossGroups, "compares marks across groups"),
@@ -160,6 +215,13 @@ const SLIPS: [(Slip, &str); 25] = [
     (Slip::NeverInLineGroupOnly, "never in the line group only"),
     (Slip::NeverNotListed, "a never visit is not listed"),
     (Slip::LowestIsNever, "-999 is never too"),
+    (Slip::HigherLotWins, "the higher lot wins"),
+    (Slip::LotBeforeMark, "lots before marks"),
+    (Slip::LotsAcrossGroups, "lots across groups"),
+    (Slip::NumberForLot, "the student's number for her lot"),
+    (Slip::LowByteOfLot, "only the lots' low bytes compared"),
+    (Slip::LotOfUnvisited, "lots of students who have not come"),
+    (Slip::EqualIsNotBelow, "the first of equal marks stays"),
 ];
 
 /// Slips that show only where there are many people or records.
@@ -189,6 +251,9 @@ pub fn of_size() -> Vec<Mutant> {
         }),
         on_refused("record numbers in 16 bits", |_, number, place| {
             (number, place & 0xffff)
+        }),
+        on_lots("lots used again by 256 students", |case| {
+            mend_repeats(case, |_, at| at >= 256)
         }),
     ]
 }
@@ -230,7 +295,7 @@ fn slips_of_refusal() -> Vec<Mutant> {
             (number, place)
         }),
         on_refused("counts records from 1", |_, number, place| {
-            let of_record = matches!(number, 2 | 3 | 5 | 8..=11);
+            let of_record = matches!(number, 2 | 3 | 5 | 8..=11 | 13);
             (number, place + usize::from(of_record))
         }),
         on_refused("all causes record by record", first_bad_record),
@@ -248,7 +313,7 @@ fn slips_of_refusal() -> Vec<Mutant> {
         }),
         on_ties("forgets equal marks", |_| None),
         on_ties("equal marks across groups", |given| {
-            (given.mark != NEVER).then_some((0, given.mark))
+            (given.by_student && given.mark != NEVER).then_some((0, given.mark))
         }),
     ]
 }
@@ -256,14 +321,78 @@ fn slips_of_refusal() -> Vec<Mutant> {
 fn refusals_of_never() -> Vec<Mutant> {
     vec![
         on_ties("-1000 is an equal mark", |given| {
-            Some((given.group, given.mark))
+            given.by_student.then_some((given.group, given.mark))
         }),
         on_ties("passes over both marks of a never", |given| {
             let never = given.mark == NEVER || given.other == NEVER;
-            (!never).then_some((given.group, given.mark))
+            (given.by_student && !never).then_some((given.group, given.mark))
         }),
         mutant("-1000 is out of range", never_out_of_range),
     ]
+}
+
+fn refusals_of_lots() -> Vec<Mutant> {
+    let mut mutants: Vec<Mutant> = SLIPS_OF_LOTS
+        .iter()
+        .map(|&(name, change)| on_lots(name, change))
+        .collect();
+    mutants.extend([
+        on_ties("a workshop's equal marks are refused", |given| {
+            (given.mark != NEVER).then_some((given.group, given.mark))
+        }),
+        on_ties("11 of a workshop's marks only", |given| {
+            (!given.by_student && given.mark != NEVER).then_some((given.group, given.mark))
+        }),
+        mutant(
+            "a student's equal marks are parted",
+            |input| match literal::read_before_ties(input) {
+                Ok((case, book)) => literal::run(&case, &book),
+                Err(_) => literal::answer(input),
+            },
+        ),
+        mutant("13 forgotten", |input| match refusal_of(input) {
+            (13, _) => literal::answer(&with_good_lots(input)),
+            _ => literal::answer(input),
+        }),
+        on_refused("13 names the earlier student", |input, number, place| {
+            (number, earlier_lot(&input.case, number, place))
+        }),
+        on_refused("13 without its place", |_, number, place| {
+            (number, if number == 13 { 0 } else { place })
+        }),
+        on_refused("13 before 5", |input, number, place| {
+            lots_before(5, &input.case, (number, place))
+        }),
+        on_refused("13 before 4", |input, number, place| {
+            lots_before(4, &input.case, (number, place))
+        }),
+        on_refused("13 before 3", |input, number, place| {
+            lots_before(3, &input.case, (number, place))
+        }),
+        on_refused("13 after 6", |input, number, place| {
+            match (number, refusal_of(&with_good_lots(input))) {
+                (13, (6, _)) => (6, 0),
+                _ => (number, place),
+            }
+        }),
+        on_refused("13 last", |input, number, place| {
+            match (number, refusal_of(&with_good_lots(input))) {
+                (13, other @ (1.., _)) => other,
+                _ => (number, place),
+            }
+        }),
+        on_refused("5 for 13", |_, number, place| {
+            (if number == 13 { 5 } else { number }, place)
+        }),
+        on_refused(
+            "all lots' ranges before their repeats",
+            |input, number, place| {
+                let far = first_lot_out_of_range(&input.case).filter(|_| number == 13);
+                (number, far.unwrap_or(place))
+            },
+        ),
+    ]);
+    mutants
 }
 
 fn mutant(name: &'static str, answer: impl Fn(&Input) -> Answer + 'static) -> Mutant {
@@ -308,6 +437,7 @@ fn on_refused(name: &'static str, change: fn(&Input, u16, usize) -> (u16, usize)
 
 /// A mark as cause 11 meets it.
 struct Given {
+    by_student: bool,
     group: u16,
     mark: i16,
     /// The other mark of the record.
@@ -329,11 +459,13 @@ fn on_ties(name: &'static str, key: fn(Given) -> Option<(u16, i16)>) -> Mutant {
                 .expect("cause 8 comes first");
             let (mark, other) = (record.student_mark, record.workshop_mark);
             let by_student = key(Given {
+                by_student: true,
                 group: student_group,
                 mark,
                 other,
             });
             let by_workshop = key(Given {
+                by_student: false,
                 group: workshop_group,
                 mark: other,
                 other: mark,
@@ -391,7 +523,7 @@ fn next_before_running(input: &Input) -> Answer {
 
 /// The first record with any fault of form, order or range.
 fn first_bad_record(input: &Input, number: u16, place: usize) -> (u16, usize) {
-    if !matches!(number, 2 | 3 | 5) {
+    if !matches!(number, 2 | 3 | 5 | 13) {
         return (number, place);
     }
     let records: Vec<&[u8]> = input.case.chunks(CASE_RECORD).collect();
@@ -399,6 +531,7 @@ fn first_bad_record(input: &Input, number: u16, place: usize) -> (u16, usize) {
         (literal::first_misformed(&records), 2),
         (literal::first_out_of_order(&records), 3),
         (literal::first_out_of_range(&records), 5),
+        (literal::first_bad_lot(&records), 13),
     ]
     .into_iter()
     .filter_map(|(bad, cause)| Some((bad?, cause)))
@@ -447,10 +580,149 @@ fn without_equal_marks(input: &Input) -> Input {
     input
 }
 
+// ---- Lots with a slip ----
+
+/// A slip that is as good as reading other bytes.
+pub(crate) type LotSlip = fn(&mut [u8]);
+
+/// Slips of the engine and of the stages alike.
+pub(crate) const SLIPS_OF_LOTS: [(&str, LotSlip); 12] = [
+    ("lot 512 is refused", |case| {
+        each_lot(case, |lot, _| if lot == 512 { 513 } else { lot })
+    }),
+    ("lot 513 is allowed", |case| {
+        each_lot(case, |lot, free| if lot == 513 { free } else { lot })
+    }),
+    ("lot 0 is allowed", |case| {
+        each_lot(case, |lot, free| if lot == 0 { free } else { lot })
+    }),
+    ("lots above 512 are allowed", |case| {
+        each_lot(case, |lot, free| if lot > 512 { free } else { lot })
+    }),
+    ("lots have 15 bits", |case| {
+        each_lot(case, |lot, _| lot & 0x7fff)
+    }),
+    ("lots without their high byte", |case| {
+        each_lot(case, |lot, _| lot & 0xff)
+    }),
+    ("lots with the high byte first", |case| {
+        each_lot(case, |lot, _| lot.swap_bytes())
+    }),
+    ("a lot may be used again", |case| {
+        mend_repeats(case, |_, _| true)
+    }),
+    ("a lot used again is seen in the next record only", |case| {
+        mend_repeats(case, |lots, at| lots[at - 1] != lots[at])
+    }),
+    ("a lot used again is not seen in the next record", |case| {
+        mend_repeats(case, |lots, at| lots[at - 1] == lots[at])
+    }),
+    ("2 tests bytes 8 and 9 of a student", |case| {
+        for record in case.chunks_exact_mut(CASE_RECORD) {
+            if record[0] == 1 && record[8..10] != [0, 0] {
+                record[15] = 1;
+            }
+        }
+    }),
+    ("2 passes over bytes 8 and 9 of a workshop", |case| {
+        for record in case.chunks_exact_mut(CASE_RECORD) {
+            if record[0] == 2 {
+                record[8..10].fill(0);
+            }
+        }
+    }),
+];
+
+fn on_lots(name: &'static str, change: LotSlip) -> Mutant {
+    mutant(name, move |input| {
+        let mut input = input.clone();
+        change(&mut input.case);
+        literal::answer(&input)
+    })
+}
+
+/// The lots of the records of kind 1.
+fn lots_of(case: &[u8]) -> Vec<u16> {
+    let records = case.chunks_exact(CASE_RECORD);
+    let students = records.filter(|record| record[0] == 1);
+    students
+        .map(|record| u16::from_le_bytes([record[8], record[9]]))
+        .collect()
+}
+
+fn put_lots(case: &mut [u8], lots: &[u16]) {
+    let records = case.chunks_exact_mut(CASE_RECORD);
+    let students = records.filter(|record| record[0] == 1);
+    for (record, lot) in students.zip(lots) {
+        record[8..10].copy_from_slice(&lot.to_le_bytes());
+    }
+}
+
+/// Changes each lot, knowing one that nobody has.
+fn each_lot(case: &mut [u8], change: fn(u16, u16) -> u16) {
+    let mut lots = lots_of(case);
+    let free = (1..=MAX_LOT).rev().find(|lot| !lots.contains(lot));
+    for lot in &mut lots {
+        *lot = change(*lot, free.unwrap_or(1));
+    }
+    put_lots(case, &lots);
+}
+
+/// A lot that an earlier student has becomes one that nobody has, where this is chosen.
+fn mend_repeats(case: &mut [u8], chosen: fn(&[u16], usize) -> bool) {
+    let lots = lots_of(case);
+    let mut mended = lots.clone();
+    for at in 1..lots.len() {
+        if lots[..at].contains(&lots[at]) && chosen(&lots, at) {
+            let free = (1..=MAX_LOT).find(|lot| !lots.contains(lot) && !mended.contains(lot));
+            mended[at] = free.unwrap_or(lots[at]);
+        }
+    }
+    put_lots(case, &mended);
+}
+
+/// Gives the students their numbers for lots.
+pub(crate) fn number_lots(case: &mut [u8]) {
+    let numbers: Vec<u16> = (1..=MAX_LOT).collect();
+    put_lots(case, &numbers);
+}
+
+pub fn with_good_lots(input: &Input) -> Input {
+    let mut input = input.clone();
+    number_lots(&mut input.case);
+    input
+}
+
+/// The refusal if cause 13 came before this cause.
+pub(crate) fn lots_before(cause: u16, case: &[u8], (number, place): (u16, usize)) -> (u16, usize) {
+    let records: Vec<&[u8]> = case.chunks_exact(CASE_RECORD).collect();
+    match literal::first_bad_lot(&records) {
+        Some(bad) if (cause..=5).contains(&number) => (13, bad),
+        _ => (number, place),
+    }
+}
+
+/// The place of the earlier student with the same lot, for cause 13.
+pub(crate) fn earlier_lot(case: &[u8], number: u16, place: usize) -> usize {
+    if number != 13 {
+        return place;
+    }
+    let lots = lots_of(case);
+    let earlier = lots[..place].iter().position(|lot| *lot == lots[place]);
+    earlier.unwrap_or(place)
+}
+
+fn first_lot_out_of_range(case: &[u8]) -> Option<usize> {
+    let lots = lots_of(case);
+    lots.iter().position(|lot| !(1..=MAX_LOT).contains(lot))
+}
+
 // ---- The rule with a slip ----
 
 #[derive(Clone, Default)]
 struct Cell {
+    /// The student's lot, as this run takes it.
+    lot: i32,
     student_group: u16,
     workshop_group: u16,
     /// The two marks, if the book has them.
@@ -479,6 +751,7 @@ impl<'a> Sloppy<'a> {
         let cell = |s: usize, w: usize| {
             let (student_group, workshop_group) = pairs.get(s as u16 + 1, w as u16 + 1)?;
             Some(Cell {
+                lot: slip.lot(s, case.students[s].lot),
                 student_group,
                 workshop_group,
                 ..Cell::default()
@@ -692,13 +965,11 @@ impl<'a> Sloppy<'a> {
         cell.open = false;
     }
 
+    /// The last of the lowest.
     fn lowest(&self, w: usize) -> Option<usize> {
-        let across = self.has(Slip::MarksAcrossGroups);
-        self.holders[w].iter().copied().max_by_key(|&s| {
-            let cell = self.cells[s][w].as_ref().expect("they have a pair");
-            let group = if across { 0 } else { cell.workshop_group };
-            (group, -cell.marks.map_or(0, |marks| marks.1))
-        })
+        let cell = |s: usize| self.cells[s][w].as_ref().expect("they have a pair");
+        let holders = self.holders[w].iter().copied();
+        holders.max_by(|&one, &other| self.slip.compare(cell(one), cell(other)))
     }
 
     fn delete_below(&mut self, w: usize, lowest: usize) {
@@ -714,8 +985,9 @@ impl<'a> Sloppy<'a> {
     }
 
     fn below(&self, cell: &Cell, lowest: &Cell) -> bool {
+        let equal_mark = cell.marks.map(|marks| marks.1) == lowest.marks.map(|marks| marks.1);
         let lower_mark = match (cell.marks, lowest.marks) {
-            (Some(mine), Some(its)) => mine.1 < its.1,
+            (Some(mine), Some(its)) => mine.1 < its.1 || equal_mark && cell.lot > lowest.lot,
             _ => false,
         };
         let by_mark = cell.visited && lower_mark;
@@ -726,7 +998,9 @@ impl<'a> Sloppy<'a> {
             Slip::MarksAcrossGroups if cell.visited => by_mark,
             Slip::DeleteByUnvisitedMarks => by_group || same_group && lower_mark,
             Slip::DeleteWholeGroup => by_group || same_group && (by_mark || !cell.visited),
-            _ => by_group || same_group && by_mark,
+            Slip::LotOfUnvisited => by_group || same_group && (by_mark || equal_mark && lower_mark),
+            _ if cell.visited => self.slip.compare(cell, lowest) == Ordering::Greater,
+            _ => by_group,
         }
     }
 }

@@ -70,7 +70,7 @@ impl Kinds {
 pub struct Ties {
     /// The other mark of the refused record is -1000.
     own: usize,
-    /// Somebody in the refused record gave a -1000 earlier in the same group.
+    /// The student gave a -1000 earlier in the same group.
     earlier: usize,
 }
 
@@ -79,17 +79,13 @@ impl Ties {
         let pairs = PairTable::new(case);
         let groups = |record: &Record| pairs.get(record.student, record.workshop);
         let refused = book[place];
-        let (student_group, workshop_group) = groups(&refused).expect("cause 8 comes first");
+        let (student_group, _) = groups(&refused).expect("cause 8 comes first");
         let beside = |record: &Record| {
-            let by_student = record.student_mark == NEVER
+            record.student_mark == NEVER
                 && record.student == refused.student
-                && groups(record).is_some_and(|(group, _)| group == student_group);
-            let by_workshop = record.workshop_mark == NEVER
-                && record.workshop == refused.workshop
-                && groups(record).is_some_and(|(_, group)| group == workshop_group);
-            by_student || by_workshop
+                && groups(record).is_some_and(|(group, _)| group == student_group)
         };
-        self.own += usize::from(beside(&refused));
+        self.own += usize::from(refused.workshop_mark == NEVER);
         self.earlier += usize::from(book[..place].iter().any(beside));
     }
 

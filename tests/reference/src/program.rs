@@ -107,7 +107,10 @@ fn expected_text(input: &Input) -> String {
 /// Runs all program tests; `seed` chooses the random ones.
 pub fn run(tally: &mut Tally, program: &Path, seed: u64, random_cases: usize) {
     let bench = Bench::new(program).expect("the program can be copied to a temporary folder");
-    for proved in proved::table().iter().chain(&proved::of_never()) {
+    let mut rows = proved::table();
+    rows.extend(proved::of_never());
+    rows.extend(proved::of_lots());
+    for proved in rows {
         bench.expect_answer(tally, proved.name, &proved.input);
     }
     stored_runs(tally, &bench);
@@ -141,14 +144,47 @@ fn stored_runs(tally: &mut Tally, bench: &Bench) {
     let as_stated = same(CASE, &example.case) && same(BOOK, &example.book);
     tally.check(as_stated, || "the stored K is not the example".to_string());
 
-    let runs = fs::read_dir(top.join("tests/runs")).expect("stored runs");
+    for folder in run_folders(tally) {
+        stored(
+            tally,
+            bench,
+            &name_of(&folder),
+            &folder,
+            &folder.join("stdout"),
+        );
+    }
+}
+
+/// The folders of `tests/runs`.
+fn run_folders(tally: &mut Tally) -> Vec<PathBuf> {
+    let runs = fs::read_dir(Path::new(TOP).join("tests/runs")).expect("stored runs");
     let mut folders: Vec<PathBuf> = runs.flatten().map(|entry| entry.path()).collect();
     folders.sort();
-    tally.check(folders.len() >= 5, || "stored runs are gone".to_string());
-    for folder in folders {
-        let last = folder.file_name().unwrap_or_default();
-        let name = format!("stored run {}", last.display());
-        stored(tally, bench, &name, &folder, &folder.join("stdout"));
+    tally.check(folders.len() >= 10, || "stored runs are gone".to_string());
+    folders
+}
+
+fn name_of(folder: &Path) -> String {
+    let last = folder.file_name().unwrap_or_default();
+    format!("stored run {}", last.display())
+}
+
+/// The runs in `tests/runs` are as the reference has them; no program is needed.
+pub fn stored_as_reference(tally: &mut Tally) {
+    for folder in run_folders(tally) {
+        let read = |name: &str| fs::read(folder.join(name));
+        let expected = match (read(CASE), read(BOOK)) {
+            (Ok(case), Ok(book)) => expected_text(&Input {
+                case,
+                book,
+                lent: Lengths::ample(),
+            }),
+            _ => UNREAD.to_string(),
+        };
+        let printed = fs::read_to_string(folder.join("stdout")).unwrap_or_default();
+        tally.check(printed == expected, || {
+            format!("{}: {printed:?}, not {expected:?}", name_of(&folder))
+        });
     }
 }
 

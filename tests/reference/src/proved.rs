@@ -1,5 +1,5 @@
-//! The table of proved cases, with the answers the specification states, and rows for never, with
-//! answers worked out by hand.
+//! The table of proved cases, with the answers the specification states, and rows for never and for
+//! lots, with answers worked out by hand.
 
 use crate::model::*;
 
@@ -42,7 +42,8 @@ impl Expected {
 
 /// Example K: its case and its book.
 pub fn example() -> (Case, Vec<Record>) {
-    let students = [(1, 2), (2, 2), (2, 2)].map(|(stage, line)| Student { stage, line });
+    let students = [(1, 2, 1), (2, 2, 2), (2, 2, 3)];
+    let students = students.map(|(stage, line, lot)| Student { stage, line, lot });
     let workshops = [(1, 3), (1, 3)].map(|(quota, line)| Workshop { quota, line });
     let pairs = [
         (1, 1, 1, 1),
@@ -119,6 +120,17 @@ fn changed(
     }
 }
 
+/// The example after a change of its bytes or buffers.
+fn changed_input(
+    name: &'static str,
+    expected: Expected,
+    change: impl FnOnce(&mut Input),
+) -> Proved {
+    let mut row = changed(name, expected, |_, _| ());
+    change(&mut row.input);
+    row
+}
+
 /// The two pairs of workshop 1 that the example's book leaves out.
 fn add_workshop_one(book: &mut Vec<Record>) {
     for (student, student_mark, workshop_mark) in [(2, 3, 2), (3, 6, 5)] {
@@ -181,7 +193,7 @@ pub fn table() -> Vec<Proved> {
         changed("mark of 2 for 1 at 1", answer_of_example(), |_, book| {
             book[1].workshop_mark = 1
         }),
-        changed("mark of 2 for 3 at 1", refused(11, 3), |_, book| {
+        changed("mark of 2 for 3 at 1", places([1, 2, 0]), |_, book| {
             book[3].workshop_mark = 1
         }),
         changed(
@@ -262,7 +274,7 @@ fn of_one_side() -> Vec<Proved> {
     ]
 }
 
-/// Several -1000 of one person in one group, and cause 11 beside them.
+/// Several -1000 of one person in one group, and equal marks beside them.
 fn of_several() -> Vec<Proved> {
     let all_in_group_two = |case: &mut Case| case.pairs[1].workshop_group = 2;
     vec![
@@ -293,7 +305,7 @@ fn of_several() -> Vec<Proved> {
         ),
         changed(
             "workshop 2 gives -1000 and twice 6",
-            refused(11, 3),
+            placed([1, 2, 0], &VISITS),
             |case, book| {
                 all_in_group_two(case);
                 book[1].workshop_mark = -1000;
@@ -302,7 +314,7 @@ fn of_several() -> Vec<Proved> {
         ),
         changed(
             "workshop 2 gives 6, -1000 and 6",
-            refused(11, 3),
+            answer_of_example(),
             |case, book| {
                 all_in_group_two(case);
                 book[1].workshop_mark = 6;
@@ -311,7 +323,7 @@ fn of_several() -> Vec<Proved> {
         ),
         changed(
             "student 2 gives -1000, then workshop 2 an equal mark",
-            refused(11, 3),
+            answer_of_example(),
             |_, book| {
                 book[2].student_mark = -1000;
                 book[3].workshop_mark = 1;
@@ -319,7 +331,7 @@ fn of_several() -> Vec<Proved> {
         ),
         changed(
             "student 3 gives -1000, and workshop 2 an equal mark",
-            refused(11, 3),
+            placed([1, 2, 0], &VISITS),
             |_, book| {
                 book[3].student_mark = -1000;
                 book[3].workshop_mark = 1;
@@ -414,6 +426,371 @@ fn of_ranges() -> Vec<Proved> {
                 add_workshop_one(book);
                 book[4].workshop_mark = -1000;
                 book[5].workshop_mark = -1000;
+            },
+        ),
+    ]
+}
+
+/// Rows for lots.
+pub fn of_lots() -> Vec<Proved> {
+    let mut rows = of_two_equal_marks();
+    rows.extend(of_other_marks_and_groups());
+    rows.extend(of_chains());
+    rows.extend(of_bad_lots());
+    rows.extend(of_lots_and_other_causes());
+    rows.extend(of_students_equal_marks());
+    rows
+}
+
+fn set_lots(case: &mut Case, lots: [u16; 3]) {
+    for (student, lot) in case.students.iter_mut().zip(lots) {
+        student.lot = lot;
+    }
+}
+
+/// The example with these lots and another change.
+fn with_lots(
+    name: &'static str,
+    lots: [u16; 3],
+    expected: Expected,
+    change: impl FnOnce(&mut Case, &mut Vec<Record>),
+) -> Proved {
+    changed(name, expected, |case, book| {
+        set_lots(case, lots);
+        change(case, book);
+    })
+}
+
+/// Workshop 2 holds student 2, and 3, whom it has not met and keeps undeleted, comes with the same
+/// mark.
+fn of_two_equal_marks() -> Vec<Proved> {
+    let held = || placed([1, 2, 0], &VISITS);
+    let taken = || placed([1, 0, 2], &VISITS);
+    let row =
+        |name, lots, expected| with_lots(name, lots, expected, |_, book| book[3].workshop_mark = 1);
+    vec![
+        row("the lower lot keeps the seat", [1, 2, 3], held()),
+        row("the lower lot takes the seat", [1, 3, 2], taken()),
+        row("lots with gaps, the lower held", [400, 7, 90], held()),
+        row("lots with gaps, the lower comes", [400, 90, 7], taken()),
+        row("the last two lots, 511 held", [1, 511, 512], held()),
+        row("the last two lots, 511 comes", [1, 512, 511], taken()),
+        row("255 held, 256 comes", [1, 255, 256], held()),
+        row("256 held, 255 comes", [1, 256, 255], taken()),
+        row("2 held, 257 comes", [1, 2, 257], held()),
+        row("257 held, 2 comes", [1, 257, 2], taken()),
+        with_lots(
+            "a seat for both",
+            [1, 3, 2],
+            placed([1, 2, 2], &VISITS),
+            |case, book| {
+                case.workshops[1].quota = 2;
+                book[3].workshop_mark = 1;
+            },
+        ),
+    ]
+}
+
+/// Marks before lots, groups before marks, and equal marks at the line, below it, and of -1000.
+fn of_other_marks_and_groups() -> Vec<Proved> {
+    let equal = |book: &mut [Record], mark: i16| {
+        book[2].workshop_mark = mark;
+        book[3].workshop_mark = mark;
+    };
+    vec![
+        with_lots(
+            "the higher mark comes with the higher lot",
+            [1, 2, 3],
+            answer_of_example(),
+            |_, _| (),
+        ),
+        with_lots(
+            "the higher mark is held with the higher lot",
+            [1, 3, 2],
+            placed([1, 2, 0], &VISITS),
+            |_, book| book[2].workshop_mark = 7,
+        ),
+        with_lots(
+            "equal marks, 3 in a worse group with the lower lot",
+            [1, 3, 2],
+            placed([1, 2, 0], &VISITS[..3]),
+            |case, book| {
+                case.pairs[5].workshop_group = 3;
+                equal(book, 1);
+            },
+        ),
+        with_lots(
+            "equal marks, 3 in a better group with the higher lot",
+            [1, 2, 3],
+            answer_of_example(),
+            |case, book| {
+                case.pairs[5].workshop_group = 1;
+                equal(book, 1);
+            },
+        ),
+        with_lots(
+            "equal marks above the line of 2, the lower comes",
+            [1, 3, 2],
+            answer_of_example(),
+            |case, book| {
+                case.workshops[1].line = 2;
+                equal(book, 1);
+            },
+        ),
+        with_lots(
+            "equal marks above the line of 2, the lower held",
+            [1, 2, 3],
+            placed([1, 2, 0], &VISITS),
+            |case, book| {
+                case.workshops[1].line = 2;
+                equal(book, 1);
+            },
+        ),
+        with_lots(
+            "equal marks below the line of 2",
+            [1, 3, 2],
+            placed([1, 0, 0], &VISITS),
+            |case, book| {
+                case.workshops[1].line = 2;
+                equal(book, -1);
+            },
+        ),
+        with_lots(
+            "equal negative marks in another group, the lower comes",
+            [1, 3, 2],
+            answer_of_example(),
+            |_, book| equal(book, -5),
+        ),
+        with_lots(
+            "equal negative marks in another group, the lower held",
+            [1, 2, 3],
+            placed([1, 2, 0], &VISITS),
+            |_, book| equal(book, -5),
+        ),
+        with_lots(
+            "equal marks of 1000, the lower comes",
+            [1, 3, 2],
+            answer_of_example(),
+            |_, book| equal(book, 1000),
+        ),
+        with_lots(
+            "equal marks of -999, the lower comes",
+            [1, 3, 2],
+            answer_of_example(),
+            |_, book| equal(book, -999),
+        ),
+        with_lots(
+            "equal marks of -1000",
+            [1, 3, 2],
+            placed([1, 0, 0], &VISITS),
+            |_, book| equal(book, -1000),
+        ),
+    ]
+}
+
+/// Three equal marks of workshop 2, a better newcomer, and a seat lost while another is held.
+fn of_chains() -> Vec<Proved> {
+    // Student 1 goes to workshop 2 first, where all are in one group; 3 drives 2 out of workshop 1.
+    let three_equal = |case: &mut Case, book: &mut Vec<Record>| {
+        case.pairs[1].workshop_group = 2;
+        book[0].student_mark = 1;
+        book[1..4]
+            .iter_mut()
+            .for_each(|record| record.workshop_mark = 4);
+        add_workshop_one(book);
+    };
+    // Workshop 2 alone, with two seats: 1 and 2 hold them with equal marks, then 3 comes.
+    let two_seats = |case: &mut Case, book: &mut Vec<Record>| {
+        case.workshops[0].quota = 0;
+        case.workshops[1].quota = 2;
+        case.pairs[1].workshop_group = 2;
+        book[2].workshop_mark = 4;
+    };
+    // Student 1 holds workshop 1 and has 2 open, which 2 takes; then 3 drives 1 out of workshop 1.
+    let left_behind = |case: &mut Case, book: &mut Vec<Record>| {
+        case.pairs[1].workshop_group = 2;
+        case.pairs[4].workshop_group = 1;
+        book[1].workshop_mark = 1;
+        add_workshop_one(book);
+    };
+    let of_three = [(1, 1), (1, 2), (2, 1), (2, 2), (3, 1), (3, 2)];
+    let of_two = [(1, 2), (2, 2), (3, 2)];
+    let of_left = [(1, 1), (1, 2), (2, 2), (3, 1)];
+    vec![
+        with_lots(
+            "three equal, 2 is turned away",
+            [1, 2, 3],
+            placed([2, 0, 1], &of_three[..5]),
+            three_equal,
+        ),
+        with_lots(
+            "three equal, 2 is best and 1 moves on",
+            [2, 1, 3],
+            placed([1, 2, 0], &of_three),
+            three_equal,
+        ),
+        with_lots(
+            "three equal, 3 is best, then 2",
+            [3, 2, 1],
+            placed([1, 0, 2], &of_three),
+            three_equal,
+        ),
+        with_lots(
+            "of two equal holders 2 is dropped",
+            [1, 2, 3],
+            placed([2, 0, 2], &of_two),
+            two_seats,
+        ),
+        with_lots(
+            "of two equal holders 1 is dropped",
+            [2, 1, 3],
+            placed([0, 2, 2], &of_two),
+            two_seats,
+        ),
+        with_lots(
+            "the open seat is still there",
+            [1, 2, 3],
+            placed([2, 0, 1], &of_left),
+            left_behind,
+        ),
+        with_lots(
+            "the open seat is closed by a lot",
+            [2, 1, 3],
+            placed([0, 2, 1], &of_left),
+            left_behind,
+        ),
+    ]
+}
+
+/// Lots out of range or used twice.
+fn of_bad_lots() -> Vec<Proved> {
+    let row = |name, lots, expected| with_lots(name, lots, expected, |_, _| ());
+    vec![
+        row("lot 0 of 1", [0, 2, 3], refused(13, 0)),
+        row("lot 0 of 3", [1, 2, 0], refused(13, 2)),
+        row("lot 512", [1, 512, 3], answer_of_example()),
+        row("lot 513", [1, 513, 3], refused(13, 1)),
+        row("lot 768", [1, 2, 768], refused(13, 2)),
+        row("lot 32770", [1, 32770, 3], refused(13, 1)),
+        row("lot 65535", [65535, 2, 3], refused(13, 0)),
+        row("the last lots", [512, 511, 510], answer_of_example()),
+        row("1 and 2 have one lot", [5, 5, 3], refused(13, 1)),
+        row("2 and 3 have one lot", [1, 5, 5], refused(13, 2)),
+        row("1 and 3 have one lot", [5, 2, 5], refused(13, 2)),
+        row("all have one lot", [5, 5, 5], refused(13, 1)),
+        row("all have lot 512", [512, 512, 512], refused(13, 1)),
+        row("1 and 257", [1, 257, 3], answer_of_example()),
+        row(
+            "a lot used again, then one out of range",
+            [5, 5, 600],
+            refused(13, 1),
+        ),
+        row(
+            "a lot out of range, then one used again",
+            [5, 600, 5],
+            refused(13, 1),
+        ),
+        row("no lots", [0, 0, 0], refused(13, 0)),
+    ]
+}
+
+/// Cause 13 comes after 1 to 5 and before 6 to 11; what 2 says of bytes 8 and 9.
+fn of_lots_and_other_causes() -> Vec<Proved> {
+    const LOT_OF_TWO: usize = 16 + 8;
+    let bad = |input: &mut Input| input.case[LOT_OF_TWO] = 1;
+    let workshop_two = 4 * 16;
+    vec![
+        changed_input("13 and 1", refused(1, 0), |input| {
+            bad(input);
+            input.case.push(0);
+        }),
+        changed_input("13 and 2", refused(2, 4), |input| {
+            bad(input);
+            input.case[workshop_two + 15] = 1;
+        }),
+        changed_input("13 and 3", refused(3, 4), |input| {
+            bad(input);
+            input.case[workshop_two + 2] = 3;
+        }),
+        changed_input("13 and 4", refused(4, 0), |input| {
+            bad(input);
+            input.case.truncate(3 * 16);
+        }),
+        changed_input("13 and 5 in a later record", refused(5, 10), |input| {
+            bad(input);
+            input.case[10 * 16 + 6] = 66;
+        }),
+        changed_input("13 and 5 in the same record", refused(5, 1), |input| {
+            bad(input);
+            input.case[16 + 4] = 0;
+        }),
+        changed_input("13 and 6", refused(13, 1), |input| {
+            bad(input);
+            input.lent.places = 2;
+        }),
+        changed_input("13 and 7", refused(13, 1), |input| {
+            bad(input);
+            input.book.push(0);
+        }),
+        changed_input("13 and 8", refused(13, 1), |input| {
+            bad(input);
+            input.book[0] = 9;
+        }),
+        changed_input("13 and 9", refused(13, 1), |input| {
+            bad(input);
+            input.book[4] = 0;
+        }),
+        changed_input("13 and 10", refused(13, 1), |input| {
+            bad(input);
+            let first = input.book[..8].to_vec();
+            input.book.extend(first);
+        }),
+        changed_input("13 and 11", refused(13, 1), |input| {
+            bad(input);
+            input.book[8 + 4] = 5;
+        }),
+        changed_input("byte 8 of a workshop", refused(2, 4), |input| {
+            input.case[workshop_two + 8] = 2
+        }),
+        changed_input("byte 9 of a workshop", refused(2, 3), |input| {
+            input.case[3 * 16 + 9] = 1
+        }),
+        changed_input("byte 10 of a student", refused(2, 2), |input| {
+            input.case[2 * 16 + 10] = 1
+        }),
+        changed_input("byte 9 of a student", answer_of_example(), |input| {
+            input.case[2 * 16 + 9] = 1
+        }),
+    ]
+}
+
+/// A student's equal marks have no lots.
+fn of_students_equal_marks() -> Vec<Proved> {
+    vec![
+        changed("student 1 gives 5 twice", refused(11, 1), |_, book| {
+            book[1].student_mark = 5
+        }),
+        with_lots(
+            "student 1 gives 5 twice, other lots",
+            [3, 2, 1],
+            refused(11, 1),
+            |_, book| book[1].student_mark = 5,
+        ),
+        changed(
+            "workshop 2 gives 1 twice, later student 1 gives 5 twice",
+            refused(11, 3),
+            |_, book| {
+                book[3].workshop_mark = 1;
+                book[1].student_mark = 5;
+                book.rotate_left(2);
+            },
+        ),
+        changed(
+            "student 3 gives 4 in two groups",
+            answer_of_example(),
+            |_, book| {
+                add_workshop_one(book);
+                book[5].student_mark = 4;
             },
         ),
     ]

@@ -1,13 +1,13 @@
 -- `case_tests::check_case` meets its contract. Where the one pass comes to the end the case is clean and has its table; where it stops the case is not clean.
-use Prim.Native.Nat.{_-_, _%_, _<_}
-use mathlib.Core.Path.{_≡_, _∙_, sym, ap}
+use Prim.Native.Nat.{_%_, _<_}
+use mathlib.Core.Path.{_≡_, _∙_, sym}
 use native.Mathlib.Omega.{arith}
 use lib.ListN.{length}
 use Rattle.base.proofs.Tests.{never}
 use Rattle.format.specs.Layout.{rowCount}
 use Rattle.case_tests.specs.Order.{Sound}
 use Rattle.case_tests.specs.Checked.{CleanCase, caseRefusal}
-use Rattle.case_tests.proofs.Cases.{whole-none, whole-some, case-1, case-clean, refused-as, refused-none, clean-as, all-pairs, counts-within, none-clean}
+use Rattle.case_tests.proofs.Cases.{whole-some, case-1, refused-as, refused-none, counts-within, none-clean}
 use Rattle.case_tests.proofs.Tabling.{clean-passes, sound-clean, clean-stands, heads-few, heads-tabled}
 use borrow.Author.Needs.{needs}
 use Rattle.case_tests.proofs.check_case.Statement.{statement}
@@ -86,31 +86,23 @@ returns-3 c =
 note-starts-requires : tie.Need-note-starts-requires
 note-starts-requires c κs = (clean-stands _ _ _ (tidy (c .before)), c .before .before .before .before .note-pairs .ensures .noted .sized)
 
-sub-t7 : tie.Need-sub-t7
-sub-t7 c = search needs
-
-sub-t8 : tie.Need-sub-t8
-sub-t8 c =
+counted-requires : tie.Need-counted-requires
+counted-requires c κs =
     let e = c .before .before .before .before in
-    omega (arith, all-pairs _ _ _ (all e .counted), e .before .before .before .before .before .before .before .before .row-count .ensures)
+    (e .before .before .before .before .before .before .before .before .before .if1 .left, tidy e)
 
 same-length-2 : tie.Need-same-length-2
 same-length-2 c = search needs
 
 returns-4 : tie.Need-returns-4
 returns-4 c =
-    let e = c .before .before .before .before in
-    let case = entry e .args .case .now in
-    let o = e .before .before .before .before .before .before .before .heads in
-    let t = tidy e in
-    let none-found = case-clean case (whole-none (length case % 16) (e .before .before .before .before .before .before .before .before .before .if1 .left))
-    (t .form) (t .order) (t .counts) (t .range) in (
-      sym (clean-as case (caseRefusal case) _ _ _ none-found (t .students) (t .workshops)
-          (ap (λ k. k - o .result .students - o .result .workshops) (e .before .before .before .before .before .before .before .before .row-count .ensures)
-          ∙ all-pairs case _ _ (all e .counted) .1)),
+    let e = c .before .before .before .before .before in
+    let o = e .before .before .before .before .before .before .before .heads in (
+      c .counted .ensures,
       λ n.
-          heads-tabled case (o .result) (o .ensures) t _ _ (rw (ended e) at (e .before .before .before .note-pairs .ensures .noted))
-          (c .before .before .note-starts .ensures),
+          heads-tabled (entry e .args .case .now) (o .result) (o .ensures) (tidy e) _ _
+          (rw (ended e) at (e .before .before .before .note-pairs .ensures .noted))
+          (c .before .before .before .note-starts .ensures),
     )
 
 pub check-case-spec : {M : Type 1} → statement M
@@ -129,7 +121,6 @@ check-case-spec =
     same-length
     returns-3
     note-starts-requires
-    sub-t7
-    sub-t8
+    counted-requires
     same-length-2
     returns-4)

@@ -1,6 +1,6 @@
 -- `case_tests::check_each` meets its contract. Each return by what the causes before it found.
-use Prim.Native.Nat.{_-_, _%_}
-use mathlib.Core.Path.{_≡_, _∙_, sym, ap}
+use Prim.Native.Nat.{_%_}
+use mathlib.Core.Path.{_≡_, _∙_, sym}
 use mathlib.Core.Bool.{false}
 use mathlib.Core.Option.{none}
 use native.Mathlib.Omega.{arith}
@@ -11,8 +11,7 @@ use Rattle.format.specs.Layout.{rows, rowCount}
 use Rattle.format.specs.Refusals.{badForm, badOrder, badRange, badCounts}
 use Rattle.case_tests.specs.Order.{Counted}
 use Rattle.case_tests.specs.Checked.{caseRefusal}
-use Rattle.case_tests.proofs.Cases.{whole-none, case-2, case-3, case-4, case-5, case-clean, refused-as, clean-as, all-students, all-workshops}
-use Rattle.case_tests.proofs.Cases.{counts-same, all-pairs}
+use Rattle.case_tests.proofs.Cases.{whole-none, case-2, case-3, case-4, case-5, refused-as, all-students, all-workshops, counts-same}
 use borrow.Author.Needs.{needs}
 use Rattle.case_tests.proofs.check_each.Statement.{statement}
 use Rattle.case_tests.proofs.check_each.Tie as tie
@@ -110,30 +109,25 @@ returns-4 c =
     (form (c .before .before .before .before .before .before .before)) (order (c .before .before .before .before .before))
     (counts (c .before .before .before)) (c .before .before .first-bad2 .result) found))
 
-sub-t9 : tie.Need-sub-t9
-sub-t9 c = search needs
-
-sub-t12 : tie.Need-sub-t12
-sub-t12 c = omega (
-  arith,
-  all-pairs (c .before .before .before .before .before .before .before .before .before .before .args .case .now) _ _
-      (counted (c .before .before .before .before)),
-  c .before .before .before .before .before .before .before .before .row-count .ensures,
-)
+counted-requires : tie.Need-counted-requires
+counted-requires c κs =
+    let start = c .before .before .before .before .before .before .before .before .before .before in
+    let case = start .args .case .now in
+    let all = counted (c .before .before .before .before) in (
+      start .pre,
+      record {
+        form = form (c .before .before .before .before .before .before);
+        order = order (c .before .before .before .before);
+        counts = counts (c .before .before);
+        range = none-by (badRange (rows case)) (rowCount case) (c .before .first-bad2 .result) (c .before .first-bad2 .ensures)
+            (omega (arith, c .before .before .before .before .before .before .before .before .row-count .ensures));
+        students = all-students case _ _ all;
+        workshops = all-workshops case _ _ all;
+      },
+    )
 
 returns-5 : tie.Need-returns-5
-returns-5 c =
-    let case = c .before .before .before .before .before .before .before .before .before .before .args .case .now in
-    let o = c .before .before .before .before .before .first-out-of-order .result in
-    let none-found = none-by (badRange (rows case)) (rowCount case) (c .before .first-bad2 .result) (c .before .first-bad2 .ensures)
-    (omega (arith, c .before .before .before .before .before .before .before .before .row-count .ensures)) in
-    let all = counted (c .before .before .before .before) in
-    sym (clean-as case (caseRefusal case) _ _ _
-    (case-clean case (whole-none (length case % 16) (c .before .before .before .before .before .before .before .before .before .before .pre))
-    (form (c .before .before .before .before .before .before)) (order (c .before .before .before .before))
-    (counts (c .before .before)) none-found) (all-students case _ _ all) (all-workshops case _ _ all)
-    (ap (λ k. k - o .students - o .workshops) (c .before .before .before .before .before .before .before .before .row-count .ensures)
-    ∙ all-pairs case _ _ all .1))
+returns-5 c = c .counted .ensures
 
 pub check-each-spec : {M : Type 1} → statement M
 check-each-spec =
@@ -152,6 +146,5 @@ check-each-spec =
     first-bad-requires-2
     refused-requires-4
     returns-4
-    sub-t9
-    sub-t12
+    counted-requires
     returns-5)

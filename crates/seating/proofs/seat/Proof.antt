@@ -1,16 +1,13 @@
 -- `seating::seat` meets its contract: the last holder stays, or x takes her place in front of her.
-use Prim.Native.Nat.{_-_}
+use Prim.Native.Nat.{ℕ}
 use mathlib.Core.Path.{_≡_}
-use mathlib.Core.Bool.{not, _&&_}
 use native.Mathlib.Omega.{arith}
 use mir.Syntax.{w16}
-use mir.Val.{toZ, ofZ}
+use mir.Val.{SFits, toZ, ofZ}
 use mir.ValLaws.{toZ-ofZ}
-use lib.Dec.{ltb}
-use lib.ListN.{length, getD}
+use lib.IntN.{ℤ}
 use Rattle.base.specs.Words.{biased}
 use Rattle.format.specs.Engine.{marketIn, resultsIn}
-use Rattle.model.specs.Model.{before}
 use Rattle.seating.proofs.Laws.{stays-true, stays-false, push-empty, push-none, two-parts}
 use borrow.Author.Needs.{needs}
 use Rattle.seating.proofs.seat.Statement.{statement}
@@ -36,25 +33,16 @@ mul-out c = search needs
 slice-read-out : tie.Need-slice-read-out
 slice-read-out c = search needs
 
+-- a score as it is passed on
+passed-on : (x : ℤ) (v : ℕ) → SFits w16 x → biased x ≡ v → biased (toZ w16 (ofZ w16 x)) ≡ v
+passed-on x v f e = rw (toZ-ofZ w16 x f) e
+
 stays-requires : tie.Need-stays-requires
 stays-requires c κs =
     let start = c .before .before .before .before .before .before .before .before .before in
-    (start .pre .0, start .pre .1 .1 .0 _ (omega arith))
-
--- how x stands, as it is passed on
-own-score : (c : tie.After-stays) → (let a = c .before .before .before .before .before .before .before .before .before .before .args in
-    biased (toZ w16 (ofZ w16 (c .before .before .before .standing-of .result .score))) ≡ resultsIn (a .book .now) .workshopScore (a .w) (a .x))
-own-score c =
-    let x = c .before .before .before .standing-of in
-    rw (toZ-ofZ w16 (x .result .score) (record { sfits = c .before .before .struct-told .given .1 .0 .1 })) (x .ensures .1)
-
--- what `stays` has answered of the last holder
-answer : (c : tie.After-stays) → (let a = c .before .before .before .before .before .before .before .before .before .before .args in
-    let y = getD (a .part .now) (length (a .part .now) - 1) 0 in
-    c .stays .result ≡ (ltb 0 y && not (before (marketIn (a .case .now)) (resultsIn (a .book .now)) (a .w) (a .x) y)))
-answer c =
-    let a = c .before .before .before .before .before .before .before .before .before .before .args in
-    c .stays .ensures (a .x) (c .before .before .before .standing-of .ensures .0) (own-score c)
+    let x = c .before .before .standing-of in
+    let score = passed-on (x .result .score) _ (record { sfits = c .before .struct-told .given .1 .0 .1 }) (x .ensures .1) in
+    (start .pre .0, (start .pre .1 .1 .0 _ (omega arith), (start .pre .1 .0, (x .ensures .0, score))))
 
 returns-2 : tie.Need-returns-2
 returns-2 c =
@@ -62,7 +50,7 @@ returns-2 c =
     let a = start .args in
     let M = marketIn (a .case .now) in
     let B = resultsIn (a .book .now) in
-    let y = stays-true M B (a .w) (a .x) _ _ (answer (c .before)) (c .if2 .taken) in
+    let y = stays-true M B (a .w) (a .x) _ _ (c .before .stays .ensures) (c .if2 .taken) in
     let r = two-parts _ _ _ (push-none M B (a .w) (a .part .now) (start .pre .1 .1 .1) (a .x) (y .0) (y .1) (omega arith)) in
     (r .0, r .1)
 
@@ -71,13 +59,18 @@ settle-requires c κs =
     let start = c .before .before .before .before .before .before .before .before .before .before .before .before in
     let a = start .args in
     let M = marketIn (a .case .now) in
-    let B = resultsIn (a .book .now) in (
+    let B = resultsIn (a .book .now) in
+    let x = c .before .before .before .before .before .standing-of in
+    let score = passed-on (x .result .score) _ (record { sfits = c .before .before .before .before .struct-told .given .1 .0 .1 }) (x .ensures .1) in (
       start .pre .0,
       (
-        (c .before .before .before .before .before .standing-of .ensures .0, own-score (c .before .before)),
+        start .pre .1 .0,
         (
-          start .pre .1 .1 .0,
-          (start .pre .1 .1 .1, (omega arith, stays-false M B (a .w) (a .x) _ _ (answer (c .before .before)) (c .before .if2 .left))),
+          (x .ensures .0, score),
+          (
+            start .pre .1 .1 .0,
+            (start .pre .1 .1 .1, (omega arith, stays-false M B (a .w) (a .x) _ _ (c .before .before .stays .ensures) (c .before .if2 .left))),
+          ),
         ),
       ),
     )

@@ -22,13 +22,13 @@ abbrev μ-loop : tie.MeasureT-loop
 μ-loop part₀ case book index table students workshops w x t a i₀ part i = i
 
 sub-i : tie.Need-sub-i Inv-loop μ-loop
-sub-i c = c .before .before .before .before .before .pre .1 .1 .1 .1 .0
+sub-i c = c .before .before .before .before .before .pre .1 .1 .1 .1 .1 .0
 
 loop-holds : tie.Need-loop-holds Inv-loop μ-loop
 loop-holds c =
     let start = c .before .before .before .before .before in
     let a = start .args in
-    let h = start .pre .1 .1 .1 in
+    let h = start .pre .1 .1 .1 .1 in
     settle-start (marketIn (a .case .now)) (resultsIn (a .book .now)) (a .w) (a .part .now) (h .0) (a .x) (h .1 .0) (h .1 .1)
 
 sub-y : tie.Need-sub-y Inv-loop μ-loop
@@ -48,7 +48,7 @@ stays-requires c κs =
     let M = marketIn (a .case .now) in
     let B = resultsIn (a .book .now) in
     let f = known-there M B (a .w) (a .x) (a .part .now) (here .part) (here .i) (here .inv) (omega arith) (λ (y : ℕ). Booked M B y (a .w)) in
-    (start .pre .0, f (start .pre .1 .1 .0))
+    (start .pre .0, (f (start .pre .1 .1 .1 .0), (start .pre .1 .0, (start .pre .1 .1 .0 .0, rw (toZ-ofZ w16 (a .a) (start .fits .a)) (start .pre .1 .1 .0 .1)))))
 
 mul-part : tie.Need-mul-part Inv-loop μ-loop
 mul-part c = omega arith
@@ -63,10 +63,7 @@ same-length c = simp length-set (c .before .before .before .before .loop .inv .l
 answer : (c : tie.After-stays Inv-loop μ-loop) → (let a = c .before .before .before .before .before .before .before .before .before .args in
     let y = getD (c .before .before .before .loop .part) (c .before .before .before .loop .i - 1) 0 in
     c .stays .result ≡ (ltb 0 y && not (before (marketIn (a .case .now)) (resultsIn (a .book .now)) (a .w) (a .x) y)))
-answer c =
-    let start = c .before .before .before .before .before .before .before .before .before in
-    let a = start .args in
-    c .stays .ensures (a .x) (start .pre .1 .0 .0) (rw (toZ-ofZ w16 (a .a) (start .fits .a)) (start .pre .1 .0 .1))
+answer c = c .stays .ensures
 
 returns : tie.Need-returns Inv-loop μ-loop
 returns c =
@@ -76,7 +73,7 @@ returns c =
     let M = marketIn (a .case .now) in
     let B = resultsIn (a .book .now) in
     let y = stays-true M B (a .w) (a .x) _ _ (answer (c .before)) (c .if1 .taken) in
-    settle-here M B (a .w) (a .part .now) (start .pre .1 .1 .1 .0) (a .x) (here .part) (here .i) (here .inv) (omega arith) (y .0) (y .1)
+    settle-here M B (a .w) (a .part .now) (start .pre .1 .1 .1 .1 .0) (a .x) (here .part) (here .i) (here .inv) (omega arith) (y .0) (y .1)
 
 mul-part-2 : tie.Need-mul-part-2 Inv-loop μ-loop
 mul-part-2 c = omega arith
@@ -97,7 +94,7 @@ loop-again c =
     let a = start .args in
     let M = marketIn (a .case .now) in
     let B = resultsIn (a .book .now) in
-    settle-on M B (a .w) (a .part .now) (start .pre .1 .1 .1 .0) (a .x) (here .part) (here .i) (here .inv) (omega arith)
+    settle-on M B (a .w) (a .part .now) (start .pre .1 .1 .1 .1 .0) (a .x) (here .part) (here .i) (here .inv) (omega arith)
     (stays-false M B (a .w) (a .x) _ _ (answer (c .before)) (c .if1 .left))
 
 slice-write-part-3 : tie.Need-slice-write-part-3 Inv-loop μ-loop
@@ -111,7 +108,7 @@ returns-2 c =
     let here = c .before .loop in
     let start = c .before .before .before .before .before .before .before in
     let a = start .args in
-    settle-first (marketIn (a .case .now)) (resultsIn (a .book .now)) (a .w) (a .part .now) (start .pre .1 .1 .1 .0) (a .x) (here .part) (here .i) (here .inv)
+    settle-first (marketIn (a .case .now)) (resultsIn (a .book .now)) (a .w) (a .part .now) (start .pre .1 .1 .1 .1 .0) (a .x) (here .part) (here .i) (here .inv)
     (omega arith)
 
 pub settle-spec : {M : Type 1} → statement M

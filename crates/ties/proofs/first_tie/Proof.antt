@@ -1,79 +1,88 @@
--- `ties::first_tie` meets its contract. One side after the other.
-use Prim.Native.Nat.{_+_}
-use mathlib.Core.Path.{_≡_, ap}
-use mathlib.Core.Bool.{true, false}
+-- `ties::first_tie` meets its contract. The invariant: `low` is lowered by the first s students.
+use Prim.Native.Nat.{_+_, _-_, _≤_}
+use mathlib.Core.Path.{_≡_}
 use native.Mathlib.Omega.{arith}
-use Rattle.format.specs.Layout.{entryCount}
+use Rattle.format.specs.Layout.{entryAt, entryCount}
 use Rattle.format.specs.Engine.{marketIn}
-use Rattle.ties.specs.Ties.{LoweredOn}
 use Rattle.case_tests.proofs.Cases.{few}
-use Rattle.ties.proofs.Sides.{both-sides}
-use borrow.Author.Needs.{needs}
+use Rattle.ties.specs.Ties.{Lowered}
+use Rattle.ties.proofs.Gathering.{students-start, students-on, students-all}
 use Rattle.ties.proofs.first_tie.Statement.{statement}
 use Rattle.ties.proofs.first_tie.Tie as tie
 
-entry-count-requires : tie.Need-entry-count-requires
-entry-count-requires c κs = search needs
+abbrev Inv-loop : tie.InvT-loop
+Inv-loop case book index table students workshops from low₀ s₀ low s =
+    (s ≤ students) × Lowered case book (λ i j. entryAt book i .student ≤ s) (entryCount book) low
 
-add-from : tie.Need-add-from
-add-from c =
-    let case = c .before .before .before .before .before .args .case .now in
-    omega (
-      arith,
-      few case (marketIn case .students) (marketIn case .workshops)
-          (c .before .before .before .before .before .pre .0 .sound),
-      c .before .before .before .before .before .pre .1,
+abbrev μ-loop : tie.MeasureT-loop
+μ-loop case book index table students workshops from low₀ s₀ low s = students - s
+
+-- how many there are
+counted : (start : tie.Start Inv-loop μ-loop) → (start .args .students ≤ 512) × (start .args .workshops ≤ 64)
+counted start =
+    let case = start .args .case .now in
+    let f = few case (marketIn case .students) (marketIn case .workshops) (start .pre .0 .sound) in
+    (omega (arith, start .pre .1 .1, f), omega (arith, start .pre .1 .1, f))
+
+add-from : tie.Need-add-from Inv-loop μ-loop
+add-from c = omega (arith, counted (c .before .before .before .before))
+
+entry-count-requires : tie.Need-entry-count-requires Inv-loop μ-loop
+entry-count-requires c κs = tt
+
+loop-holds : tie.Need-loop-holds Inv-loop μ-loop
+loop-holds c =
+    let start = c .before .before .before .before .before in
+    let a = start .args in
+    let e : c .entry-count .result ≡ entryCount (a .book .now) = c .entry-count .ensures in (
+      omega arith,
+      rw e (students-start (a .case .now) (a .book .now) (a .index .now) (a .students + a .workshops) (start .pre .0) (entryCount (a .book .now))),
     )
 
-add-student-ties : tie.Need-add-student-ties
-add-student-ties c = search needs
+add-tie-of : tie.Need-add-tie-of Inv-loop μ-loop
+add-tie-of c = omega arith
 
-student-ties-requires : tie.Need-student-ties-requires
-student-ties-requires c κs = search needs
+tie-of-requires : tie.Need-tie-of-requires Inv-loop μ-loop
+tie-of-requires c κs =
+    let start = c .before .before .before .before .before .before .before in
+    (start .pre .0, (start .pre .1 .0, (omega arith, omega (arith, counted start))))
 
-workshop-ties-requires : tie.Need-workshop-ties-requires
-workshop-ties-requires c κs = search needs
+add-s : tie.Need-add-s Inv-loop μ-loop
+add-s c = omega arith
 
-abbrev entry : tie.After-workshop-ties → tie.Start
-entry c = c .before .before .before .before .before .before .before
+loop-less : tie.Need-loop-less Inv-loop μ-loop
+loop-less c = omega arith
 
--- the students' side, and then the workshops'
-students : (c : tie.After-workshop-ties)
-    → LoweredOn true (entry c .args .case .now) (entry c .args .book .now) (marketIn (entry c .args .case .now) .students)
-    (entryCount (entry c .args .book .now) + 1) (c .before .student-ties .result)
-students c =
-    let count : c .before .before .entry-count .result + 1 ≡ entryCount (entry c .args .book .now) + 1 =
-    ap (λ n. n + 1) (c .before .before .entry-count .ensures) in
-    rw (entry c .pre .1 .1 .0, count) at (c .before .student-ties .ensures)
-
-workshops : (c : tie.After-workshop-ties)
-    → LoweredOn false (entry c .args .case .now) (entry c .args .book .now) (marketIn (entry c .args .case .now) .workshops)
-    (c .before .student-ties .result) (c .workshop-ties .result)
-workshops c = rw (entry c .pre .1 .1 .1) at (c .workshop-ties .ensures)
-
-sub-result : tie.Need-sub-result
-sub-result c =
-    let a = entry c .args in
-    omega (
-      arith,
-      both-sides (a .case .now) (a .book .now) (a .index .now) (a .students + a .workshops) (entry c .pre .0) (c .before .student-ties .result)
-          (c .workshop-ties .result) (students c) (workshops c) .0,
+loop-again : tie.Need-loop-again Inv-loop μ-loop
+loop-again c =
+    let start = c .before .before .before .before .before .before .before .before in
+    let a = start .args in
+    let here = c .before .before .loop in (
+      omega arith,
+      students-on (a .case .now) (a .book .now) (a .index .now) (a .students + a .workshops) (start .pre .0) (here .s) (entryCount (a .book .now)) (here .low)
+          (c .tie-of .result) (here .inv .1) (c .tie-of .ensures),
     )
 
-returns : tie.Need-returns
+returns : tie.Need-returns Inv-loop μ-loop
 returns c =
-    let a = entry c .args in
-    both-sides (a .case .now) (a .book .now) (a .index .now) (a .students + a .workshops) (entry c .pre .0) (c .before .student-ties .result)
-    (c .workshop-ties .result) (students c) (workshops c) .1
+    let start = c .before .before .before .before .before .before .before in
+    let a = start .args in
+    let here = c .before .loop in
+    let e : here .s ≡ marketIn (a .case .now) .students = omega (arith, start .pre .1 .1 .0) in
+    students-all (a .case .now) (a .book .now) (a .index .now) (a .students + a .workshops) (start .pre .0) (here .low) (rw e at (here .inv .1))
 
 pub first-tie-spec : {M : Type 1} → statement M
 first-tie-spec =
     tie.close
     (tie.spec
-    entry-count-requires
+    Inv-loop
+    μ-loop
     add-from
-    add-student-ties
-    student-ties-requires
-    workshop-ties-requires
-    sub-result
+    entry-count-requires
+    loop-holds
+    add-tie-of
+    tie-of-requires
+    add-s
+    loop-less
+    loop-again
     returns)

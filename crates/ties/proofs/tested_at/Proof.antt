@@ -22,7 +22,7 @@ returns : tie.Need-returns
 returns c =
     let a = c .before .before .before .before .args in
     let z : getD (a .index .now) (a .p - a .from) 0 ≡ 0 = omega (arith, c .if1 .taken) in
-    sym (ap (tested (a .student) (a .book .now)) z ∙ tested-none (a .student) (a .book .now))
+    sym (ap (tested (a .book .now)) z ∙ tested-none (a .book .now))
 
 cast-never-at : tie.Need-cast-never-at
 cast-never-at c = search needs
@@ -36,12 +36,12 @@ never-at-requires c κs = search needs
 returns-2 : tie.Need-returns-2
 returns-2 c =
     let a = c .before .before .before .before .before .before .args in
-    sym (tested-over (a .student) (a .book .now) _ (sym (c .before .never-at .ensures) ∙ c .if2 .taken))
+    sym (tested-over (a .book .now) _ (sym (c .before .never-at .ensures) ∙ c .if2 .taken))
 
 returns-3 : tie.Need-returns-3
 returns-3 c =
     let a = c .before .before .before .before .before .before .args in
-    sym (tested-own (a .student) (a .book .now) _ (sym (c .before .never-at .ensures) ∙ c .if2 .left))
+    sym (tested-own (a .book .now) _ (sym (c .before .never-at .ensures) ∙ c .if2 .left))
 
 pub tested-at-spec : {M : Type 1} → statement M
 tested-at-spec =

@@ -32,6 +32,8 @@ const GROUPS: [(usize, usize); 3] = [(4, 8), (8, 8), (1, 1)];
 const LARGEST: (usize, usize) = (512, 64);
 /// About how many of a hundred records have never in that book; the other books have none.
 const NEVER_SHARE: usize = 10;
+/// The workshops' marks of one more book go from 1 to this; in the other books none are equal.
+const EQUAL_MARKS: i16 = 8;
 
 /// Buffers that an input needs, zero at first.
 struct Buffers {
@@ -92,6 +94,20 @@ fn timing_input(
         gen::put_never(&mut rng, &mut book, never);
     }
     rng.shuffle(&mut book);
+    gen::draw_lots(&mut rng, &mut case);
+    case.input(&book)
+}
+
+/// The largest size with every pair in the book, and many equal marks of the workshops.
+fn input_with_equal_marks((d, e): (usize, usize)) -> Input {
+    let mut rng = Rng::new(2026);
+    let mut case = gen::experiment(&mut rng, LARGEST.0, LARGEST.1, d, e);
+    let mut book = gen::full_book(&mut rng, &case, MAX_MARK);
+    for record in &mut book {
+        record.workshop_mark = rng.range(1, EQUAL_MARKS as usize) as i16;
+    }
+    rng.shuffle(&mut book);
+    gen::draw_lots(&mut rng, &mut case);
     case.input(&book)
 }
 
@@ -185,6 +201,8 @@ fn lines(groups: (usize, usize)) -> Result<(), String> {
     growth(&grown);
     println!("with never in about {NEVER_SHARE} of a hundred records:");
     line(LARGEST, &timing_input(LARGEST, groups, 100, NEVER_SHARE))?;
+    println!("with workshops' marks from 1 to {EQUAL_MARKS}:");
+    line(LARGEST, &input_with_equal_marks(groups))?;
     Ok(())
 }
 

@@ -6,7 +6,7 @@
 //! the pairs, and with the groups in use of all workshops.
 
 use super::{Answer, Report, Request, NO_STAGES};
-use crate::fast::{case_refusal, CaseFields};
+use crate::fast::{case_refusal, CaseFields, Lots};
 use crate::model::*;
 
 const GROUPS: usize = MAX_WORKSHOP_GROUP as usize + 1;
@@ -110,14 +110,15 @@ impl Fast {
     }
 
     fn read_students(&mut self, records: &Records) -> Option<usize> {
+        let mut lots = Lots::default();
         for (index, record) in records.iter().enumerate() {
             let fields = CaseFields::of(record);
             if fields.kind() != 1 {
                 return (index > 0).then_some(index);
             }
-            let number = usize::from(fields.all()[0]);
-            let good = fields.well_formed() && fields.in_range();
-            if index == MAX_STUDENTS || !good || number != index + 1 {
+            let [number, _, _, lot] = fields.all();
+            let good = fields.well_formed() && fields.in_range() && lots.take(lot);
+            if index == MAX_STUDENTS || !good || usize::from(number) != index + 1 {
                 return None;
             }
             self.parent[index] = index as u16;

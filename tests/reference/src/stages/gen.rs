@@ -125,10 +125,11 @@ fn of_rows(rng: &mut Rng, students: usize, numbers: &[u16], rows: &[Workplace]) 
         workshops: vec![Workshop { quota: 0, line: 1 }; rows.len()],
         pairs: Vec::new(),
     };
-    for _ in 0..students {
+    for lot in gen::lots(rng, students) {
         case.students.push(Student {
             stage: rng.range(1, usize::from(MAX_STAGE)) as u16,
             line: rng.range(1, usize::from(MAX_STUDENT_GROUP)) as u16,
+            lot,
         });
     }
     for ((quota, line, groups), &workshop) in rows.iter().zip(numbers) {
@@ -310,12 +311,13 @@ pub fn large(rng: &mut Rng, random: usize) -> Vec<Case> {
     cases
 }
 
-/// Other stages in the case, anywhere in their range.
-pub fn other_stages(rng: &mut Rng, case: &Case) -> Case {
+/// Other stages and other lots in the case, anywhere in their range.
+pub fn other_stages_and_lots(rng: &mut Rng, case: &Case) -> Case {
     let mut other = case.clone();
     for student in &mut other.students {
         student.stage = rng.range(1, usize::from(MAX_STAGE)) as u16;
     }
+    gen::draw_lots(rng, &mut other);
     other
 }
 
@@ -352,7 +354,18 @@ pub fn damaged(rng: &mut Rng) -> Request {
     }
 }
 
-/// The request with one damage that is refused by this cause, 1 to 5.
+/// The case's bytes with a bad lot.
+pub fn with_bad_lot(rng: &mut Rng, case: Vec<u8>) -> Vec<u8> {
+    let mut input = Input {
+        case,
+        book: Vec::new(),
+        lent: Lengths::ample(),
+    };
+    gen::bad_lot(rng, &mut input);
+    input.case
+}
+
+/// The request with one damage that is refused by this cause, 1 to 5 or 13.
 pub fn with_cause(rng: &mut Rng, case: &Case, cause: u16) -> Vec<u8> {
     let mut bytes = case.to_bytes();
     let (n, m) = (case.students.len(), case.workshops.len());
@@ -367,7 +380,10 @@ pub fn with_cause(rng: &mut Rng, case: &Case, cause: u16) -> Vec<u8> {
             match rng.below(3) {
                 0 => bytes[at] = rng.pick(&[0, 4, 255]),
                 1 => bytes[at + 1] = 1,
-                _ => bytes[at + rng.range(10, 15)] = rng.pick(&[1, 128]),
+                _ => {
+                    let first = if bytes[at] == 2 { 8 } else { 10 };
+                    bytes[at + rng.range(first, 15)] = rng.pick(&[1, 128]);
+                }
             }
         }
         3 => {
@@ -380,12 +396,15 @@ pub fn with_cause(rng: &mut Rng, case: &Case, cause: u16) -> Vec<u8> {
                 false => (2, m, MAX_WORKSHOPS + 1),
             };
             let mut added = Vec::new();
-            for number in present + 1..=wanted {
-                push_case_record(&mut added, kind, &[number as u16, 1, 1]);
+            for number in present as u16 + 1..=wanted as u16 {
+                let fields = [number, 1, 1, number.min(MAX_LOT)];
+                let named = if kind == 1 { 4 } else { 3 };
+                push_case_record(&mut added, kind, &fields[..named]);
             }
             let at = CASE_RECORD * if kind == 1 { n } else { n + m };
             bytes.splice(at..at, added);
         }
+        13 => return with_bad_lot(rng, bytes),
         _ => {
             let index = rng.below(records);
             let at = index * CASE_RECORD;

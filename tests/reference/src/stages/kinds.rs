@@ -5,7 +5,7 @@ use super::{least, rows_of_groups};
 use crate::model::*;
 use crate::tally::Tally;
 
-const NAMES: [&str; 20] = [
+const NAMES: [&str; 23] = [
     "one stage for all",
     "2 to 8 stages",
     "9 to 511 stages",
@@ -26,6 +26,9 @@ const NAMES: [&str; 20] = [
     "students in a line group who raise a stage",
     "equal groups that raise a stage",
     "stages in the file unlike the answer",
+    "lots that are the numbers",
+    "other lots",
+    "lot 512",
 ];
 
 /// Which cases a part draws; some kinds are due of the small ones only, some of the large ones.
@@ -67,6 +70,11 @@ fn kinds(case: &Case, found: Option<&[u16]>) -> [bool; NAMES.len()] {
     let stages = found.map_or(0, |stages| stages.iter().copied().max().unwrap_or(0));
     let refused = found.is_none();
     let all = p == n * m;
+    let numbered = case
+        .students
+        .iter()
+        .zip(1..)
+        .all(|(s, number)| s.lot == number);
 
     // Of many workshops it is not asked how many suffice.
     let few = m <= 8;
@@ -110,6 +118,9 @@ fn kinds(case: &Case, found: Option<&[u16]>) -> [bool; NAMES.len()] {
         !refused && differs(&without_line_groups),
         !refused && strict.is_some() && strict != found,
         found.is_some_and(|found| case.students.iter().zip(found).any(|(s, f)| s.stage != *f)),
+        numbered,
+        !numbered,
+        case.students.iter().any(|student| student.lot == MAX_LOT),
     ]
 }
 

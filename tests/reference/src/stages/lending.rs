@@ -113,9 +113,12 @@ fn refused(report: &Report, number: u64) -> bool {
 }
 
 /// Every flaw must be found by the check.
-pub const FLAWS: [Flaw; 11] = [
+pub const FLAWS: [Flaw; 12] = [
     writes("a stage written on refusals 1 to 5", |report, room| {
         (report.kind == 2 && report.first < 6 && room > 0).then_some(0)
+    }),
+    writes("a stage written on refusal 13", |report, room| {
+        (refused(report, 13) && room > 0).then_some(0)
     }),
     writes("a stage written on refusal 6", |report, room| {
         (refused(report, 6) && room > 0).then_some(0)

@@ -105,7 +105,7 @@ impl Request {
     }
 }
 
-/// Causes 1 to 6 and 12, in this order.
+/// Causes 1 to 5, 13, 6 and 12, in this order.
 pub fn answer(request: &Request) -> Answer {
     match stages(request) {
         Ok(stages) => Answer::Stages(stages),

@@ -3,6 +3,7 @@
 use super::{answer, least, least_along, rows_of_groups, rows_where, Answer, Request, NO_STAGES};
 use crate::literal;
 use crate::model::*;
+use crate::mutants::{earlier_lot, lots_before, number_lots, SLIPS_OF_LOTS};
 
 pub struct Mutant {
     pub name: &'static str,
@@ -24,6 +25,7 @@ pub fn all() -> Vec<Mutant> {
     let mut mutants = slips_of_counting();
     mutants.extend(slips_of_numbers());
     mutants.extend(slips_of_refusal());
+    mutants.extend(slips_of_lots());
     mutants
 }
 
@@ -193,6 +195,20 @@ fn slips_of_refusal() -> Vec<Mutant> {
             Answer::Refused { number: 5, .. } if request.room < students(request) => refused(6, 0),
             right => right,
         }),
+        mutant("6 before 13", |request| match answer(request) {
+            Answer::Refused { number: 13, .. } if request.room < students(request) => refused(6, 0),
+            right => right,
+        }),
+        mutant("12 before 13", |request| match answer(request) {
+            right @ Answer::Refused { number: 13, .. } => {
+                let other = answer(&with_good_lots(request));
+                if other.is_refused(NO_STAGES) {
+                    return other;
+                }
+                right
+            }
+            right => right,
+        }),
         mutant("6 before all", |request| {
             if request.room < students(request) {
                 return refused(6, 0);
@@ -271,6 +287,57 @@ fn slips_of_refusal() -> Vec<Mutant> {
             },
         ),
     ]
+}
+
+fn slips_of_lots() -> Vec<Mutant> {
+    let misread = SLIPS_OF_LOTS.iter().map(|&(name, change)| {
+        mutant(name, move |request| {
+            let mut request = request.clone();
+            change(&mut request.case);
+            answer(&request)
+        })
+    });
+    let mut mutants: Vec<Mutant> = misread.collect();
+    mutants.extend([
+        mutant("13 forgotten", |request| match answer(request) {
+            Answer::Refused { number: 13, .. } => answer(&with_good_lots(request)),
+            right => right,
+        }),
+        on_refused("13 before 5", |case, number, place| {
+            lots_before(5, case, (number, place))
+        }),
+        on_refused("13 before 4", |case, number, place| {
+            lots_before(4, case, (number, place))
+        }),
+        on_refused("13 names the earlier student", |case, number, place| {
+            (number, earlier_lot(case, number, place))
+        }),
+        on_refused("13 without its place", |_, number, place| {
+            (number, if number == 13 { 0 } else { place })
+        }),
+        on_refused("5 for 13", |_, number, place| {
+            (if number == 13 { 5 } else { number }, place)
+        }),
+    ]);
+    mutants
+}
+
+/// The right answer with its refusal changed.
+fn on_refused(name: &'static str, change: fn(&[u8], u16, usize) -> (u16, usize)) -> Mutant {
+    mutant(name, move |request| match answer(request) {
+        Answer::Refused { number, place } => {
+            let (number, place) = change(&request.case, number, place);
+            refused(number, place)
+        }
+        right => right,
+    })
+}
+
+/// The request with numbers for lots.
+fn with_good_lots(request: &Request) -> Request {
+    let mut request = request.clone();
+    number_lots(&mut request.case);
+    request
 }
 
 /// The least stages if equal groups were free: each student alone must come after all those in

@@ -12,8 +12,13 @@ pub struct HandRow {
 
 /// Workshops as quota and line, pairs as student, workshop and the workshop's group.
 fn case(students: usize, workshops: &[(u16, u16)], pairs: &[(u16, u16, u16)]) -> Case {
+    let student = |lot: u16| Student {
+        stage: 1,
+        line: 2,
+        lot,
+    };
     Case {
-        students: vec![Student { stage: 1, line: 2 }; students],
+        students: (1..=students as u16).map(student).collect(),
         workshops: workshops
             .iter()
             .map(|&(quota, line)| Workshop { quota, line })
@@ -188,6 +193,37 @@ pub fn rows() -> Vec<HandRow> {
     changed("5 before 6 and 12: group 514", 5, 7, |bytes| {
         bytes[7 * 16 + 8..7 * 16 + 10].copy_from_slice(&514u16.to_le_bytes())
     });
+    changed("13 before 6 and 12: lot 0", 13, 0, |bytes| bytes[8] = 0);
+    changed("13 before 6 and 12: lot 513", 13, 1, |bytes| {
+        bytes[16 + 8..16 + 10].copy_from_slice(&513u16.to_le_bytes())
+    });
+    changed("13 before 6 and 12: one lot", 13, 1, |bytes| {
+        bytes[16 + 8] = 1
+    });
+    changed("1 before 13", 1, 0, |bytes| {
+        bytes[8] = 0;
+        bytes.push(0);
+    });
+    changed("2 before 13", 2, 2, |bytes| {
+        bytes[8] = 0;
+        bytes[2 * 16 + 8] = 1;
+    });
+    changed("2: byte 9 of a workshop", 2, 3, |bytes| {
+        bytes[3 * 16 + 9] = 1
+    });
+    changed("2: byte 10 of a student", 2, 1, |bytes| bytes[16 + 10] = 1);
+    changed("3 before 13", 3, 3, |bytes| {
+        bytes[8] = 0;
+        bytes[3 * 16 + 2] = 1;
+    });
+    changed("4 before 13", 4, 0, |bytes| {
+        bytes[8] = 0;
+        bytes.truncate(2 * 16);
+    });
+    changed("5 before 13", 5, 7, |bytes| {
+        bytes[8] = 0;
+        bytes[7 * 16 + 6] = 0;
+    });
     let empty = Request {
         case: Vec::new(),
         room: 0,
@@ -203,10 +239,40 @@ pub fn rows() -> Vec<HandRow> {
         case.students.iter_mut().for_each(|s| s.stage = stage);
         rows.push(stages(name, &case, &[1, 2, 2]));
     }
+    rows.extend(of_lots(&k));
     for (name, stage) in [("K with stage 0", 0), ("K with stage 513", 513)] {
         let mut case = k.clone();
         case.students[2].stage = stage;
         rows.push(refused(name, Request::of(&case), 5, 2));
     }
     rows
+}
+
+/// K with other lots, good and bad.
+fn of_lots(k: &Case) -> Vec<HandRow> {
+    let with = |lots: [u16; 3]| {
+        let mut case = k.clone();
+        for (student, lot) in case.students.iter_mut().zip(lots) {
+            student.lot = lot;
+        }
+        case
+    };
+    let good = [
+        ("K with its lots the other way round", [3, 2, 1]),
+        ("K with the last lots", [510, 511, 512]),
+        ("K with lots 1, 257 and 256", [1, 257, 256]),
+    ];
+    let bad = [
+        ("K with lot 0", [1, 2, 0], 2),
+        ("K with lot 513", [513, 2, 3], 0),
+        ("K with lot 32771", [1, 2, 32771], 2),
+        ("K with lot 65535", [1, 65535, 3], 1),
+        ("K with one lot twice", [7, 8, 7], 2),
+        ("K with one lot thrice", [7, 7, 7], 1),
+        ("K with a lot again, then one out of range", [7, 7, 0], 1),
+        ("K with a lot out of range, then one again", [7, 600, 7], 1),
+    ];
+    let good = good.map(|(name, lots)| stages(name, &with(lots), &[1, 2, 2]));
+    let bad = bad.map(|(name, lots, place)| refused(name, Request::of(&with(lots)), 13, place));
+    good.into_iter().chain(bad).collect()
 }

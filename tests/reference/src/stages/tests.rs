@@ -7,6 +7,7 @@ use super::mutants::{self, Mutant};
 use super::rows::{self, HandRow};
 use super::{answer, brute, gen, Answer, Request, NO_STAGES};
 use crate::gen::{self as engine_gen, Rng};
+use crate::lots::Faults;
 use crate::model::*;
 use crate::tally::Tally;
 
@@ -48,7 +49,7 @@ impl Comparison {
         }
     }
 
-    /// A good case with buffers of several lengths and with other stages in it.
+    /// A good case with buffers of several lengths and with other stages and lots in it.
     fn check_case(&mut self, tally: &mut Tally, case: &Case, rng: &mut Rng) -> Option<Vec<u16>> {
         let mut request = Request::of(case);
         let n = request.room;
@@ -59,7 +60,7 @@ impl Comparison {
         tally.check(short == with_room.is_refused(6), || {
             format!("room {}: {with_room:?}", request.room)
         });
-        let other = Request::of(&gen::other_stages(rng, case));
+        let other = Request::of(&gen::other_stages_and_lots(rng, case));
         self.compare(tally, &other, &expected);
         match expected {
             Answer::Stages(stages) => Some(stages),
@@ -177,74 +178,96 @@ fn wrong_stages(found: Option<&[u16]>, students: usize) -> Vec<Option<Vec<u16>>>
 /// Cases with one to three damages, and two causes at once.
 pub fn damaged_cases(tally: &mut Tally, mut rng: Rng, own: Rng, count: usize) {
     let mut comparison = Comparison::new(own);
-    let mut seen = [0; 13];
-    let mut later_record = [false; 13];
+    let mut seen = [0; 14];
+    let mut later_record = [false; 14];
+    let mut faults = Faults::default();
     for _ in 0..count {
         let request = gen::damaged(&mut rng);
         let (number, place) = match comparison.check(tally, &request) {
             Answer::Refused { number, place } => (usize::from(number), place),
             Answer::Stages(_) => (0, 0),
         };
+        if number == 13 {
+            faults.count(&request.case, place);
+        }
         seen[number] += 1;
         later_record[number] |= place > 0;
     }
+    faults.check(tally);
     tally.note(&format!(
-        "good cases {}, refusals 1 to 6 {:?}, 12 {}",
+        "good cases {}, refusals 1 to 6 {:?}, 12 and 13 {:?}",
         seen[0],
         &seen[1..7],
-        seen[12]
+        &seen[12..]
     ));
-    for number in [1, 2, 3, 4, 5, 6, 12] {
-        let of_record = matches!(number, 2 | 3 | 5);
+    for number in [1, 2, 3, 4, 5, 6, 12, 13] {
+        let of_record = matches!(number, 2 | 3 | 5 | 13);
         tally.check(seen[number] >= 20, || format!("refusal {number} is rare"));
         tally.check(later_record[number] == of_record, || {
             format!("places of refusal {number}")
         });
     }
-    let mut twice = [[0; 13]; 13];
+    let mut twice = [[0; 14]; 14];
     for _ in 0..count / 20 {
         two_causes(tally, &mut comparison, &mut rng, &mut twice);
     }
-    for (first, beside) in twice.iter().enumerate().take(7).skip(1) {
-        for second in [6, 12] {
-            let count = beside[second];
-            tally.check(count >= 20 || first == second, || {
+    for (at, first) in ORDER.into_iter().enumerate() {
+        for second in [13, 6, NO_STAGES] {
+            let count = twice[usize::from(first)][usize::from(second)];
+            let later = ORDER[at + 1..].contains(&second);
+            tally.check(count >= 20 || !later, || {
                 format!("{first} and {second} at once: {count}")
             });
         }
     }
+    let beside = |second: usize| {
+        let earlier = ORDER.into_iter().take_while(|&c| usize::from(c) != second);
+        earlier
+            .map(|first| twice[usize::from(first)][second])
+            .collect::<Vec<_>>()
+    };
     tally.note(&format!(
-        "two causes at once: 6 beside 1 to 5 {:?}, 12 beside 1 to 6 {:?}",
-        [1, 2, 3, 4, 5].map(|first: usize| twice[first][6]),
-        [1, 2, 3, 4, 5, 6].map(|first: usize| twice[first][12]),
+        "two causes at once, in the order {ORDER:?}: beside 13 {:?}, beside 6 {:?}, beside 12 {:?}",
+        beside(13),
+        beside(6),
+        beside(12),
     ));
 }
 
-/// Each damage in a case that has another cause too: the lower number is given.
+/// The causes in their order.
+const ORDER: [u16; 8] = [1, 2, 3, 4, 5, 13, 6, NO_STAGES];
+
+/// Each damage in a case that has another cause too: the earlier one in the order is given.
 fn two_causes(
     tally: &mut Tally,
     comparison: &mut Comparison,
     rng: &mut Rng,
-    twice: &mut [[usize; 13]; 13],
+    twice: &mut [[usize; 14]; 14],
 ) {
     let case = gen::small(rng);
     let n = case.students.len();
     let without = super::least(&case).is_none();
-    let mut check = |bytes: Vec<u8>, room: usize, cause: u16| {
-        let answer = comparison.check(tally, &Request { case: bytes, room });
+    let mut check = |bytes: &[u8], room: usize, cause: u16, bad_lot: bool| {
+        let case = bytes.to_vec();
+        let answer = comparison.check(tally, &Request { case, room });
         tally.check(answer.is_refused(cause), || format!("{cause}: {answer:?}"));
         let cause = usize::from(cause);
+        twice[cause][13] += usize::from(bad_lot);
         twice[cause][6] += usize::from(room < n);
         twice[cause][12] += usize::from(without);
     };
-    for cause in 1..=5 {
+    for cause in [1, 2, 3, 4, 5, 13] {
         let bytes = gen::with_cause(rng, &case, cause);
-        check(bytes.clone(), n, cause);
-        check(bytes.clone(), n - 1, cause);
-        check(bytes, 0, cause);
+        for room in [n, n - 1, 0] {
+            check(&bytes, room, cause, cause == 13);
+        }
+        if cause != 13 {
+            let both = gen::with_bad_lot(rng, bytes);
+            check(&both, rng.pick(&[n, n - 1]), cause, true);
+        }
     }
-    check(case.to_bytes(), n - 1, 6);
-    check(case.to_bytes(), 0, 6);
+    check(&case.to_bytes(), n - 1, 6, false);
+    check(&case.to_bytes(), 0, 6, false);
 }
 
 /// Every byte changed, every length, and every length of the buffer.
@@ -283,9 +306,13 @@ pub fn mutants_told_apart(tally: &mut Tally, mut rng: Rng, count: usize) {
             0 => gen::damaged(&mut rng),
             1 => {
                 let case = gen::small(&mut rng);
-                let cause = rng.range(1, 5) as u16;
+                let cause = rng.pick(&[1, 2, 3, 4, 5, 13]);
+                let mut bytes = gen::with_cause(&mut rng, &case, cause);
+                if rng.chance(20) {
+                    bytes = gen::with_bad_lot(&mut rng, bytes);
+                }
                 Request {
-                    case: gen::with_cause(&mut rng, &case, cause),
+                    case: bytes,
                     room: gen::room(&mut rng, case.students.len()),
                 }
             }

@@ -9,13 +9,13 @@ use Rattle.case_tests.proofs.scans.has_unnamed.Tie as tie
 
 returns : tie.Need-returns
 unfolding any unnamed
-returns c = let r = c .before .before .before .before .before .before .args .r in rw
-    (eq-eqb (r .kind) 3 (c .before .if1 .taken), or-false (not (eqb (r .seventh) 0)))
+returns c = let r = c .before .before .before .before .before .before .before .args .r in rw
+    (eq-eqb (r .kind) 2 (c .before .before .if1 .taken), or-false (not (eqb (r .seventh) 0)))
 
 returns-2 : tie.Need-returns-2
 unfolding any unnamed
-returns-2 c = let r = c .before .before .before .before .before .before .before .args .r in rw
-    (ne-eqb (r .kind) 3 (c .before .before .if1 .left), or-false (not (eqb (r .seventh) 0)))
+returns-2 c = let r = c .before .before .before .before .before .before .args .r in rw
+    (ne-eqb (r .kind) 2 (c .before .if1 .left), or-false (not (eqb (r .seventh) 0)))
 
 pub has-unnamed-spec : {M : Type 1} → statement M
 has-unnamed-spec = tie.close (tie.spec returns returns-2)
