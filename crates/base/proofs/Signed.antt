@@ -1,8 +1,7 @@
 -- A signed number of 16 bits, an integer ℤ in the code, and the same number 32768 higher, a natural number in the definitions, compare alike.
-use Prim.Native.Nat.{ℕ, zero, suc, _+_, _-_, _%_, _^_, _≤_, _<_}
-use mathlib.Core.Path.{_≡_, refl, sym, ap, _∙_}
-use mathlib.Core.Logic.{_⊎_, inl, inr, ⊎-elim}
-use mathlib.Core.Bool.{Bool, true, false, not, cond, _||_}
+use Prim.Native.Nat.{ℕ, suc, _+_, _-_, _%_, _^_, _≤_, _<_}
+use mathlib.Core.Path.{_≡_, sym, ap, _∙_}
+use mathlib.Core.Logic.{_⊎_, ⊎-elim}
 use native.Mathlib.Omega.{arith}
 use lib.Dec.{ltb, eqb}
 use lib.IntN.{ℤ, pos, negsuc, _-ℤ_}
@@ -10,9 +9,9 @@ use lib.Signed.{ltZ, mag}
 use mir.Syntax.{w16, w32}
 use mir.Val.{SFits, toZ, ofZ, hbits, bits}
 use mir.ValLaws.{toZ-ofZ, toZ-pos}
-use borrow.Author.Tests.{lt-ltb, le-ltb, ltb-true, ltb-false, eq-eqb, ne-eqb, eqb-true}
+use borrow.Author.Tests.{lt-ltb, le-ltb, eq-eqb, ne-eqb}
 use Rattle.base.specs.Words.{biased}
-use Rattle.base.proofs.Tests.{bool-cases, less?, eq?}
+use Rattle.base.proofs.Tests.{less?, eq?}
 
 pub same-test : (a b c d : ℕ) → (a < b → c < d) → (c < d → a < b) → ltb a b ≡ ltb c d
 same-test a b c d f g = ⊎-elim (λ l. lt-ltb a b l ∙ sym (lt-ltb c d (f l)))

@@ -20,28 +20,20 @@ use Rattle.base.proofs.Members.{all-zero}
 use Rattle.base.proofs.Digits.{bit-zero}
 use Rattle.format.specs.Layout.{rowAt, rows, rowCount, hasLot}
 use Rattle.format.specs.Refusals.{notWithin, badLot}
-use Rattle.format.specs.Engine.{marketIn}
-use Rattle.format.proofs.Positions.{Sorted, row-at, within, places, pairCount}
+use Rattle.format.proofs.Positions.{row-at, within, places, student-from}
 use Rattle.case_tests.specs.Lots.{StudentsFirst, Used}
 use Rattle.case_tests.specs.Checked.{CleanCase}
 use Rattle.case_tests.proofs.Cases.{clean}
 
 -- in a clean case the students stand first
 pub students-first : (case : List ℕ) (n m : ℕ) → CleanCase case n m → StudentsFirst case n
-students-first case n m c = rw (c .students) (record { inside = omega (arith, s .whole); student = λ k l. s .student k l .0; other = other })
-  where
-    s : Sorted case (rowCount case) (marketIn case .students) (marketIn case .workshops) (pairCount case)
-    s = places case (clean case n m c)
-
-    other : (k : ℕ) → marketIn case .students ≤ k → k < rowCount case → rowAt case k .kind ≡ 1 → ⊥
-    other k l u e =
-        ⊎-elim
-        (λ (a : k < marketIn case .students + marketIn case .workshops).
-        let q : marketIn case .students + (k - marketIn case .students) ≡ k = omega arith in
-        let w : rowAt case k .kind ≡ 2 = rw q at (s .workshop (k - marketIn case .students) (omega arith) .0) in
-        omega arith)
-        (λ (a : marketIn case .students + marketIn case .workshops ≤ k). omega (arith, s .pair k a u))
-        (less? k (marketIn case .students + marketIn case .workshops))
+students-first case n m c =
+    rw (c .students)
+    (record {
+      inside = omega (arith, places case (clean case n m c) .whole);
+      student = λ k l. places case (clean case n m c) .student k l .0;
+      other = λ k l u e. omega (arith, student-from case (clean case n m c) k u e);
+    })
 
 -- one of the first i records is a student's with this lot
 abbrev drawn : List ℕ → ℕ → ℕ → Bool

@@ -5,20 +5,28 @@ use mathlib.Core.Path.{_≡_, refl, sym, ap, _∙_}
 use mathlib.Core.Logic.{⊎-elim}
 use mathlib.Core.Bool.{Bool, true, false}
 use mathlib.Core.Option.{Option, some, none}
-use mathlib.Core.List.{List, [], _∷_, _++_}
+use mathlib.Core.List.{List, [], _∷_, _++_, map}
 use mathlib.Core.List.{List·Memᴰ as Mem, List·Memᴰ·head as here, List·Memᴰ·tail as later, List·Memᴰ·not-nil as not-nil, List·Memᴰ·cases-cons as cases-cons}
 use native.Mathlib.Omega.{arith}
+use lib.Dec.{eqb}
+use borrow.Author.Tests.{eq-eqb}
+use Rattle.base.specs.Lists.{any}
 use Rattle.base.specs.Search.{firstBad}
+use Rattle.base.proofs.Tests.{never, or-left, or-right}
 use Rattle.base.proofs.Search.{scan-none, scan-found, first-below, first-passes, first-fails, none-fails}
 use Rattle.format.specs.Layout.{rows, entries, rowCount, entryCount}
 use Rattle.format.specs.Causes.{Test, whole, each, Cause, finds, firstCause, First, Finds, NothingFound, FoundFirst}
-use Rattle.format.specs.Refusals.{Room, badForm, badOrder, badCounts, badRange, badLot, badRoom, badPair, badScores, badRepeat, badTie}
+use Rattle.format.specs.Refusals.{Room, badForm, badOrder, badRange, badLot, badRoom, badPair, badScores, badRepeat, badTie}
 use Rattle.format.specs.Refusals.{caseCauses, roomCauses, bookCauses, causes, refusal}
 use Rattle.format.specs.Promises.{Valid, Refused, Twelve}
 use Rattle.format.proofs.Reading.{Passed}
 
 some-none : {A : Type 0} {B : Type 0} (x : B) → some x ≡ none → A
 some-none x e = let z : _≡_ {A = ℕ} 0 1 = cc in absurd (omega arith)
+
+-- a refusal has one number and one place
+same : (r q : ℕ × ℕ) → some r ≡ some q → (r .0 ≡ q .0) × (r .1 ≡ q .1)
+same r q e = let p : r ≡ q = cc in (ap (λ (x : ℕ × ℕ). x .0) p, ap (λ (x : ℕ × ℕ). x .1) p)
 
 -- ---- one test
 module _ (bad : ℕ → Bool) (n i : ℕ) where
@@ -85,16 +93,13 @@ table-some ((j, t) ∷ cs) k i e = go (finds t) refl (λ r. table-some cs k i r)
           nothing = nothing-more (j, t) (r .before) (finds-none t f) (r .nothing);
         }
     go (some h) f rest =
-        let g : _≡_ {A = Option (ℕ × ℕ)} (some (j, h)) (some (k, i)) = rw (f, firstCause) at e in
-        let p : _≡_ {A = ℕ × ℕ} (j, h) (k, i) = cc in
-        let number : j ≡ k = ap (λ (r : ℕ × ℕ). r .0) p in
-        let place : h ≡ i = ap (λ (r : ℕ × ℕ). r .1) p in
+        let p : (j ≡ k) × (h ≡ i) = same (j, h) (k, i) (rw (f, firstCause) at e) in
         record {
           before = [];
           test = t;
           after = cs;
-          table = ap (λ n. (n, t) ∷ cs) number;
-          found = rw place at (finds-of t h f);
+          table = ap (λ n. (n, t) ∷ cs) (p .0);
+          found = rw (p .1) at (finds-of t h f);
           nothing = λ c m. absurd (not-nil m);
         }
 
@@ -128,6 +133,43 @@ first-right ((k, t) ∷ cs) ds e = go (finds t) refl (λ q. first-right cs ds q)
     go : (o : Option ℕ) → finds t ≡ o → (firstCause cs ≡ none → firstCause (cs ++ ds) ≡ firstCause ds) → firstCause ((k, t) ∷ (cs ++ ds)) ≡ firstCause ds
     go none f rest = rw (f, firstCause) (rest (rw (f, firstCause) at e))
     go (some i) f rest = some-none (k, i) (rw (f, firstCause) at e)
+
+-- ---- the number of a refusal
+
+abbrev pub numbers : List Cause → List ℕ
+numbers = map (λ (c : Cause). c .0)
+
+-- the number given is that of a cause of the table
+numbered : (cs : List Cause) (k i : ℕ) → firstCause cs ≡ some (k, i) → any (eqb k) (numbers cs) ≡ true
+unfolding any
+numbered [] k i e = some-none (k, i) (sym e)
+numbered ((j, t) ∷ cs) k i e = go (finds t) refl (λ r. numbered cs k i r)
+  where
+    go : (o : Option ℕ) → finds t ≡ o → (firstCause cs ≡ some (k, i) → any (eqb k) (numbers cs) ≡ true) → any (eqb k) (numbers ((j, t) ∷ cs)) ≡ true
+    go none f rest = or-right (eqb k j) _ (rest (rw (f, firstCause) at e))
+    go (some h) f rest = or-left (eqb k j) _ (eq-eqb k j (sym (same (j, h) (k, i) (rw (f, firstCause) at e) .0)))
+
+-- a number that no cause of the table has is not given
+pub other-number : (n : ℕ) (cs : List Cause) (k i : ℕ) → any (eqb n) (numbers cs) ≡ false → firstCause cs ≡ some (k, i) → k ≡ n → ⊥
+other-number n cs k i f e q = never (rw q at (numbered cs k i e)) f
+
+-- a number that one cause has is given where that cause is the first to find anything
+module _ (cs ds : List Cause) (k : ℕ) (t : Test) (i : ℕ) where
+  pub only-number : any (eqb k) (numbers cs) ≡ false → any (eqb k) (numbers ds) ≡ false → firstCause (cs ++ ((k, t) ∷ ds)) ≡ some (k, i)
+      → NothingFound cs × Finds t i
+  only-number f g e = before (firstCause cs) refl
+    where
+      at : (o : Option ℕ) → finds t ≡ o → firstCause ((k, t) ∷ ds) ≡ some (k, i) → Finds t i
+      at none q r = absurd (other-number k ds k i g (rw (q, firstCause) at r) refl)
+      at (some h) q r = rw (same (k, h) (k, i) (rw (q, firstCause) at r) .1) at (finds-of t h q)
+
+      before : (o : Option (ℕ × ℕ)) → firstCause cs ≡ o → NothingFound cs × Finds t i
+      before none q = (table-none cs q, at (finds t) refl (sym (first-right cs ((k, t) ∷ ds) q) ∙ e))
+      before (some (j, h)) q = absurd (other-number k cs j h f q (same (j, h) (k, i) (sym (first-left cs ((k, t) ∷ ds) (j, h) q) ∙ e) .0))
+
+  pub number-only : NothingFound cs → Finds t i → firstCause (cs ++ ((k, t) ∷ ds)) ≡ some (k, i)
+  number-only nothing found =
+      some-table (cs ++ ((k, t) ∷ ds)) k i (record { before = cs; test = t; after = ds; table = refl; found = found; nothing = nothing })
 
 -- ---- the engine's table
 module _ (case book : List ℕ) (room : Room) where

@@ -18,7 +18,8 @@ use Rattle.format.specs.Layout.{Row, isPair, ofKind, rowAt, rows, market
 use Rattle.format.specs.Engine.{placed, engine}
 use Rattle.format.specs.Promises.{Example}
 use Rattle.format.specs.Encoding.{words, rowBytes, caseBytes}
-use Rattle.format.specs.Table.{caseOf, studentsK, workshopsK, pairsK, caseWith, K, bookK, visitsK, answerK, neverK, answerNeverK, exact, TablesHold, tiedK, answerTiedK}
+use Rattle.format.specs.Table.{caseOf, studentsK, workshopsK, pairsK, caseWith, K, bookK, visitsK, answerK, neverK, answerNeverK, exact}
+use Rattle.format.specs.Table.{tiedK, answerTiedK, TablesHold}
 use Rattle.format.proofs.Positions.{pair-says}
 use Rattle.format.proofs.Table.{computed}
 

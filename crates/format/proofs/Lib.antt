@@ -14,3 +14,4 @@ pub mod Table
 pub mod Encoding
 pub mod Restaged
 pub mod Stages
+pub mod Thirteen

@@ -4,6 +4,7 @@
 -- Of a case whose records pass causes 2 and 3 (`Clean`; `clean-all` makes it from two searches that found nothing), with n students and m
 -- workshops in the market, `people` = n + m, and `pairCount` pair records:
 --   places              records 0 to n - 1 are the students 1 to n, the next m are the workshops 1 to m, the others pairs; n + m + pairs is the whole
+--   student-from        no other record is a student
 --   student-found       the record of student s is record s - 1; stage-at, lot-at, student-outside-at: her stage, lot and outside tier stand there
 --   workshop-found      the record of workshop w is record n + w - 1; quota-at, workshop-outside-at: its quota and outside tier stand there
 --   pair-from           a pair stands at n + m or after; pair-names: it names a student and a workshop of the market
@@ -206,6 +207,15 @@ module _ (case : List ℕ) where
     -- students, then workshops, then pairs
     pub places : Sorted case (rowCount case) (marketIn case .students) (marketIn case .workshops) (pairCount case)
     places = rw (students-count, workshops-count, pairs-count) (sorted case (rowCount case) c)
+
+    -- no other record is a student
+    pub student-from : (i : ℕ) → i < rowCount case → rowAt case i .kind ≡ 1 → i < marketIn case .students
+    student-from i l e = go (at case (rowCount case) c i l)
+      where
+        go : At case (kindsBefore case 1 (rowCount case)) (kindsBefore case 2 (rowCount case)) i → i < marketIn case .students
+        go (student a b f) = omega (arith, students-count)
+        go (workshop a b f g) = absurd (omega arith)
+        go (pair a f) = absurd (omega arith)
 
     pub student-found : (s : ℕ) → 1 ≤ s → s ≤ marketIn case .students → find (isStudent s) noRow (rows case) ≡ rowAt case (s - 1)
     unfolding rows

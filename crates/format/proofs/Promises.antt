@@ -2,21 +2,21 @@
 -- A refusal is the first cause found (Causes.antt), and any other answer has what the rule's theorems say of its run (Runs.antt).
 use Prim.Native.Nat.{ℕ, _≤_}
 use mathlib.Core.Path.{_≡_, refl, sym, ap, _∙_}
-use mathlib.Core.Logic.{_⊎_, inl, inr}
+use mathlib.Core.Logic.{_⊎_, inl, inr, ⊎-elim}
 use mathlib.Core.Bool.{true, false}
 use mathlib.Core.Option.{Option, some, none}
 use mathlib.Core.List.{List}
 use native.Mathlib.Omega.{arith}
 use lib.ListN.{length}
 use lib.Dec.{ltb}
-use borrow.Author.Tests.{eq-eqb}
+use borrow.Author.Tests.{eq-eqb, le-ltb}
 use Rattle.base.specs.Lists.{any, tally}
-use Rattle.base.proofs.Tests.{and-make, or-right}
-use Rattle.lgs.specs.Market.{outscored}
+use Rattle.base.proofs.Tests.{and-make, or-right, is-false}
+use Rattle.lgs.specs.Market.{Market, Results, outscored}
 use Rattle.lgs.specs.Profiles.{Profile, StudentOptimal, Fits, flip}
 use Rattle.lgs.specs.Rule.{Interview, Step, going, stopped, finished, interviewed, below}
 use Rattle.lgs.specs.Promises.{Listed, Placed, NextInterview, interviewsIn}
-use Rattle.lgs.proofs.Valid.{by-higher-lot}
+use Rattle.lgs.proofs.Valid.{by-lower-score, by-higher-lot, outscored-apart}
 use Rattle.lgs.proofs.Sides.{real}
 use Rattle.lgs.proofs.Minimal.{revealed-fits}
 use Rattle.lgs.proofs.Undetermined.{reveals-itself}
@@ -24,12 +24,13 @@ use Rattle.lgs.proofs.Agreement.{unlisted-finished, unlisted-stopped}
 use Rattle.lgs.proofs.Optimal.{optimal-unique}
 use Rattle.lgs.proofs.OptimalExists.{optimal-exists as optimal-for}
 use Rattle.lgs.proofs.Promises.{fits-exists, listed-length}
-use Rattle.format.specs.Layout.{rows, resultsOf, ofKind}
+use Rattle.format.specs.Layout.{rows, rowAt, resultsOf, ofKind}
 use Rattle.format.specs.Refusals.{Room, refusal, needed}
 use Rattle.format.specs.Engine.{placed, next, refused, engine, marketIn, resultsIn, Outcome, outcomeOf, ruleOutcome, outcomeUnless}
 use Rattle.format.specs.Promises.{Valid, Refused, withPlaces, withNext, RunEnds, Demand1, FitsBook, interviewsOf, ByRule, Demand2Placed}
 use Rattle.format.specs.Promises.{Demand2Next, Demand2, Demand3, FitExists, OptimalExists, SameListed, UnlistedUnused, HeadsFit, Promised}
-use Rattle.format.specs.Promises.{LotsDiffer, EqualMarks, LotsPart}
+use Rattle.format.specs.Promises.{LotsDiffer, Preferred, LotsPart}
+use Rattle.format.proofs.Positions.{lot-at}
 use Rattle.format.proofs.Lots.{lot-range, lots-apart}
 use Rattle.format.proofs.Reading.{clean}
 use Rattle.format.proofs.Causes.{refusal-some, refusal-none, passed}
@@ -200,24 +201,42 @@ heads-fit =
 
 -- ---- lots
 pub lots-differ : LotsDiffer
+unfolding rowAt
 lots-differ =
     record {
+      bytes = λ case book room valid. lot-at case (clean case book (passed case book room valid));
       range = λ case book room valid. lot-range case (clean case book (passed case book room valid)) (passed case book room valid .lots);
       apart = λ case book room valid. lots-apart case (clean case book (passed case book room valid)) (passed case book room valid .lots);
     }
 
--- t comes below s
-equal-below : (case book : List ℕ) (w s t : ℕ) → EqualMarks case book w s t → outscored (marketIn case) (resultsIn book) w t s ≡ true
-equal-below case book w s t e = by-higher-lot (marketIn case) (resultsIn book) w t s (sym (e .score)) (e .lower)
+module _ (case book : List ℕ) (w s t : ℕ) (e : Preferred case book w s t) where
+  abbrev M : Market
+  M = marketIn case
+
+  abbrev B : Results
+  B = resultsIn book
+
+  comes-below : outscored M B w t s ≡ true
+  comes-below = ⊎-elim (by-lower-score M B w t s) (λ r. by-higher-lot M B w t s (sym (r .0)) (r .1)) (e .above)
+
+  not-above : outscored M B w s t ≡ true → ⊥
+  not-above f = outscored-apart M B w s t f comes-below
 
 pub lots-part : LotsPart
 unfolding below
 lots-part =
     record {
-      rule = λ case book σ w s t e vs vt.
-          or-right (ltb (marketIn case .workshopTier w s) (marketIn case .workshopTier w t)) _
-          (and-make (eq-eqb _ _ (sym (e .tier))) (and-make vt (and-make vs (equal-below case book w s t e))));
+      rule = λ case book σ w s t e vs vt. (
+        or-right (ltb (marketIn case .workshopTier w s) (marketIn case .workshopTier w t)) _
+            (and-make (eq-eqb _ _ (sym (e .tier))) (and-make vt (and-make vs (comes-below case book w s t e)))),
+        rw (
+          le-ltb (marketIn case .workshopTier w t) (marketIn case .workshopTier w s) (omega (arith, e .tier)),
+          eq-eqb (marketIn case .workshopTier w s) (marketIn case .workshopTier w t) (e .tier),
+          vs,
+          vt,
+        ) (is-false (outscored (marketIn case) (resultsIn book) w s t) (not-above case book w s t e)),
+      );
       fits = λ case book O F w s t e.
           F .scores .workshops .higher w s t (real (flip (marketIn case .paired) w) s (e .pair)) (real (flip (marketIn case .paired) w) t (e .pair′))
-          (real (flip (resultsIn book .met) w) s (e .met)) (real (flip (resultsIn book .met) w) t (e .met′)) (e .tier) (equal-below case book w s t e);
+          (real (flip (resultsIn book .met) w) s (e .met)) (real (flip (resultsIn book .met) w) t (e .met′)) (e .tier) (comes-below case book w s t e);
     }

@@ -5,7 +5,7 @@ use mathlib.Core.Path.{_≡_, refl, sym, subst, ap, _∙_, fun-ext}
 use mathlib.Core.Logic.{_⊎_, inl, inr, ⊎-elim}
 use mathlib.Core.Bool.{Bool, true, false, not, _&&_, _||_}
 use mathlib.Core.List.{List, [], _∷_, _++_, map}
-use mathlib.Core.List.{List·Memᴰ as Mem, List·Memᴰ·head as here, List·Memᴰ·tail as later, List·Memᴰ·not-nil as not-nil, Memᴰ·of-map as of-map}
+use mathlib.Core.List.{List·Memᴰ as Mem, List·Memᴰ·head as here, List·Memᴰ·tail as later, Memᴰ·of-map as of-map}
 use mathlib.Core.List.{Memᴰ·append-left as in-left, Memᴰ·append-right as in-right, List·Memᴰ·append-cases as append-cases}
 use native.Mathlib.Omega.{arith}
 use lib.Dec.{eqb, ltb}
@@ -30,10 +30,20 @@ use Rattle.format.specs.Promises.{Valid}
 use Rattle.format.specs.Stages.{withSecond, withStage, restaged, marketWith, ShortList}
 use Rattle.format.proofs.Sorted.{is-within, row-at, Clean, kindsBefore}
 use Rattle.format.proofs.Positions.{student-place, student-found, students-count, places}
-use Rattle.format.proofs.Reading.{Passed, clean, market-wf, counts-range, student-range}
+use Rattle.format.proofs.Reading.{Passed, market-wf, counts-range, student-range}
 use Rattle.format.proofs.Causes.{all-pass, nothing-more}
 use Rattle.format.proofs.Encoding.{case-length, round-trip}
 use Rattle.format.proofs.Promises.{demand3}
+
+-- ---- a case in which causes 1 to 5 find nothing
+pub five-clean : (case : List ℕ) → NothingFound (take 5 (caseCauses case)) → Clean case (rowCount case)
+unfolding caseCauses
+five-clean case nothing =
+    record {
+      inside = omega arith;
+      form = all-pass (badForm (rows case)) (rowCount case) (nothing _ (later (here refl)));
+      order = all-pass (badOrder (rows case)) (rowCount case) (nothing _ (later (later (here refl))));
+    }
 
 -- ---- a case in which the causes of the case find nothing
 module _ (case : List ℕ) (nothing : NothingFound (caseCauses case)) where
@@ -42,13 +52,17 @@ module _ (case : List ℕ) (nothing : NothingFound (caseCauses case)) where
   case-whole =
       eqb-true _ _ (not-false _ (is-false (not (eqb (length case % 16) 0)) (λ b. nothing (1, whole (not (eqb (length case % 16) 0))) (here refl) 0 (b, refl))))
 
+  pub case-clean : Clean case (rowCount case)
+  unfolding caseCauses
+  case-clean = five-clean case (λ c m. nothing c (in-left ((13, each (rowCount case) (badLot (rows case))) ∷ []) m))
+
   -- with a book that has no record
   pub case-passed : Passed case []
   unfolding caseCauses
   case-passed =
       record {
-        form = all-pass (badForm (rows case)) (rowCount case) (nothing _ (later (here refl)));
-        order = all-pass (badOrder (rows case)) (rowCount case) (nothing _ (later (later (here refl))));
+        form = case-clean .form;
+        order = case-clean .order;
         range = all-pass (badRange (rows case)) (rowCount case) (nothing _ (later (later (later (later (here refl))))));
         lots = all-pass (badLot (rows case)) (rowCount case) (nothing _ (later (later (later (later (later (here refl)))))));
         pair = λ i l. absurd (omega arith);
@@ -56,9 +70,6 @@ module _ (case : List ℕ) (nothing : NothingFound (caseCauses case)) where
         repeat = λ i l. absurd (omega arith);
         tie = λ i l. absurd (omega arith);
       }
-
-  pub case-clean : Clean case (rowCount case)
-  case-clean = clean case [] case-passed
 
   pub case-wf : WellFormed (marketIn case)
   case-wf = market-wf case [] case-passed
@@ -467,7 +478,8 @@ module _ (case stages : List ℕ)
   new-nothing =
       subst NothingFound (sym new-case)
       (nothing-both before _ (λ d m. nothing d (in-left _ m))
-      (nothing-more _ after (λ i f. never (f .found) (new-range i (f .within))) (λ d m. nothing d (in-right (before ++ ((5, each (rowCount case) (badRange (rows case))) ∷ [])) m))))
+      (nothing-more _ after (λ i f. never (f .found) (new-range i (f .within)))
+      (λ d m. nothing d (in-right (before ++ ((5, each (rowCount case) (badRange (rows case))) ∷ [])) m))))
 
   module _ (book : List ℕ) (lent : Room) where
     new-rest : roomCauses (restaged stages case) lent ++ bookCauses (restaged stages case) book ≡ roomCauses case lent ++ bookCauses case book

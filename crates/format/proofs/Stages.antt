@@ -3,27 +3,27 @@
 use Prim.Native.Nat.{ℕ, zero, suc, _*_, _≤_, _<_}
 use mathlib.Core.Path.{_≡_, refl, sym, ap, _∙_}
 use mathlib.Core.Logic.{⊎-elim}
-use mathlib.Core.Bool.{true, false, cond}
+use mathlib.Core.Bool.{cond}
 use mathlib.Core.List.{List, [], _∷_, _++_, map}
 use mathlib.Core.List.{List·Memᴰ·head as here, Memᴰ·append-left as in-left, Memᴰ·append-right as in-right}
 use mathlib.Core.Option.{Option, some, none}
 use native.Mathlib.Omega.{arith}
-use lib.Dec.{eqb, ltb}
+use lib.Dec.{ltb}
 use lib.ListN.{length, replicate}
-use borrow.Author.Tests.{lt-ltb, le-ltb, eq-eqb}
+use borrow.Author.Tests.{lt-ltb, le-ltb}
 use Rattle.base.specs.Lists.{any, upto}
-use Rattle.base.proofs.Tests.{never, or-left, or-right, less?}
+use Rattle.base.proofs.Tests.{less?}
 use Rattle.lgs.specs.Market.{Market, ConsistentStages}
 use Rattle.lgs.specs.Stages.{stageOf, matters, asked, raised, moves, settled, leastStages, FromOne, LeastStages, NoStages}
 use Rattle.lgs.proofs.Valid.{WellFormed}
 use Rattle.lgs.proofs.Stages.{least-given, least-none, least-is, none-is, only-stages, outside}
-use Rattle.format.specs.Causes.{Cause, finds, firstCause, whole, NothingFound}
+use Rattle.format.specs.Causes.{Cause, firstCause, whole, NothingFound}
 use Rattle.format.specs.Refusals.{caseCauses}
 use Rattle.format.specs.Engine.{marketIn}
 use Rattle.format.specs.Stages.{StagesOutcome, staged, unstaged, noneAgree, stagesRoomCauses, stagesCauses, stagesUnless, workOut}
 use Rattle.format.specs.Stages.{restaged, stagesAfter, marketWith, StagesPromised, SixExactly, TwelveExactly, OnlyStages, EightCauses, FileStagesUnread}
 use Rattle.format.specs.Stages.{StagesKept, LentStagesKept}
-use Rattle.format.proofs.Causes.{table-none, none-table, table-some, first-left, first-right}
+use Rattle.format.proofs.Causes.{table-none, none-table, table-some, first-left, first-right, other-number}
 use Rattle.format.proofs.Buffers.{head-length, past-head}
 use Rattle.format.proofs.Restaged.{case-wf, case-counts, least-short, new-nothing, new-market}
 
@@ -89,30 +89,13 @@ module _ (case : List ℕ) (room : ℕ) where
 
 -- ---- the numbers of the case's causes are neither 6 nor 12
 
-numbered : (cs : List Cause) (k i : ℕ) → firstCause cs ≡ some (k, i) → any (eqb k) (map (λ (c : Cause). c .0) cs) ≡ true
-unfolding any
-numbered [] k i e = let z : _≡_ {A = ℕ} 0 1 = cc in absurd (omega arith)
-numbered ((j, t) ∷ cs) k i e = go (finds t) refl (λ r. numbered cs k i r)
-  where
-    go : (o : Option ℕ) → finds t ≡ o → (firstCause cs ≡ some (k, i) → any (eqb k) (map (λ (c : Cause). c .0) cs) ≡ true)
-        → any (eqb k) (map (λ (c : Cause). c .0) ((j, t) ∷ cs)) ≡ true
-    go none f rest = or-right (eqb k j) _ (rest (rw (f, firstCause) at e))
-    go (some h) f rest =
-        let g : _≡_ {A = Option (ℕ × ℕ)} (some (j, h)) (some (k, i)) = rw (f, firstCause) at e in
-        let p : _≡_ {A = ℕ × ℕ} (j, h) (k, i) = cc in
-        or-left (eqb k j) _ (eq-eqb k j (sym (ap (λ (r : ℕ × ℕ). r .0) p)))
-
-other-number : (n : ℕ) (case : List ℕ) (k i : ℕ) → any (eqb n) (map (λ (c : Cause). c .0) (caseCauses case)) ≡ false
-    → firstCause (caseCauses case) ≡ some (k, i) → k ≡ n → ⊥
-other-number n case k i f e q = never (rw q at (numbered (caseCauses case) k i e)) f
-
 not-twelve : (case : List ℕ) (k i : ℕ) → firstCause (caseCauses case) ≡ some (k, i) → k ≡ 12 → ⊥
 unfolding caseCauses any
-not-twelve case k i = other-number 12 case k i refl
+not-twelve case k i = other-number 12 (caseCauses case) k i refl
 
 not-six : (case : List ℕ) (k i : ℕ) → firstCause (caseCauses case) ≡ some (k, i) → k ≡ 6 → ⊥
 unfolding caseCauses any
-not-six case k i = other-number 6 case k i refl
+not-six case k i = other-number 6 (caseCauses case) k i refl
 
 -- ---- the four ways
 

@@ -21,10 +21,12 @@ use Rattle.format.specs.Stages.{noneAgree, stagesRoomCauses, stagesCause
 use Rattle.format.specs.Table.{Computed, caseOf, bookOf, studentsK, workshopsK, pairsK, caseWith, bookWith, K, bookK, visitsK, answerK, table}
 use Rattle.format.specs.Table.{ownTable, ample, exact, shortRooms, people, countsRefused, buffersAfter, buffersExpected, texts, textsExpected}
 use Rattle.format.specs.Table.{neverTable, neverK, answerNeverK, tiedK, answerTiedK, lotsK, lotsTable, given, expected}
+use Rattle.format.specs.Table.{twoRounds, twoRoundsBook, secondChoice}
 use Rattle.format.specs.Table.{wished, crossed, stagedK, stagesTable, stagesGiven, stagesExpected, stagesLeft, stagesLeftExpected}
 
 pub computed : Computed
-unfolding given expected table ownTable neverTable neverK answerNeverK tiedK answerTiedK lotsK lotsTable ample exact shortRooms people countsRefused buffersAfter buffersExpected
+unfolding given expected table ownTable neverTable neverK answerNeverK tiedK answerTiedK lotsK twoRounds twoRoundsBook secondChoice lotsTable
+    ample exact shortRooms people countsRefused buffersAfter buffersExpected
     flat placesAfter visitsAfter values
     texts textsExpected unread words rowBytes caseBytes flatMap caseOf bookOf studentsK workshopsK pairsK caseWith bookWith K bookK visitsK answerK
     engine outcomeUnless ruleOutcome outcomeOf refusal causes caseCauses roomCauses bookCauses badTie studentTies badLot badRepeat badScores

@@ -1,21 +1,21 @@
 -- The three demands, for every case and book in bytes and every room lent, and what shows that they are not empty. The proofs are in
 -- proofs/Promises.antt.
-use Prim.Native.Nat.{ℕ, _*_, _≤_, _<_}
-use mathlib.Core.Bool.{Bool, true, false}
+use Prim.Native.Nat.{ℕ, suc, _+_, _-_, _*_, _≤_, _<_}
+use mathlib.Core.Bool.{true, false}
 use mathlib.Core.Path.{_≡_}
 use mathlib.Core.Logic.{_⊎_}
-use mathlib.Core.Option.{none}
 use mathlib.Core.List.{List, [], _∷_, _++_, map}
 use mathlib.Core.List.{List·Memᴰ as Mem}
-use lib.ListN.{length, getD}
+use lib.ListN.{length, getD, take}
 use Rattle.base.specs.Lists.{upto, any}
+use Rattle.base.specs.Words.{word}
 use Rattle.lgs.specs.Market.{ConsistentStages}
 use Rattle.lgs.specs.Profiles.{Profile, StrictProfile, RespectsTiers, Fits, StudentOptimal}
 use Rattle.lgs.specs.Rule.{Interview, interviewed, State, below, going, stopped, finished, lazyGaleShapley}
 use Rattle.lgs.specs.Promises.{Listed, OptimalWhateverUnseen, MinimalInterviews, NextInterview, Begins, matchingOf}
 use Rattle.format.specs.Layout.{Entry, rows, entries, isInterview}
 use Rattle.format.specs.Causes.{Cause, NothingFound, FoundFirst}
-use Rattle.format.specs.Refusals.{Room, needed, causes}
+use Rattle.format.specs.Refusals.{Room, needed, caseCauses, causes}
 use Rattle.format.specs.Engine.{placed, next, refused, engine, marketIn, resultsIn, Outcome}
 use Rattle.format.specs.Buffers.{placesAfter, visitsAfter}
 
@@ -119,8 +119,18 @@ Demand3 =
 
 -- ---- Lots (document 02, Paper 3).
 
+-- a student's lot as the case has it: "in bytes 8 and 9" of her record
+abbrev pub lotIn : List ℕ → ℕ → ℕ
+lotIn case s = word case (16 * (s - 1) + 8)
+
 -- each student has one, "from 1 to 512, all different"
 pub record LotsDiffer : Type 0 where
+  pub bytes : (case book : List ℕ) (room : Room)
+      → Valid case book room
+      → (s : ℕ)
+      → 1 ≤ s
+      → s ≤ marketIn case .students
+      → marketIn case .lot s ≡ lotIn case s
   pub range : (case book : List ℕ) (room : Room)
       → Valid case book room
       → (s : ℕ)
@@ -137,27 +147,50 @@ pub record LotsDiffer : Type 0 where
       → marketIn case .lot s ≡ marketIn case .lot t
       → s ≡ t
 
--- "a workshop's equal marks in one group": of students s and t, of whom s has the lower lot
-pub record EqualMarks (case book : List ℕ) (w s t : ℕ) : Type 0 where
+-- "a lot is out of range or already used by an earlier student"
+abbrev pub WrongLot : List ℕ → ℕ → Type 0
+WrongLot case s =
+    ((lotIn case s < 1) ⊎ (512 < lotIn case s)) ⊎ ((t : ℕ) × (1 ≤ t) × (t < s) × (lotIn case t ≡ lotIn case s))
+
+-- student s is the first with such a lot
+pub record FirstWrongLot (case : List ℕ) (s : ℕ) : Type 0 where
+  pub from : 1 ≤ s
+  pub to : s ≤ marketIn case .students
+  pub wrong : WrongLot case s
+  pub earlier : (t : ℕ) → 1 ≤ t → t < s → WrongLot case t → ⊥
+
+-- "13 .. with that record's place, tested after 5 and before 6": where 1 to 5 find nothing, exactly then, whatever the book and the room. Record s - 1 is
+-- that of student s.
+pub record ThirteenExactly : Type 0 where
+  pub given : (case book : List ℕ) (room : Room) (i : ℕ)
+      → engine case book room ≡ refused 13 i
+      → NothingFound (take 5 (caseCauses case)) × FirstWrongLot case (suc i)
+  pub whenever : (case book : List ℕ) (room : Room) (s : ℕ)
+      → NothingFound (take 5 (caseCauses case))
+      → FirstWrongLot case s
+      → engine case book room ≡ refused 13 (s - 1)
+
+-- of two students of one group whom the workshop has met, s has the higher mark, or they have "equal marks" and she "the lower lot"
+pub record Preferred (case book : List ℕ) (w s t : ℕ) : Type 0 where
   pub pair : marketIn case .paired s w ≡ true
   pub pair′ : marketIn case .paired t w ≡ true
   pub met : resultsIn book .met s w ≡ true
   pub met′ : resultsIn book .met t w ≡ true
   pub tier : marketIn case .workshopTier w s ≡ marketIn case .workshopTier w t
-  pub score : resultsIn book .workshopScore w s ≡ resultsIn book .workshopScore w t
-  pub lower : marketIn case .lot s < marketIn case .lot t
+  pub above : (resultsIn book .workshopScore w t < resultsIn book .workshopScore w s)
+      ⊎ ((resultsIn book .workshopScore w s ≡ resultsIn book .workshopScore w t) × (marketIn case .lot s < marketIn case .lot t))
 
--- they "are parted by the lower lot, in the rule and in the orders that fit": t stands below s
+-- "parted by the lower lot, in the rule and in the orders that fit": t stands below s, and s not below t
 pub record LotsPart : Type 0 where
   pub rule : (case book : List ℕ) (σ : State) (w s t : ℕ)
-      → EqualMarks case book w s t
+      → Preferred case book w s t
       → interviewed (σ .interviews) s w ≡ true
       → interviewed (σ .interviews) t w ≡ true
-      → below (marketIn case) (resultsIn book) σ w t s ≡ true
+      → (below (marketIn case) (resultsIn book) σ w t s ≡ true) × (below (marketIn case) (resultsIn book) σ w s t ≡ false)
   pub fits : (case book : List ℕ) (O : Profile)
       → FitsBook case book O
       → (w s t : ℕ)
-      → EqualMarks case book w s t
+      → Preferred case book w s t
       → O .workshopRank w s < O .workshopRank w t
 
 -- ---- That these say something.

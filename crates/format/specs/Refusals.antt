@@ -7,7 +7,7 @@ use mathlib.Core.Option.{Option}
 use lib.ListN.{length, getD, take}
 use lib.Dec.{ltb, eqb}
 use Rattle.base.specs.Lists.{any, tally}
-use Rattle.lgs.specs.Market.{Market, allSeats}
+use Rattle.lgs.specs.Market.{allSeats}
 use Rattle.format.specs.Layout.{Row, Entry, noRow, noEntry, rows, entries, rowCount, entryCount, ofKind, unnamed, isStudent, isWorkshop}
 use Rattle.format.specs.Layout.{hasLot, isPair, isInterview, marketOf, outsideScore, saysNever}
 use Rattle.format.specs.Causes.{Cause, whole, each, firstCause}

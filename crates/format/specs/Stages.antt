@@ -1,11 +1,11 @@
 -- The part that works out the stages (document 02, Paper 2): "reads a case and returns a stage for each student, each as small as agreement with every workshop
 -- permits, starting at 1".
-use Prim.Native.Nat.{ℕ, _≤_, _<_}
+use Prim.Native.Nat.{ℕ, suc, _-_, _≤_, _<_}
 use mathlib.Core.Path.{_≡_}
 use mathlib.Core.Bool.{Bool, true, false, cond}
 use mathlib.Core.List.{List, [], _∷_, _++_, map}
 use mathlib.Core.Option.{Option, some, none}
-use lib.ListN.{length, getD}
+use lib.ListN.{length, getD, take}
 use lib.Dec.{ltb}
 use Rattle.lgs.specs.Market.{Market, ConsistentStages}
 use Rattle.lgs.specs.Rule.{Interview}
@@ -17,7 +17,7 @@ use Rattle.format.specs.Encoding.{caseBytes, Bytes}
 use Rattle.format.specs.Refusals.{Room, caseCauses}
 use Rattle.format.specs.Engine.{placed, engine, marketIn, resultsIn}
 use Rattle.format.specs.Buffers.{withHead}
-use Rattle.format.specs.Promises.{Valid}
+use Rattle.format.specs.Promises.{Valid, FirstWrongLot}
 
 pub data StagesOutcome : Type 0 where
   staged : List ℕ → StagesOutcome  -- the stages of students 1 to n
@@ -149,6 +149,16 @@ pub record TwelveExactly : Type 0 where
       → NothingFound (caseCauses case ++ stagesRoomCauses case room)
       → ConsistentStages (marketIn case) stage
       → (stages : List ℕ) × (workOut case room ≡ staged stages)
+
+-- 13 as of the engine: where 1 to 5 find nothing, exactly at the first student with a wrong lot, whatever the room
+pub record StagesThirteenExactly : Type 0 where
+  pub given : (case : List ℕ) (room : ℕ) (i : ℕ)
+      → workOut case room ≡ unstaged 13 i
+      → NothingFound (take 5 (caseCauses case)) × FirstWrongLot case (suc i)
+  pub whenever : (case : List ℕ) (room : ℕ) (s : ℕ)
+      → NothingFound (take 5 (caseCauses case))
+      → FirstWrongLot case s
+      → workOut case room ≡ unstaged 13 (s - 1)
 
 -- "tested after 6": the numbers of the causes, in the order in which they are tested
 abbrev pub EightCauses : Type 0

@@ -8,7 +8,7 @@ use lib.ListN.{getD, take, replicate}
 use Rattle.base.specs.Lists.{upto, entryFor}
 use Rattle.lgs.specs.Rule.{Interview}
 use Rattle.format.specs.Layout.{Row}
-use Rattle.format.specs.Encoding.{words, rowBytes, caseBytes}
+use Rattle.format.specs.Encoding.{words, caseBytes}
 use Rattle.format.specs.Refusals.{Room, badCounts}
 use Rattle.format.specs.Engine.{placed, next, refused, engine, Outcome}
 use Rattle.format.specs.Buffers.{placesAfter, visitsAfter, scratchAfter, values}
@@ -90,7 +90,7 @@ visitsK = (1, 1) ∷ (1, 2) ∷ (2, 2) ∷ (3, 2) ∷ []
 unfoldable pub answerK : Outcome
 answerK = placed (1 ∷ 0 ∷ 2 ∷ []) visitsK
 
--- to equal marks of workshop 2 for 2 and 3, of whom 2 has the lower lot
+-- to equal marks of workshop 2 for 2 and 3, of whom 2 has the lower lot: "the one for 11 becomes places 1, 2, 0"
 unfoldable pub answerTiedK : Outcome
 answerTiedK = placed (1 ∷ 2 ∷ 0 ∷ []) visitsK
 
@@ -164,7 +164,7 @@ ownTable =
     -- the ends of the ranges are allowed
     ∷ sample (oneEach (numbered 1 512 65) (f3 1 512 513) (f4 1 1 65 513 ∷ [])) (bookOf (f4 1 1 (neg 1000) (neg 1000) ∷ []))
     (placed (0 ∷ []) ((1, 1) ∷ []))
-    -- each refusal that the fifteen lack, at its first record
+    -- refusals that the fifteen lack, at the first record
     ∷ sample (oneEach (numbered 1 1 1) (1 ∷ 1 ∷ 1 ∷ 7 ∷ []) []) [] (refused 2 1)
     ∷ sample (caseBytes (rowWith 4 (f3 1 1 1) ∷ [])) [] (refused 2 0)
     ∷ sample (oneEach (numbered 1 1 1) (f3 2 1 1) []) [] (refused 3 1)
@@ -178,11 +178,13 @@ ownTable =
     ∷ sample (oneEach (numbered 1 1 1) (f3 1 1 1) []) (bookOf (f4 1 1 1 1 ∷ [])) (refused 8 0)
     ∷ sample K (bookOf (f4 1 1 5 3 ∷ f4 1 2 2 0 ∷ [])) (refused 9 1)
     ∷ sample K (bookOf (f4 1 1 5 3 ∷ f4 1 1 4 2 ∷ [])) (refused 10 1)
-    -- byte 1, and bytes 10 to 15
+    -- byte 1, and bytes 10 to 15; bytes 8 and 9 of a workshop stand above
     ∷ sample (1 ∷ 1 ∷ words (numbered 1 1 1) ++ replicate 6 0) [] (refused 2 0)
     ∷ sample (oneEach (numbered 1 1 1) (f3 1 1 1) ((1 ∷ 1 ∷ 1 ∷ 1 ∷ 1 ∷ []) ∷ [])) [] (refused 2 2)
     ∷ sample (oneEach (numbered 1 1 1) (f3 1 1 1) ((1 ∷ 1 ∷ 1 ∷ 1 ∷ 0 ∷ 256 ∷ []) ∷ [])) [] (refused 2 2)
     ∷ sample (oneEach (1 ∷ 1 ∷ 1 ∷ 1 ∷ 0 ∷ 0 ∷ 256 ∷ []) (f3 1 1 1) []) [] (refused 2 0)
+    ∷ sample (oneEach (1 ∷ 1 ∷ 1 ∷ 1 ∷ 1 ∷ []) (f3 1 1 1) []) [] (refused 2 0)
+    ∷ sample (oneEach (numbered 1 1 1) (1 ∷ 1 ∷ 1 ∷ 0 ∷ 1 ∷ []) []) [] (refused 2 1)
     ∷ sample (caseBytes (rowWith 0 (f3 1 1 1) ∷ [])) [] (refused 2 0)
     -- a pair before its workshop, kinds that fall, a pair with nobody, pairs not rising by workshop and by student
     ∷ sample (caseBytes (rowWith 1 (numbered 1 1 1) ∷ rowWith 3 (f4 1 1 1 1) ∷ rowWith 2 (f3 1 1 1) ∷ [])) [] (refused 3 1)
@@ -290,6 +292,20 @@ rivals seats lots groups marks answer =
 abbrev pub rivalsPlaced : ℕ → ℕ → ℕ → Outcome
 rivalsPlaced a b c = placed (a ∷ b ∷ c ∷ []) ((1, 1) ∷ (2, 1) ∷ (3, 1) ∷ [])
 
+-- student 1 has workshops 1 and 2 in one group, student 2 workshop 2 and student 3 workshop 1, with these lots
+unfoldable pub twoRounds : ℕ → ℕ → ℕ → List ℕ
+twoRounds a b c =
+    caseOf (f4 1 1 2 a ∷ f4 2 1 2 b ∷ f4 3 1 2 c ∷ []) (f3 1 1 3 ∷ f3 2 1 3 ∷ []) (f4 1 1 1 1 ∷ f4 1 2 1 1 ∷ f4 2 2 1 1 ∷ f4 3 1 1 1 ∷ [])
+
+-- 1 likes workshop 1 better, workshop 2 gives 1 and 2 the same mark, and workshop 1 likes 3 better than 1
+unfoldable pub twoRoundsBook : List ℕ
+twoRoundsBook = bookOf (f4 1 1 5 3 ∷ f4 1 2 2 5 ∷ f4 2 2 1 5 ∷ f4 3 1 1 9 ∷ [])
+
+-- two students, with these lots, have workshop 1 in group 1 and workshop 2 in group 2
+unfoldable pub secondChoice : ℕ → ℕ → List ℕ
+secondChoice a b =
+    caseOf (f4 1 1 3 a ∷ f4 2 1 3 b ∷ []) (f3 1 1 2 ∷ f3 2 1 2 ∷ []) (f4 1 1 1 1 ∷ f4 1 2 2 1 ∷ f4 2 1 1 1 ∷ f4 2 2 2 1 ∷ [])
+
 -- K with these lots
 unfoldable pub lotsK : ℕ → ℕ → ℕ → List ℕ
 lotsK a b c = caseOf (f4 1 1 2 a ∷ f4 2 2 2 b ∷ f4 3 2 2 c ∷ []) (workshopsK 1 1 3) pairsK
@@ -300,7 +316,7 @@ lotsTable =
     rivals 1 (f3 1 2 3) (f3 1 1 1) (f3 5 5 5) (rivalsPlaced 1 0 0)
     ∷ rivals 1 (f3 2 1 3) (f3 1 1 1) (f3 5 5 5) (rivalsPlaced 0 1 0)
     ∷ rivals 1 (f3 3 2 1) (f3 1 1 1) (f3 5 5 5) (rivalsPlaced 0 0 1)
-    -- two seats: the highest lot is dropped, is not taken, or was between
+    -- two seats: the highest lot goes without, whether it comes first, last or second
     ∷ rivals 2 (f3 3 1 2) (f3 1 1 1) (f3 5 5 5) (rivalsPlaced 0 1 1)
     ∷ rivals 2 (f3 1 2 3) (f3 1 1 1) (f3 5 5 5) (rivalsPlaced 1 1 0)
     ∷ rivals 2 (f3 1 3 2) (f3 1 1 1) (f3 5 5 5) (rivalsPlaced 1 0 1)
@@ -308,8 +324,9 @@ lotsTable =
     ∷ rivals 1 (f3 3 2 1) (f3 1 1 1) (f3 6 5 5) (rivalsPlaced 1 0 0)
     ∷ rivals 1 (f3 3 1 2) (f3 1 1 1) (f3 6 5 6) (rivalsPlaced 0 0 1)
     ∷ rivals 1 (f3 1 2 3) (f3 2 2 1) (f3 5 5 5) (rivalsPlaced 0 0 1)
-    -- below 0, at the ends of the marks, in the line group: equal marks are parted there too
+    -- below 0, at -999 and at 1000, and in the line group: equal marks are parted there too
     ∷ rivals 1 (f3 2 1 3) (f3 1 1 1) (f3 (neg 5) (neg 5) (neg 5)) (rivalsPlaced 0 1 0)
+    ∷ rivals 1 (f3 2 1 3) (f3 1 1 1) (f3 (neg 999) (neg 999) out) (rivalsPlaced 0 1 0)
     ∷ rivals 1 (f3 2 1 3) (f3 1 1 1) (f3 1000 1000 999) (rivalsPlaced 0 1 0)
     ∷ rivals 1 (f3 2 1 3) (f3 3 3 3) (f3 5 5 5) (rivalsPlaced 0 1 0)
     -- a mark below 0 in the line group is a no, and -1000 a never, whatever the lots
@@ -334,7 +351,13 @@ lotsTable =
     ∷ sample K (bookOf (f4 1 1 5 3 ∷ f4 1 2 2 4 ∷ f4 2 2 out 6 ∷ f4 3 2 4 6 ∷ [])) answerK
     -- a student's equal marks in one group are refused, whatever the lots, and beside a workshop's
     ∷ sample (lotsK 9 8 7) (bookOf (f4 1 1 5 3 ∷ f4 1 2 5 4 ∷ [])) (refused 11 1)
-    ∷ sample K (bookOf (f4 2 2 4 6 ∷ f4 3 2 4 6 ∷ f4 1 1 5 3 ∷ f4 1 2 5 4 ∷ [])) (refused 11 3)
+    ∷ sample K (bookOf (f4 3 2 4 6 ∷ f4 2 1 5 3 ∷ f4 2 2 5 6 ∷ [])) (refused 11 2)
+    -- an equal mark with the lower lot is not below: workshop 2 stays open to student 1, whom workshop 1 drops; with the higher lot it does not
+    ∷ sample (twoRounds 1 2 3) twoRoundsBook (placed (2 ∷ 0 ∷ 1 ∷ []) ((1, 1) ∷ (1, 2) ∷ (2, 2) ∷ (3, 1) ∷ []))
+    ∷ sample (twoRounds 2 1 3) twoRoundsBook (placed (0 ∷ 2 ∷ 1 ∷ []) ((1, 1) ∷ (1, 2) ∷ (2, 2) ∷ (3, 1) ∷ []))
+    -- a lot decides who is dropped, and so the next visit
+    ∷ sample (secondChoice 2 1) (bookOf (f4 1 1 1 5 ∷ f4 2 1 1 5 ∷ [])) (next 1 2 ((1, 1) ∷ (2, 1) ∷ []))
+    ∷ sample (secondChoice 1 2) (bookOf (f4 1 1 1 5 ∷ f4 2 1 1 5 ∷ [])) (next 2 2 ((1, 1) ∷ (2, 1) ∷ []))
     -- after 5, in any record, and before 7
     ∷ sample (caseOf (f4 1 1 2 0 ∷ f4 2 513 2 2 ∷ []) (f3 1 1 3 ∷ []) []) [] (refused 5 1)
     ∷ sample (oneEach (f4 1 1 2 513) (f3 1 513 3) []) [] (refused 5 1)

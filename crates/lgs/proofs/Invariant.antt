@@ -186,7 +186,9 @@ module _ (M : Market) (B : Results) (O : Profile) (Vs : ℕ → ℕ → Bool) (E
       -- no score equals the outside option's, so that lots do not come in
       above : scoredLower (B .workshopScore) w s 0 ≡ false → outscored M B w s 0 ≡ true → ⊥
       above f e =
-          ⊎-elim (λ l. omega (arith, l, ltb-false (B .workshopScore w s) (B .workshopScore w 0) f)) (λ r. E .distinct .outside s w (k .pair) (E .known s w (k .seen)) (r .0)) (outscored-by M B w s 0 e)
+          ⊎-elim (λ l. omega (arith, l, ltb-false (B .workshopScore w s) (B .workshopScore w 0) f))
+          (λ r. E .distinct .outside s w (k .pair) (E .known s w (k .seen)) (r .0))
+          (outscored-by M B w s 0 e)
 
       same : workshopOutside M w ≤ M .workshopTier w s → O .workshopRank w s < O .workshopRank w 0
       same le =

@@ -1,6 +1,6 @@
 -- How a profile that fits the results compares two options of one person: in one tier by the results, and a better rank is in no worse tier. Each
 -- lemma is about one side of the market, and is used for both.
-use Prim.Native.Nat.{ℕ, zero, suc, _≤_, _<_}
+use Prim.Native.Nat.{ℕ, zero, suc, _≤_}
 use mathlib.Core.Path.{_≡_, refl, ap}
 use mathlib.Core.Logic.{⊎-elim}
 use mathlib.Core.Bool.{Bool, true, false}

@@ -117,3 +117,8 @@ outscored-on M B w x y z e f = both (outscored-by M B w x y e) (outscored-by M B
     both (inl a) (inr b) = by-lower-score M B w x z (omega arith)
     both (inr a) (inl b) = by-lower-score M B w x z (omega arith)
     both (inr a) (inr b) = by-higher-lot M B w x z (omega arith) (omega arith)
+
+-- and no two come below each other
+pub outscored-apart : (M : Market) (B : Results) (w x y : ℕ) → outscored M B w x y ≡ true → outscored M B w y x ≡ true → ⊥
+outscored-apart M B w x y e f =
+    ⊎-elim (λ l. omega (arith, l)) (λ r. omega (arith, r .1)) (outscored-by M B w x x (outscored-on M B w x y x e f))

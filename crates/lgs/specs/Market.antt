@@ -53,8 +53,9 @@ pub record Results : Type 0 where
 abbrev pub scoredLower : (ℕ → ℕ → ℕ) → ℕ → ℕ → ℕ → Bool
 scoredLower score p x y = ltb (score p x) (score p y)
 
--- How a workshop compares those of one tier whom it has interviewed, and the outside option: x comes below y where she has the lower score; "a workshop's
--- equal marks in one group are parted by the lower lot" (document 02, Paper 3), which comes first. The outside option has no lot: no score equals its own.
+-- How a workshop compares those of one tier whom it has interviewed, and the outside option: x comes below y where she has the lower score, or an equal
+-- one and the higher lot: "a workshop's equal marks in one group are parted by the lower lot" (document 02, Paper 3). The outside option has no lot, and is
+-- not asked for one: no mark is 0 (cause 9).
 unfoldable pub outscored : Market → Results → ℕ → ℕ → ℕ → Bool
 outscored M B w x y =
     scoredLower (B .workshopScore) w x y

@@ -21,7 +21,13 @@ module _ (case : List ℕ) (c : Clean case (rowCount case)) where
 
   pub student-at : (s : ℕ) → 1 ≤ s → s ≤ n → StudentAt case s
   student-at s a b =
-      record { from = a; to = omega (arith, places case c .whole); stage = stage-at case c s a b; lot = lot-at case c s a b; outside = student-outside-at case c s a b }
+      record {
+        from = a;
+        to = omega (arith, places case c .whole);
+        stage = stage-at case c s a b;
+        lot = lot-at case c s a b;
+        outside = student-outside-at case c s a b;
+      }
 
   pub workshop-at : (w : ℕ) → 1 ≤ w → w ≤ m → WorkshopAt case n w
   workshop-at w a b =

@@ -9,6 +9,9 @@ use lib.ListN.{length, getD, take, drop, set, length-set, length-take, List·get
 use lib.Seq.{drop-cons, take-length, drop-length, length-take-le, take-take, getD-take, set-split, take-set-le, drop-at}
 use lib.Dec.{eqb, ltb}
 use lib.IntN.{ℤ}
+use mir.Syntax.{w16}
+use mir.Val.{SFits, toZ, ofZ}
+use mir.ValLaws.{toZ-ofZ}
 use borrow.Author.Tests.{eqb-true, ltb-true, eq-eqb, ne-eqb, lt-ltb, le-ltb, not-true, not-false}
 use Rattle.base.specs.Words.{biased}
 use Rattle.base.proofs.Tests.{never, is-false, and-left, and-right, and-make, and-false, or-true, or-left, or-right, or-none, eq?, less?}
@@ -43,6 +46,10 @@ pub by-scores : (t u p q : ℕ) (l : Bool) → (eqb t u && eqb p q) ≡ false
 by-scores t u p q l e =
     ⊎-elim (λ (f : eqb t u ≡ false). rw f) (λ (f : eqb p q ≡ false). rw f (ap (λ b. ltb t u || (eqb t u && b)) (sym (or-none (ltb p q)))))
     (and-false (eqb t u) _ e)
+
+-- a score as it is passed on: bits, which are read back
+pub passed-on : (x : ℤ) (v : ℕ) → SFits w16 x → biased x ≡ v → biased (toZ w16 (ofZ w16 x)) ≡ v
+passed-on x v f e = rw (toZ-ofZ w16 x f) e
 
 -- student x stands in tier t at workshop w, with the score a
 pub record Stands (M : Market) (B : Results) (w x t : ℕ) (a : ℤ) : Type 0 where

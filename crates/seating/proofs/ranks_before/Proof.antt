@@ -1,6 +1,6 @@
 -- `seating::ranks_before` meets its contract: where tiers and scores are equal the lots tell, and else lots do not come in. A score that is passed on is
 -- bits, and `toZ-ofZ` reads it back.
-use mathlib.Core.Path.{_≡_, sym, _∙_}
+use mathlib.Core.Path.{_≡_, _∙_}
 use mir.Syntax.{w16}
 use mir.ValLaws.{toZ-ofZ}
 use lib.Dec.{ltb, eqb}

@@ -1,14 +1,8 @@
 -- `seating::seat` meets its contract: the last holder stays, or x takes her place in front of her.
-use Prim.Native.Nat.{ℕ}
-use mathlib.Core.Path.{_≡_}
 use native.Mathlib.Omega.{arith}
-use mir.Syntax.{w16}
-use mir.Val.{SFits, toZ, ofZ}
-use mir.ValLaws.{toZ-ofZ}
-use lib.IntN.{ℤ}
-use Rattle.base.specs.Words.{biased}
+use mir.Val.{toZ, ofZ}
 use Rattle.format.specs.Engine.{marketIn, resultsIn}
-use Rattle.seating.proofs.Laws.{stays-true, stays-false, push-empty, push-none, two-parts}
+use Rattle.seating.proofs.Laws.{passed-on, stays-true, stays-false, push-empty, push-none, two-parts}
 use borrow.Author.Needs.{needs}
 use Rattle.seating.proofs.seat.Statement.{statement}
 use Rattle.seating.proofs.seat.Tie as tie
@@ -32,10 +26,6 @@ mul-out c = search needs
 
 slice-read-out : tie.Need-slice-read-out
 slice-read-out c = search needs
-
--- a score as it is passed on
-passed-on : (x : ℤ) (v : ℕ) → SFits w16 x → biased x ≡ v → biased (toZ w16 (ofZ w16 x)) ≡ v
-passed-on x v f e = rw (toZ-ofZ w16 x f) e
 
 stays-requires : tie.Need-stays-requires
 stays-requires c κs =

@@ -3,14 +3,12 @@ use Prim.Native.Nat.{ℕ, _-_}
 use mathlib.Core.Path.{_≡_}
 use mathlib.Core.Bool.{not, _&&_}
 use native.Mathlib.Omega.{arith}
-use mir.Syntax.{w16}
-use mir.ValLaws.{toZ-ofZ}
 use lib.Dec.{ltb}
 use lib.ListN.{length-set, getD}
 use Rattle.format.specs.Engine.{marketIn, resultsIn}
 use Rattle.model.specs.Model.{before}
 use Rattle.model.specs.Ready.{Booked}
-use Rattle.seating.proofs.Laws.{Settling, settle-start, settle-first, settle-here, settle-on, known-there, stays-true, stays-false}
+use Rattle.seating.proofs.Laws.{passed-on, Settling, settle-start, settle-first, settle-here, settle-on, known-there, stays-true, stays-false}
 use Rattle.seating.proofs.settle.Statement.{statement}
 use Rattle.seating.proofs.settle.Tie as tie
 
@@ -48,7 +46,8 @@ stays-requires c κs =
     let M = marketIn (a .case .now) in
     let B = resultsIn (a .book .now) in
     let f = known-there M B (a .w) (a .x) (a .part .now) (here .part) (here .i) (here .inv) (omega arith) (λ (y : ℕ). Booked M B y (a .w)) in
-    (start .pre .0, (f (start .pre .1 .1 .1 .0), (start .pre .1 .0, (start .pre .1 .1 .0 .0, rw (toZ-ofZ w16 (a .a) (start .fits .a)) (start .pre .1 .1 .0 .1)))))
+    let score = passed-on (a .a) _ (start .fits .a) (start .pre .1 .1 .0 .1) in
+    (start .pre .0, (f (start .pre .1 .1 .1 .0), (start .pre .1 .0, (start .pre .1 .1 .0 .0, score))))
 
 mul-part : tie.Need-mul-part Inv-loop μ-loop
 mul-part c = omega arith
