@@ -4,7 +4,7 @@
 use crate::literal::{self, Event, PairTable};
 use crate::model::*;
 use crate::mutants::with_good_lots;
-use crate::tally::Tally;
+use crate::tally::{Counts, Tally};
 use std::collections::{HashMap, HashSet};
 
 const NAMES: [&str; 19] = [
@@ -34,7 +34,7 @@ type Met = [bool; NAMES.len()];
 
 /// How many runs have met each kind.
 #[derive(Default)]
-pub struct Kinds([usize; NAMES.len()]);
+pub struct Kinds(Counts<{ NAMES.len() }>);
 
 impl Kinds {
     /// Counts a run by its visits and by what happened at the workshops.
@@ -43,18 +43,13 @@ impl Kinds {
         let mut met = [false; NAMES.len()];
         scene.watch(&mut met, events);
         scene.look_back(&mut met, answer);
-        for (count, met) in self.0.iter_mut().zip(met) {
-            *count += usize::from(met);
-        }
+        self.0.add(met);
     }
 
     /// Tells the counts of these runs; every kind must have been met.
     pub fn check(&self, tally: &mut Tally, runs: &str) {
-        tally.note(&format!("{runs} that met"));
-        for (count, name) in self.0.iter().zip(NAMES) {
-            tally.note(&format!("{count:6} {name}"));
-            tally.check(*count > 0, || format!("{runs} never met: {name}"));
-        }
+        let what = format!("{runs} that met");
+        self.0.check(tally, &what, NAMES, |_| true);
     }
 }
 
@@ -200,7 +195,7 @@ const NAMES_OF_FAULTS: [&str; 9] = [
 
 /// How many refusals by cause 13 there were of each kind.
 #[derive(Default)]
-pub struct Faults([usize; NAMES_OF_FAULTS.len()]);
+pub struct Faults(Counts<{ NAMES_OF_FAULTS.len() }>);
 
 impl Faults {
     /// Counts a case that was refused by cause 13 at this place.
@@ -212,7 +207,7 @@ impl Faults {
         let in_range = |lot: &u16| (1..=MAX_LOT).contains(lot);
         let earlier = lots[..place].iter().position(|other| *other == lot);
         let again = |at: usize| in_range(&lots[at]) && lots[..at].contains(&lots[at]);
-        let kinds = [
+        self.0.add([
             lot == 0,
             lot == MAX_LOT + 1,
             lot > MAX_LOT + 1 && lot & 255 > 0,
@@ -222,19 +217,13 @@ impl Faults {
             earlier == Some(0) && place > 1 && place + 1 == lots.len(),
             earlier.is_some() && !lots[place..].iter().all(in_range),
             earlier.is_none() && (place + 1..lots.len()).any(again),
-        ];
-        for (count, is) in self.0.iter_mut().zip(kinds) {
-            *count += usize::from(is);
-        }
+        ]);
     }
 
     /// Tells the counts; every kind must have been met.
     pub fn check(&self, tally: &mut Tally) {
-        tally.note("refusals 13 with");
-        for (count, name) in self.0.iter().zip(NAMES_OF_FAULTS) {
-            tally.note(&format!("{count:6} {name}"));
-            tally.check(*count > 0, || format!("no refusal with: {name}"));
-        }
+        let what = "refusals 13 with";
+        self.0.check(tally, what, NAMES_OF_FAULTS, |_| true);
     }
 }
 

@@ -2,7 +2,7 @@
 
 use crate::literal::PairTable;
 use crate::model::*;
-use crate::tally::Tally;
+use crate::tally::{Counts, Tally};
 use std::collections::HashSet;
 
 const NAMES: [&str; 8] = [
@@ -18,7 +18,7 @@ const NAMES: [&str; 8] = [
 
 /// How many runs have met each kind.
 #[derive(Default)]
-pub struct Kinds([usize; NAMES.len()]);
+pub struct Kinds(Counts<{ NAMES.len() }>);
 
 impl Kinds {
     /// Counts a run by the records of its visits.
@@ -50,18 +50,13 @@ impl Kinds {
             met[4] |= marks == [NEVER; 2];
             met[7] |= marks.contains(&(NEVER + 1));
         }
-        for (count, met) in self.0.iter_mut().zip(met) {
-            *count += usize::from(met);
-        }
+        self.0.add(met);
     }
 
     /// Tells the counts of these runs; every kind must have been met.
     pub fn check(&self, tally: &mut Tally, runs: &str) {
-        tally.note(&format!("{runs} that met"));
-        for (count, name) in self.0.iter().zip(NAMES) {
-            tally.note(&format!("{count:6} {name}"));
-            tally.check(*count > 0, || format!("{runs} never met: {name}"));
-        }
+        let what = format!("{runs} that met");
+        self.0.check(tally, &what, NAMES, |_| true);
     }
 }
 

@@ -10,6 +10,39 @@ use std::time::{Duration, Instant};
 /// At most this many failures of a part are told in full.
 const SHOWN: u64 = 10;
 
+/// How many inputs were of each of N kinds.
+pub struct Counts<const N: usize>([usize; N]);
+
+impl<const N: usize> Default for Counts<N> {
+    fn default() -> Self {
+        Counts([0; N])
+    }
+}
+
+impl<const N: usize> Counts<N> {
+    /// Counts an input that is of these kinds.
+    pub fn add(&mut self, kinds: [bool; N]) {
+        for (count, is) in self.0.iter_mut().zip(kinds) {
+            *count += usize::from(is);
+        }
+    }
+
+    /// Tells the counts; every kind that is due must have been met.
+    pub fn check(
+        &self,
+        tally: &mut Tally,
+        what: &str,
+        names: [&str; N],
+        due: impl Fn(usize) -> bool,
+    ) {
+        tally.note(what);
+        for (kind, (count, name)) in self.0.iter().zip(names).enumerate() {
+            tally.note(&format!("{count:6} {name}"));
+            tally.check(*count > 0 || !due(kind), || format!("{what}: never {name}"));
+        }
+    }
+}
+
 #[derive(Default)]
 pub struct Tally {
     pub passed: u64,

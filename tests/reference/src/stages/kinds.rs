@@ -3,7 +3,7 @@
 use super::mutants::equal_groups_ignored;
 use super::{least, rows_of_groups};
 use crate::model::*;
-use crate::tally::Tally;
+use crate::tally::{Counts, Tally};
 
 const NAMES: [&str; 23] = [
     "one stage for all",
@@ -40,28 +40,20 @@ pub enum Size {
 
 /// How many cases were of each kind.
 #[derive(Default)]
-pub struct Kinds([usize; NAMES.len()]);
+pub struct Kinds(Counts<{ NAMES.len() }>);
 
 impl Kinds {
     /// Counts a case by what it is, not by how it was made.
     pub fn count(&mut self, case: &Case, found: Option<&[u16]>) {
-        let kinds = kinds(case, found);
-        for (count, is) in self.0.iter_mut().zip(kinds) {
-            *count += usize::from(is);
-        }
+        self.0.add(kinds(case, found));
     }
 
     /// Tells the counts; every kind of this size must have been met.
     pub fn check(&self, tally: &mut Tally, size: Size) {
-        tally.note("cases with");
-        for (index, (count, name)) in self.0.iter().zip(NAMES).enumerate() {
-            let due = match size {
-                Size::Small => !matches!(index, 2 | 3),
-                Size::Large => index != 5,
-            };
-            tally.note(&format!("{count:6} {name}"));
-            tally.check(*count > 0 || !due, || format!("never met: {name}"));
-        }
+        self.0.check(tally, "cases with", NAMES, |kind| match size {
+            Size::Small => !matches!(kind, 2 | 3),
+            Size::Large => kind != 5,
+        });
     }
 }
 
