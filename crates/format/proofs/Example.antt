@@ -2,24 +2,24 @@
 -- The stages agree by a test over the pairs of its records, and the test is computed.
 use Prim.Native.Nat.{ℕ, _<_}
 use mathlib.Core.Path.{_≡_, refl, ap}
-use mathlib.Core.Logic.{⊎-elim}
+use mathlib.Core.Logic.{inr, ⊎-elim}
 use mathlib.Core.Bool.{Bool, true, false, not, _&&_, _||_}
 use mathlib.Core.List.{List, [], _∷_, flatMap}
 use native.Mathlib.Omega.{arith}
 use lib.Dec.{eqb, ltb}
 use borrow.Author.Tests.{lt-ltb, le-ltb, eq-eqb, ne-eqb}
 use Rattle.base.specs.Lists.{any, tabulate, tally, find}
-use Rattle.base.specs.Words.{word}
+use Rattle.base.specs.Words.{word, signed}
 use Rattle.base.proofs.Tests.{bool-cases, never, or-false, or-left, or-right, and-make, less?, eq?}
 use Rattle.lgs.specs.Market.{Market, ConsistentStages, Rivals, workshopOutside}
 use Rattle.lgs.specs.Rule.{interviewed}
 use Rattle.lgs.specs.Promises.{matchingOf}
-use Rattle.format.specs.Layout.{Row, isPair, ofKind, rowAt, rows, marketOf}
+use Rattle.format.specs.Layout.{Row, isPair, ofKind, rowAt, rows, marketOf, entryAt, entries, resultsOf}
 use Rattle.format.specs.Engine.{placed, engine}
-use Rattle.format.specs.Promises.{Example}
+use Rattle.format.specs.Promises.{Example, Preferred}
 use Rattle.format.specs.Encoding.{words, rowBytes, caseBytes}
 use Rattle.format.specs.Table.{caseOf, studentsK, workshopsK, pairsK, caseWith, K, bookK, visitsK, answerK, neverK, answerNeverK, exact}
-use Rattle.format.specs.Table.{tiedK, answerTiedK, TablesHold}
+use Rattle.format.specs.Table.{bookOf, bookWith, tiedK, answerTiedK, TablesHold}
 use Rattle.format.proofs.Positions.{pair-says}
 use Rattle.format.proofs.Table.{computed}
 
@@ -126,6 +126,13 @@ pub example-tied-k : Example K tiedK exact
 unfolding answerTiedK visitsK interviewed any
 example-tied-k = on-k tiedK (1 ∷ 2 ∷ 0 ∷ []) (computed .exactlyTied) (3, 2, refl, λ e. omega arith)
 
+-- of students 2 and 3 of its group 2, with equal marks, workshop 2 prefers 2, who has the lower lot
+preferred-k : Preferred K tiedK 2 2 3
+unfolding marketOf resultsOf rows rowAt entries entryAt word signed any find tally tabulate K tiedK caseWith caseOf bookWith bookOf flatMap caseBytes
+    rowBytes words studentsK workshopsK pairsK
+preferred-k =
+    record { pair = refl; pair′ = refl; met = refl; met′ = refl; tier = refl; above = inr (refl, omega arith) }
+
 -- ---- the tables of proved cases
 pub tables-hold : TablesHold
-tables-hold = record { computed = computed; agreeing = example-k; agreeingNever = example-never-k; agreeingLots = example-tied-k }
+tables-hold = record { computed = computed; agreeing = example-k; agreeingNever = example-never-k; agreeingLots = example-tied-k; parted = preferred-k }

@@ -1,4 +1,4 @@
--- The slot of a key, and the slots that are met.
+-- The slots of a key, and those that are met.
 use Prim.Native.Nat.{ℕ, _+_, _*_, _/_, _%_, _<_}
 use mathlib.Core.Path.{_≡_}
 use mathlib.Core.Bool.{true}
@@ -10,6 +10,10 @@ use Rattle.base.specs.Bits.{metIn}
 abbrev pub slotOf : ℕ → ℕ
 slotOf key = key % 64 * 64 + (key / 65536 + key % 2048 / 64) % 64
 
+-- its slot in the first pass, one of 8192: the scores of four tiers have slots of their own
+abbrev pub wideOf : ℕ → ℕ
+wideOf key = key % 128 * 64 + (key / 65536 * 16 + key % 2048 / 128) % 64
+
 -- the slots of the first m keys are met
-pub record Marked (keys : List ℕ) (m : ℕ) (seen : List ℕ) : Type 0 where
-  pub marked : (j : ℕ) → j < m → metIn seen (slotOf (getD keys j 0)) ≡ true
+pub record Marked (slot : ℕ → ℕ) (keys : List ℕ) (m : ℕ) (seen : List ℕ) : Type 0 where
+  pub marked : (j : ℕ) → j < m → metIn seen (slot (getD keys j 0)) ≡ true

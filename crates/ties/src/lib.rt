@@ -1,8 +1,10 @@
 // Cause 11: a student gave an equal score earlier in the same tier. Student by student, the book records of her interviews are compared by keys, her
-// tier and her score in one number; of all records that tie with an earlier one the lowest is kept. Each key has a slot, and a key whose slot was not
-// met before is compared with no other. A score of -1000 ties with nothing: its record is passed over.
+// tier and her score in one number; of all records that tie with an earlier one the lowest is kept. Each key has a slot, equal keys the same one. A first
+// pass asks whether two of her keys share a slot; where none do she has no tie. Where some do a second pass compares the keys, and a key whose slot was
+// not met before with no other. A score of -1000 ties with nothing: its record is passed over.
 ghost use mathlib.Core.Path.{_≡_};
-ghost use Prim.Native.Nat.{_+_, _-_, _*_, _≤_, _<_, max, min};
+ghost use mathlib.Core.Bool.{false};
+ghost use Prim.Native.Nat.{ℕ, _+_, _-_, _*_, _≤_, _<_, max, min};
 ghost use lib.ListN.{length, getD, set};
 ghost use Rattle.base.specs.Search.{firstBad, orEnd};
 ghost use Rattle.format.specs.Layout.{rows, rowAt, rowCount, entries, entryAt, entryCount};
@@ -10,7 +12,7 @@ ghost use Rattle.format.specs.Refusals.{badTie};
 ghost use Rattle.format.specs.Engine.{marketIn};
 ghost use Rattle.tables.specs.Table.{Tabled};
 ghost use Rattle.ties.specs.Ties.{Indexed, tested, Lowered, LoweredBy};
-ghost use Rattle.ties.specs.Seen.{Marked, slotOf};
+ghost use Rattle.ties.specs.Seen.{Marked, slotOf, wideOf};
 
 // ---- keys, and the book records that have them
 
@@ -20,6 +22,14 @@ fn slot_of(key: u32) -> usize
 {
     let digit = key as usize / 65536 + key as usize % 2048 / 64;
     key as usize % 64 * 64 + digit % 64
+}
+
+// Its slot in the first pass. The scores of four tiers have slots of their own.
+fn wide_slot(key: u32) -> usize
+    ensures { λ r. ⌜ r ≡ wideOf key ⌝ }
+{
+    let digit = key as usize / 65536 * 16 + key as usize % 2048 / 128;
+    key as usize % 128 * 64 + digit % 64
 }
 
 fn later(a: u16, b: u16) -> usize
@@ -63,9 +73,9 @@ fn lower_if_met(
     low: usize,
 ) -> usize
     requires { ⌜ (m < length (now keys)) × (m ≤ length (now entries)) ⌝ }
-    requires { ⌜ (length (now seen) ≡ 64) × Marked (now keys) m (now seen) ⌝ }
+    requires { ⌜ (length (now seen) ≡ 64) × Marked slotOf (now keys) m (now seen) ⌝ }
     ensures { λ r. ⌜ LoweredBy (now (keys .entry)) (now (entries .entry)) m key i low r ⌝ }
-    ensures { λ _. ⌜ Marked (set (now (keys .entry)) m key) (m + 1) (now (seen .exit)) ⌝ }
+    ensures { λ _. ⌜ Marked slotOf (set (now (keys .entry)) m key) (m + 1) (now (seen .exit)) ⌝ }
 {
     if bits::met(seen, slot_of(key)) {
         return lower(keys, entries, m, key, i, low);
@@ -106,6 +116,32 @@ fn key_at(case: &[u8], book: &[u8], p: usize, i: usize) -> u32
         records::third_at(case, p),
         records::biased_at(book, i, true),
     )
+}
+
+// Two of student s's book records share a slot, so they may tie. Where none do none tie.
+fn shares(case: &[u8], book: &[u8], index: &[u16], table: &[u64], from: usize, s: usize) -> bool
+    requires { ⌜ Indexed (now case) (now book) (now index) from ⌝ }
+    requires { ⌜ Tabled (now case) (now table) ⌝ }
+    requires { ⌜ (1 ≤ s) × (s ≤ 512) ⌝ }
+    ensures { λ r. ⌜ (r ≡ false → (low : ℕ) → Lowered (now (case .entry)) (now (book .entry)) (λ i j. entryAt (now (book .entry)) i .student ≡ s) low low) ⌝ }
+{
+    let own = tables::pairs_of(case, table, s);
+    let mut seen = [0u64; 128];
+    let end = own.first + own.many;
+    let mut p = own.first;
+    while p < end {
+        let number = tested_at(book, index, from, p);
+        if number < 1 {
+            p += 1;
+        } else {
+            let key = key_at(case, book, p, number as usize - 1);
+            if bits::met(&mut seen, wide_slot(key)) {
+                return true;
+            }
+            p += 1;
+        }
+    }
+    false
 }
 
 // Lowers `low` by the book records of student s. The records of her pairs stand together.
@@ -166,8 +202,12 @@ pub fn first_tie(
     let mut low = records::entry_count(book.len());
     let mut s = 0;
     while s < students {
-        low = tie_of(case, book, index, table, from, s + 1, low);
-        s += 1;
+        if shares(case, book, index, table, from, s + 1) {
+            low = tie_of(case, book, index, table, from, s + 1, low);
+            s += 1;
+        } else {
+            s += 1;
+        }
     }
     low
 }

@@ -107,8 +107,8 @@ returns-2 c =
     let here = c .before .loop in
     let start = c .before .before .before .before .before .before .before in
     let a = start .args in
-    settle-first (marketIn (a .case .now)) (resultsIn (a .book .now)) (a .w) (a .part .now) (start .pre .1 .1 .1 .1 .0) (a .x) (here .part) (here .i) (here .inv)
-    (omega arith)
+    settle-first (marketIn (a .case .now)) (resultsIn (a .book .now)) (a .w) (a .part .now) (start .pre .1 .1 .1 .1 .0) (a .x) (here .part) (here .i)
+    (here .inv) (omega arith)
 
 pub settle-spec : {M : Type 1} → statement M
 settle-spec =

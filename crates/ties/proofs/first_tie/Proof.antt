@@ -39,12 +39,20 @@ loop-holds c =
       rw e (students-start (a .case .now) (a .book .now) (a .index .now) (a .students + a .workshops) (start .pre .0) (entryCount (a .book .now))),
     )
 
+add-shares : tie.Need-add-shares Inv-loop μ-loop
+add-shares c = omega arith
+
+shares-requires : tie.Need-shares-requires Inv-loop μ-loop
+shares-requires c κs =
+    let start = c .before .before .before .before .before .before .before in
+    (start .pre .0, (start .pre .1 .0, (omega arith, omega (arith, counted start))))
+
 add-tie-of : tie.Need-add-tie-of Inv-loop μ-loop
 add-tie-of c = omega arith
 
 tie-of-requires : tie.Need-tie-of-requires Inv-loop μ-loop
 tie-of-requires c κs =
-    let start = c .before .before .before .before .before .before .before in
+    let start = c .before .before .before .before .before .before .before .before .before in
     (start .pre .0, (start .pre .1 .0, (omega arith, omega (arith, counted start))))
 
 add-s : tie.Need-add-s Inv-loop μ-loop
@@ -55,12 +63,28 @@ loop-less c = omega arith
 
 loop-again : tie.Need-loop-again Inv-loop μ-loop
 loop-again c =
-    let start = c .before .before .before .before .before .before .before .before in
+    let start = c .before .before .before .before .before .before .before .before .before .before in
     let a = start .args in
-    let here = c .before .before .loop in (
+    let here = c .before .before .before .before .loop in (
       omega arith,
       students-on (a .case .now) (a .book .now) (a .index .now) (a .students + a .workshops) (start .pre .0) (here .s) (entryCount (a .book .now)) (here .low)
           (c .tie-of .result) (here .inv .1) (c .tie-of .ensures),
+    )
+
+add-s-2 : tie.Need-add-s-2 Inv-loop μ-loop
+add-s-2 c = omega arith
+
+loop-less-2 : tie.Need-loop-less-2 Inv-loop μ-loop
+loop-less-2 c = omega arith
+
+loop-again-2 : tie.Need-loop-again-2 Inv-loop μ-loop
+loop-again-2 c =
+    let start = c .before .before .before .before .before .before .before .before .before in
+    let a = start .args in
+    let here = c .before .before .before .loop in (
+      omega arith,
+      students-on (a .case .now) (a .book .now) (a .index .now) (a .students + a .workshops) (start .pre .0) (here .s) (entryCount (a .book .now)) (here .low)
+          (here .low) (here .inv .1) (c .before .shares .ensures (c .if1 .left) (here .low)),
     )
 
 returns : tie.Need-returns Inv-loop μ-loop
@@ -80,9 +104,14 @@ first-tie-spec =
     add-from
     entry-count-requires
     loop-holds
+    add-shares
+    shares-requires
     add-tie-of
     tie-of-requires
     add-s
     loop-less
     loop-again
+    add-s-2
+    loop-less-2
+    loop-again-2
     returns)

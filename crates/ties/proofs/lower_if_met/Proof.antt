@@ -27,7 +27,7 @@ returns c =
     let known = c .before .before .before .before .met in
     let t : Met (a .seen .now) (known .last .0) (slotOf (a .key)) (known .result) =
     rw (c .before .before .before .before .before .slot-of .ensures) at (known .ensures) in
-    (c .lower .ensures, marked-on (a .keys .now) (a .seen .now) _ (a .m) (a .key) (start .pre .1 .1) (known .result) (start .pre .0 .0) t)
+    (c .lower .ensures, marked-on slotOf (a .keys .now) (a .seen .now) _ (a .m) (a .key) (start .pre .1 .1) (known .result) (start .pre .0 .0) t)
 
 same-length-2 : tie.Need-same-length-2
 same-length-2 c = search needs
@@ -40,8 +40,8 @@ returns-2 c =
     let t : Met (a .seen .now) (known .last .0) (slotOf (a .key)) false =
     rw (c .before .before .before .before .slot-of .ensures, c .if1 .left) at (known .ensures) in (
       by-none (a .keys .now) (a .entries .now) (a .key) (a .i) (a .m) (a .low)
-          (unmet-new (a .keys .now) (a .seen .now) _ (a .m) (a .key) (start .pre .1 .1) t),
-      marked-on (a .keys .now) (a .seen .now) _ (a .m) (a .key) (start .pre .1 .1) false (start .pre .0 .0) t,
+          (unmet-new slotOf (a .keys .now) (a .seen .now) _ (a .m) (a .key) (start .pre .1 .1) t),
+      marked-on slotOf (a .keys .now) (a .seen .now) _ (a .m) (a .key) (start .pre .1 .1) false (start .pre .0 .0) t,
     )
 
 pub lower-if-met-spec : {M : Type 1} → statement M

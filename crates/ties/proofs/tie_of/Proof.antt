@@ -6,7 +6,7 @@ use borrow.Author.Needs.{needs}
 use lib.ListN.{length}
 use Rattle.format.specs.Layout.{entryAt, entryCount}
 use Rattle.tables.specs.Table.{Stretch}
-use Rattle.ties.specs.Seen.{Marked}
+use Rattle.ties.specs.Seen.{Marked, slotOf}
 use Rattle.ties.specs.Ties.{Lowered}
 use Rattle.ties.proofs.Seeing.{marked-none}
 use Rattle.ties.proofs.Interviews.{placeOf, entry-within, at-spot, at-inside}
@@ -16,7 +16,7 @@ use Rattle.ties.proofs.tie_of.Tie as tie
 
 abbrev Inv-loop : tie.InvT-loop
 Inv-loop case book index table from s low own keys₀ entries₀ seen₀ after₀ m₀ k₀ keys entries seen after m k =
-    ((k ≤ own .many) × (m ≤ k) × (length seen ≡ 64)) × Gathered case book s (own .first + k) m keys entries × Marked keys m seen
+    ((k ≤ own .many) × (m ≤ k) × (length seen ≡ 64)) × Gathered case book s (own .first + k) m keys entries × Marked slotOf keys m seen
     × Lowered case book (Before case book s (own .first + k)) low after
 
 abbrev μ-loop : tie.MeasureT-loop
@@ -43,7 +43,7 @@ loop-holds c =
     omega (arith, entry-within (a .case .now) (a .book .now) (a .index .now) (a .from) (start .pre .0) (a .s) _ _ (stretch c) i l q .0) in (
       (omega arith, omega arith, refl),
       gather-start (a .case .now) (a .book .now) (a .s) _ none _ _ refl refl,
-      marked-none _ _,
+      marked-none slotOf _ _,
       before-start (a .case .now) (a .book .now) (a .s) _ none (a .low),
     )
 
