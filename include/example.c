@@ -73,6 +73,7 @@ int main(void)
         printf("visits %" PRIu64 "\n", answer.visits);
         for (size_t i = 0; i < answer.visits; i++)
             printf("visit %u %u\n", visits[2 * i], visits[2 * i + 1]);
+        printf("fares %" PRIu64 "\n", answer.fares);
     }
     free(states);
     free(index);

@@ -3,7 +3,8 @@
  * lgs_place takes a case and a book of visit results (docs/FORMAT.md has both byte by byte) and answers with the next visit, with the
  * finished placement, or with one of twelve refusals. A mark of -1000 in the book, from either side and in any group, means that the two cannot
  * be placed together. Each student has a lot, at bytes 8 and 9 of her record, low byte first: 1 to 512, all different. A workshop may give equal
- * marks in one group, and of two such students it ranks the one with the lower lot higher; a student may not.
+ * marks in one group, and of two such students it ranks the one with the lower lot higher; a student may not. Each pair has a fare in pence, at
+ * bytes 10 and 11 of its record, low byte first: any number of 16 bits. A fare changes nothing but the total in the answer.
  * Whatever the bytes, the lengths and the contents at entry, lgs_place reads and writes only what is lent, and it returns.
  * include/example.c is a complete caller. Python and others that load a library at run time get one from the archive, which is position
  * independent: gcc -shared -o liblgs.so -Wl,--whole-archive target/staticlib/libengine.a -Wl,--no-whole-archive
@@ -71,12 +72,15 @@ enum {
 /* kind LGS_PLACED: visits is the visit count.
  * kind LGS_NEXT: first is the student and second the workshop of the next visit, visits the count of visits already done.
  * kind LGS_REFUSED: first is the refusal, one of those above, and second its place: the number of the record, from 0.
+ * With LGS_PLACED and LGS_NEXT, fares is the sum of the fares, in pence, of the visits in the list: at most 2,147,450,880 (32,768 pairs of 65,535 pence),
+ * which 32 bits hold. The fare of the next visit itself is not in it.
  * Values that are not named are 0. */
 typedef struct {
     uint64_t kind;
     uint64_t first;
     uint64_t second;
     uint64_t visits;
+    uint64_t fares;
 } lgs_report;
 
 lgs_report lgs_place(const uint8_t *case_bytes, size_t case_length,

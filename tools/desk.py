@@ -4,7 +4,7 @@
     python3 desk.py new       writes students.csv, workshops.csv, pairs.csv and visits.csv with a small example
     python3 desk.py lots      draws a lot for each student in students.csv who has none, and writes it there
     python3 desk.py stages    works the students' stages out from the first three files, and writes them in students.csv
-    python3 desk.py           checks the four files and says whom to send where next, or who goes where
+    python3 desk.py           checks the four files and says whom to send where next, or who goes where, and what the visits cost
 
 It works in the current folder. It only reads the four files, but for the lots, which `desk.py lots` writes, and the stages, which `desk.py stages`
 writes. From the files it makes case.dat and book.dat, which `place` reads.
@@ -43,13 +43,15 @@ class Name:
 
 @dataclass
 class Number:
-    """A column with a whole number. `word`, where there is one, stands for the lowest. `help` says what to do about an empty cell, and
-    `help_column` about a missing column."""
+    """A column with a whole number. `word`, where there is one, stands for the lowest. `unit` says what is counted. `help` says what to do about an
+    empty cell, and `help_column` about a missing column. One that is `optional` may be left out: then it is 0 in every row."""
     heading: str
     low: int
     high: int
     zero: bool = True
+    optional: bool = False
     word: str = ""
+    unit: str = ""
     help: str = ""
     help_column: str = ""
 
@@ -58,6 +60,7 @@ NEVER = -1000    # the mark which says that the two cannot be placed together
 STUDENTS, WORKSHOPS, PAIRS, VISITS = "students.csv", "workshops.csv", "pairs.csv", "visits.csv"
 STAGE = Number("stage", 1, 512, help=' "python3 desk.py stages" works it out.')
 LOT = Number("lot", 1, 512, help=' "python3 desk.py lots" draws it.', help_column='\n"python3 desk.py lots" adds it and draws a lot for each student.')
+FARE = Number("fare", 0, 65535, optional=True, unit=" of pence", help=" Write 0 where there is nothing to pay.")
 
 # Each file's columns. Their order is that of the fields in the records of case.dat and book.dat (docs/FORMAT.md);
 # in the files the columns may stand in any order.
@@ -65,7 +68,7 @@ COLUMNS = {
     STUDENTS: [Name("student"), STAGE, Number("line group", 1, 65), LOT],
     WORKSHOPS: [Name("workshop"), Number("quota", 0, 512), Number("line group", 1, 513)],
     PAIRS: [Name("student", STUDENTS), Name("workshop", WORKSHOPS),
-            Number("group from student", 1, 65), Number("group from workshop", 1, 513)],
+            Number("group from student", 1, 65), Number("group from workshop", 1, 513), FARE],
     VISITS: [Name("student", STUDENTS), Name("workshop", WORKSHOPS),
              Number("mark from student", NEVER, 1000, zero=False, word="never"),
              Number("mark from workshop", NEVER, 1000, zero=False, word="never")],
@@ -73,13 +76,13 @@ COLUMNS = {
 MOST = {STUDENTS: 512, WORKSHOPS: 64}
 MOST_CASE_RECORDS = 4096    # case.dat has at most 65,536 bytes
 
-# What `desk.py new` writes: example K of document 01. The lots are drawn.
+# What `desk.py new` writes: example K of document 01, with fares. The lots are drawn.
 EXAMPLE = {
     STUDENTS: [("Anna Berg", 1, 2), ("Ben Olsen", 2, 2), ("Carla Roth", 2, 2)],
     WORKSHOPS: [("Dye house", 1, 3), ("Weaving mill", 1, 3)],
-    PAIRS: [("Anna Berg", "Dye house", 1, 1), ("Anna Berg", "Weaving mill", 1, 1),
-            ("Ben Olsen", "Dye house", 1, 2), ("Ben Olsen", "Weaving mill", 1, 2),
-            ("Carla Roth", "Dye house", 1, 2), ("Carla Roth", "Weaving mill", 2, 2)],
+    PAIRS: [("Anna Berg", "Dye house", 1, 1, 240), ("Anna Berg", "Weaving mill", 1, 1, 310),
+            ("Ben Olsen", "Dye house", 1, 2, 180), ("Ben Olsen", "Weaving mill", 1, 2, 420),
+            ("Carla Roth", "Dye house", 1, 2, 0), ("Carla Roth", "Weaving mill", 2, 2, 365)],
     VISITS: [],
 }
 
@@ -191,14 +194,14 @@ def read_cells(file):
 
 
 def read_headings(file, rows, may_miss=()):
-    """At which place of a row each column stands; those of `may_miss` need not be there. Columns that are not ours are left alone."""
+    """At which place of a row each column stands; those of `may_miss`, and optional ones, need not be there. Columns that are not ours are left alone."""
     if not rows or rows[0][0] != 1:
         raise Stop(f"{file}, row 1: the headings are missing: {headings_of(file)}.")
     found = [cell.lower() for cell in rows[0][1]]
     places = {}
     for column in COLUMNS[file]:
         count = found.count(column.heading)
-        if count > 1 or (count == 0 and column.heading not in may_miss):
+        if count > 1 or (count == 0 and column.heading not in may_miss and not is_optional(column)):
             raise Stop(wrong_heading(file, column, found))
         if count:
             places[column.heading] = found.index(column.heading)
@@ -211,8 +214,12 @@ def wrong_heading(file, column, found):
     return f'{file}, row 1: the column "{column.heading}" is {how}. The headings are {seen}; needed are {headings_of(file)}.{help_there}'
 
 
+def is_optional(column):
+    return isinstance(column, Number) and column.optional
+
+
 def headings_of(file):
-    return ", ".join(column.heading for column in COLUMNS[file])
+    return ", ".join(column.heading + (" (may be left out)" if is_optional(column) else "") for column in COLUMNS[file])
 
 
 def read_rows(file, problems, may_miss=()):
@@ -248,14 +255,14 @@ def check_number(file, row, column, problems):
         word = f", or the word {column.word}" if column.word else ""
         what = f'"{text}" is there' if text else "the cell is empty"
         help_there = "" if text else column.help
-        problems.add(file, row.at, column.heading, f"{what}; it must be a whole number from {column.low} to {column.high}{but}{word}.{help_there}")
+        problems.add(file, row.at, column.heading, f"{what}; it must be a whole number{column.unit} from {column.low} to {column.high}{but}{word}.{help_there}")
     row.cells[column.heading] = number
 
 
 def check_numbers(file, rows, problems, may_be_empty=""):
     """All numbers of these rows. In the column `may_be_empty` an empty cell becomes None."""
     for row in rows:
-        for column in COLUMNS[file]:
+        for column in [column for column in COLUMNS[file] if column.heading in row.cells]:
             if column.heading == may_be_empty and not row.cells[column.heading]:
                 row.cells[column.heading] = None
             elif isinstance(column, Number):
@@ -413,8 +420,8 @@ def read_year(for_stages=False):
 
 
 def numbers_of(row, file, names):
-    """The fields of a row in the order of the columns; a name becomes its number."""
-    return [names[column.of or file][row.cells[column.heading]] if isinstance(column, Name) else row.cells[column.heading]
+    """The fields of a row in the order of the columns; a name becomes its number, and a column that was left out 0."""
+    return [names[column.of or file][row.cells[column.heading]] if isinstance(column, Name) else row.cells.get(column.heading, 0)
             for column in COLUMNS[file]]
 
 
@@ -561,18 +568,21 @@ class Answer:
     refused: tuple = None       # number, place
     places: list = field(default_factory=list)
     visits: list = field(default_factory=list)
+    fares: int = None           # the fares of these visits together
 
 
 def read_answer(text, year):
-    """The program's lines as numbers. Anything but a whole answer stops here; a line without its end does not count."""
+    """The program's lines as numbers. Anything but a whole answer stops here; a line without its end does not count, and `fares` is the last one."""
     answer, count = Answer(), None
     for line in text.split("\n")[:-1]:
         word, *numbers = line.split(" ")
-        if not is_known(word, numbers, year):
+        if answer.fares is not None or not is_known(word, numbers, year):
             raise Stop(f"`place` printed what desk.py does not know: {line}")
         numbers = tuple(int(number) for number in numbers)
         if word == "visits":
             count = numbers[0]
+        elif word == "fares":
+            answer.fares = numbers[0]
         elif word == "visit":
             answer.visits.append(numbers)
         elif word == "place":
@@ -585,14 +595,20 @@ def read_answer(text, year):
     whole = answer.refused or (count == len(answer.visits) and (answer.next or placed))
     if not whole:
         raise Stop("The answer of `place` was cut off. Run desk.py again.")
+    if answer.fares is None and not answer.refused:
+        raise Stop(f"The answer of `place` ends without the fares. Run desk.py again. Where that does not help, {too_old('place')}")
     return answer
+
+
+def too_old(program):
+    return f"this `{program}` is older than desk.py and knows no fares: get the one that belongs to it."
 
 
 def is_known(word, numbers, year):
     """A line of the program: a known word, with numbers of people that there are."""
     if not all(re.fullmatch("[0-9]{1,9}", number) for number in numbers):
         return False
-    if word == "visits":
+    if word in ("visits", "fares"):
         return len(numbers) == 1
     if word == "refused":
         return len(numbers) == 2
@@ -637,7 +653,14 @@ def tell_next(year, answer):
     where = f"in {VISITS}, row {planned.at}" if planned else f"in a new row of {VISITS}"
     return [f"Next visit: {student} goes to {workshop}.",
             f"When it was held, write both marks {where}, save, and run desk.py again.",
-            f"Visits so far: {len(answer.visits)}."] + tell_unused(year, answer)
+            f"Visits so far: {len(answer.visits)}."] + tell_fares(year, answer) + tell_unused(year, answer)
+
+
+def tell_fares(year, answer):
+    """What the visits just counted cost together. Without the column nobody has said that they cost nothing."""
+    if not any(FARE.heading in row.cells for row in year.pairs):
+        return [f'Fares of these visits: not known, {PAIRS} has none below the heading "{FARE.heading}".']
+    return [f"Fares of these visits: {answer.fares} pence ({answer.fares // 100}.{answer.fares % 100:02} pounds)."]
 
 
 def tell_unused(year, answer):
@@ -653,7 +676,7 @@ def tell_placement(year, answer):
         name = row.cells["workshop"]
         taken = [student for student, place in zip(goes, answer.places) if place[1] and year.workshop(place[1]) == name]
         lines.append(f"{name}, {len(taken)} of {row.cells['quota']}: {', '.join(taken) or 'nobody'}")
-    return lines + ["", f"Visits held for it: {len(answer.visits)}."] + tell_unused(year, answer)
+    return lines + ["", f"Visits held for it: {len(answer.visits)}."] + tell_fares(year, answer) + tell_unused(year, answer)
 
 
 def tell_visits(year, answer):
@@ -770,6 +793,8 @@ def explain_refusal(year, program, number, place):
     if row is None:
         return f"`{program}` refused the files, number {number}: {words}."
     lines = equal_marks(year, row) if number == 11 else []
+    if number == 2 and row.cells.get(FARE.heading):
+        lines = [f"  This row has a fare: {too_old(program)}"]
     return "\n".join([f"{file}, row {row.at}: {words}."] + lines)
 
 

@@ -21,7 +21,7 @@ static void check(int good, const char *what)
     }
 }
 
-/* Example K of document 01; each student's lot, at bytes 8 and 9 of her record, is her number. */
+/* Example K of document 01; each student's lot, at bytes 8 and 9 of her record, is her number, and each pair's fare, at bytes 10 and 11, is 0. */
 enum { STUDENTS = 3, WORKSHOPS = 2, PAIRS = 6, RECORDS = STUDENTS + WORKSHOPS + PAIRS, SEATS = 2, VISITS = 4 };
 static const uint8_t K_CASE[16 * RECORDS] = {
     1, 0, 1, 0, 1, 0, 2, 0, 1, 0, 0, 0, 0, 0, 0, 0,
@@ -44,6 +44,11 @@ static const uint8_t K_BOOK[8 * VISITS] = {
 };
 static const uint16_t K_PLACES[STUDENTS] = {1, 0, 2};
 static const uint16_t K_VISITS[2 * VISITS] = {1, 1, 1, 2, 2, 2, 3, 2};
+
+/* Fares for K's pairs, of which the third and the fifth are not visited, and what the first so many visits cost together. */
+static const unsigned FARES[PAIRS] = {1, 256, 65535, 4660, 65535, 16};
+static const uint64_t COST[VISITS + 1] = {0, 1, 257, 4917, 4933};
+static uint8_t K_FARES[sizeof K_CASE]; /* K with these fares, from the start of main on */
 
 enum { PAGE = 4096, PAGES = 20, ROOM = PAGE * PAGES };
 
@@ -115,9 +120,9 @@ static result call(loan l, int at_end)
     return r;
 }
 
-static int is(lgs_report r, uint64_t kind, uint64_t first, uint64_t second, uint64_t visits)
+static int is(lgs_report r, uint64_t kind, uint64_t first, uint64_t second, uint64_t visits, uint64_t fares)
 {
-    return r.kind == kind && r.first == first && r.second == second && r.visits == visits;
+    return r.kind == kind && r.first == first && r.second == second && r.visits == visits && r.fares == fares;
 }
 
 /* The entries from `from` on are as they were lent. */
@@ -146,19 +151,19 @@ static loan generous(size_t book_records)
     return l;
 }
 
-static void placement(loan l, int at_end)
+static void placement(loan l, uint64_t fares, int at_end)
 {
     result r = call(l, at_end);
-    check(is(r.report, LGS_PLACED, 0, 0, VISITS), "K is placed");
+    check(is(r.report, LGS_PLACED, 0, 0, VISITS, fares), "K is placed");
     check(memcmp(r.places, K_PLACES, sizeof K_PLACES) == 0 && as_lent(r.places, STUDENTS, l.places), "K's places");
     check(memcmp(r.visits, K_VISITS, sizeof K_VISITS) == 0 && as_lent(r.visits, 2 * VISITS, l.visits), "K's visits");
     check(r.zero, "scratch is zero after a placement");
 }
 
-static void next_visit(loan l, uint64_t student, uint64_t workshop, uint64_t visits, int at_end)
+static void next_visit(loan l, uint64_t student, uint64_t workshop, uint64_t visits, uint64_t fares, int at_end)
 {
     result r = call(l, at_end);
-    check(is(r.report, LGS_NEXT, student, workshop, visits), "the next visit");
+    check(is(r.report, LGS_NEXT, student, workshop, visits, fares), "the next visit");
     check(as_lent(r.places, 0, l.places), "a next visit leaves the places");
     check(memcmp(r.visits, K_VISITS, 4 * visits) == 0 && as_lent(r.visits, 2 * visits, l.visits), "visits up to the next one");
     check(r.zero, "scratch is zero after a next visit");
@@ -167,7 +172,7 @@ static void next_visit(loan l, uint64_t student, uint64_t workshop, uint64_t vis
 static void refusal(loan l, uint64_t number, uint64_t place, const char *what, int at_end)
 {
     result r = call(l, at_end);
-    check(is(r.report, LGS_REFUSED, number, place, 0), what);
+    check(is(r.report, LGS_REFUSED, number, place, 0, 0), what);
     check(as_lent(r.places, 0, l.places) && as_lent(r.visits, 0, l.visits), "a refusal leaves places and visits");
     check(r.zero, "scratch is zero after a refusal");
 }
@@ -210,16 +215,21 @@ static void refusals(int at_end)
     refusal(l, LGS_BOOK_TIE, 1, "an equal mark of a student", at_end);
 }
 
+/* Writes a field of two bytes at this byte of a record. */
+static void put(uint8_t *bytes, size_t record, size_t at, unsigned value)
+{
+    bytes[16 * record + at] = (uint8_t)(value & 255);
+    bytes[16 * record + at + 1] = (uint8_t)(value >> 8);
+}
+
 /* K's case with these lots. */
 static const uint8_t *with_lots(unsigned first, unsigned second, unsigned third)
 {
     static uint8_t copy[sizeof K_CASE];
     const unsigned lots[STUDENTS] = {first, second, third};
     memcpy(copy, K_CASE, sizeof copy);
-    for (size_t i = 0; i < STUDENTS; i++) {
-        copy[16 * i + 8] = (uint8_t)(lots[i] & 255);
-        copy[16 * i + 9] = (uint8_t)(lots[i] >> 8);
-    }
+    for (size_t i = 0; i < STUDENTS; i++)
+        put(copy, i, 8, lots[i]);
     return copy;
 }
 
@@ -248,7 +258,7 @@ static void parted(const uint8_t *lots, uint8_t mark, uint16_t second, uint16_t 
     l.case_bytes = lots;
     l.book_bytes = changed(K_BOOK, sizeof K_BOOK, 8 * 3 + 6, mark);
     result r = call(l, at_end);
-    check(is(r.report, LGS_PLACED, 0, 0, VISITS) && r.places[0] == 1 && r.places[1] == second && r.places[2] == third, what);
+    check(is(r.report, LGS_PLACED, 0, 0, VISITS, 0) && r.places[0] == 1 && r.places[1] == second && r.places[2] == third, what);
     check(memcmp(r.visits, K_VISITS, sizeof K_VISITS) == 0 && r.zero, "visits and scratch with equal marks");
 }
 
@@ -263,6 +273,56 @@ static void lots(int at_end)
     parted(with_lots(512, 1, 2), 2, 0, 2, "a higher mark with a higher lot", at_end);
     parted(with_lots(3, 2, 1), 6, 0, 2, "the best group with the highest lot", at_end);
     wrong_lots(at_end);
+}
+
+/* K's case with these fares, put at `copy`. */
+static const uint8_t *with_fares(uint8_t *copy, const unsigned fares[PAIRS])
+{
+    memcpy(copy, K_CASE, sizeof K_CASE);
+    for (size_t i = 0; i < PAIRS; i++)
+        put(copy, STUDENTS + WORKSHOPS + i, 10, fares[i]);
+    return copy;
+}
+
+/* K with these fares and so many visits held: the answer is that without fares, but for the total. */
+static void costs(const unsigned fares[PAIRS], size_t held, uint64_t total, int at_end)
+{
+    uint8_t copy[sizeof K_CASE];
+    loan l = exact(held);
+    l.case_bytes = with_fares(copy, fares);
+    if (held == VISITS)
+        placement(l, total, at_end);
+    else
+        next_visit(l, K_VISITS[2 * held], K_VISITS[2 * held + 1], held, total, at_end);
+}
+
+/* Bytes 10 and 11 are a fare in the pairs' records alone, and the bytes after it are still zero; a refusal has no total. */
+static void refusals_with_fares(int at_end)
+{
+    loan l = exact(VISITS);
+    l.case_bytes = changed(K_FARES, sizeof K_FARES, 10, 1), refusal(l, LGS_CASE_FORM, 0, "a fare of a student", at_end);
+    l.case_bytes = changed(K_FARES, sizeof K_FARES, 16 * 2 + 11, 1), refusal(l, LGS_CASE_FORM, 2, "a fare of the last student", at_end);
+    l.case_bytes = changed(K_FARES, sizeof K_FARES, 16 * 3 + 10, 1), refusal(l, LGS_CASE_FORM, 3, "a fare of a workshop", at_end);
+    l.case_bytes = changed(K_FARES, sizeof K_FARES, 16 * 4 + 11, 1), refusal(l, LGS_CASE_FORM, 4, "a fare of the last workshop", at_end);
+    for (size_t at = 12; at < 16; at++)
+        l.case_bytes = changed(K_FARES, sizeof K_FARES, 16 * 8 + at, 1), refusal(l, LGS_CASE_FORM, 8, "a byte after a fare", at_end);
+    l.case_bytes = K_FARES;
+    l.visits -= 1, refusal(l, LGS_SHORT_BUFFER, 0, "visits short, with fares", at_end);
+    l.visits += 1, l.book_length -= 1, refusal(l, LGS_BOOK_LENGTH, 0, "a book of 31 bytes, with fares", at_end);
+    l.book_length += 1, l.book_bytes = changed(K_BOOK, sizeof K_BOOK, 8 * 3 + 4, 0), refusal(l, LGS_BOOK_MARK, 3, "a mark of 0, with fares", at_end);
+}
+
+static void fares(int at_end)
+{
+    const unsigned most[PAIRS] = {65535, 65535, 65535, 65535, 65535, 65535}, elsewhere[PAIRS] = {0, 0, 65535, 0, 1, 0};
+    for (size_t held = 0; held <= VISITS; held++) {
+        costs(FARES, held, COST[held], at_end);
+        costs(most, held, 65535 * held, at_end);
+        costs(elsewhere, held, 0, at_end);
+    }
+    loan l = generous(VISITS);
+    l.case_bytes = K_FARES, placement(l, COST[VISITS], at_end);
+    refusals_with_fares(at_end);
 }
 
 /* Each buffer one entry short. */
@@ -284,7 +344,7 @@ static void overlap(void)
     memset(places, 0, sizeof places), memset(visits, 0, sizeof visits), memset(seats, 0, sizeof seats);
     memset(index, 0, sizeof index), memset(states, 0, sizeof states);
     lgs_report r = lgs_place(K_CASE, sizeof K_CASE, K_CASE, 8, places, STUDENTS, visits, 2 * PAIRS, seats, SEATS, index, PAIRS, states, STUDENTS);
-    check(is(r, LGS_NEXT, 1, 2, 1), "case and book overlap");
+    check(is(r, LGS_NEXT, 1, 2, 1, 0), "case and book overlap");
 }
 
 /* Threads that call at the same time get what one alone gets. */
@@ -293,9 +353,11 @@ static void *many_calls(void *number)
     size_t wrong = 0;
     for (int i = 0; i < 200; i++) {
         size_t held = ((size_t)i + *(size_t *)number) % (VISITS + 1);
-        result r = call(exact(held), i % 2);
-        wrong += held == VISITS ? !is(r.report, LGS_PLACED, 0, 0, VISITS)
-                                : !is(r.report, LGS_NEXT, K_VISITS[2 * held], K_VISITS[2 * held + 1], held);
+        loan l = exact(held);
+        l.case_bytes = K_FARES;
+        result r = call(l, i % 2);
+        wrong += held == VISITS ? !is(r.report, LGS_PLACED, 0, 0, VISITS, COST[VISITS])
+                                : !is(r.report, LGS_NEXT, K_VISITS[2 * held], K_VISITS[2 * held + 1], held, COST[held]);
     }
     *(size_t *)number = wrong;
     return NULL;
@@ -363,14 +425,14 @@ static void stages_refusal(const uint8_t *bytes, size_t length, size_t room, uin
     check(as_lent(r.stages, 0, room), "a refusal leaves the stages");
 }
 
-static void stages_done(size_t room, int at_end)
+static void stages_done(const uint8_t *bytes, size_t room, int at_end)
 {
-    stages_result r = call_stages(K_CASE, sizeof K_CASE, room, at_end);
+    stages_result r = call_stages(bytes, sizeof K_CASE, room, at_end);
     check(is_part(r.report, LGS_DONE, STUDENTS, 0), "K has stages");
     check(memcmp(r.stages, K_STAGES, sizeof K_STAGES) == 0 && as_lent(r.stages, STUDENTS, room), "K's stages");
 }
 
-/* Lots are tested after 5, and before 6 and 12; which lots there are changes nothing else. */
+/* Lots are tested after 5, and before 6 and 12. */
 static void stages_lots(int at_end)
 {
     stages_refusal(with_lots(1, 0, 3), sizeof K_CASE, STUDENTS, LGS_CASE_LOT, 1, "stages: a lot of 0", at_end);
@@ -380,15 +442,15 @@ static void stages_lots(int at_end)
     memcpy(same, TURNED, sizeof same);
     same[16 + 8] = 1;
     stages_refusal(same, sizeof same, TURNED_STUDENTS, LGS_CASE_LOT, 1, "stages: 13 before 12", at_end);
-    stages_result r = call_stages(with_lots(512, 1, 300), sizeof K_CASE, STUDENTS, at_end);
-    check(is_part(r.report, LGS_DONE, STUDENTS, 0) && memcmp(r.stages, K_STAGES, sizeof K_STAGES) == 0, "K's stages with other lots");
 }
 
 static void stages(int at_end)
 {
-    stages_done(STUDENTS, at_end);
-    stages_done(STUDENTS + 1, at_end);
-    stages_done(LGS_MOST_STAGES, at_end);
+    stages_done(K_CASE, STUDENTS, at_end);
+    stages_done(K_CASE, STUDENTS + 1, at_end);
+    stages_done(K_CASE, LGS_MOST_STAGES, at_end);
+    stages_done(K_FARES, STUDENTS, at_end);
+    stages_done(with_lots(512, 1, 300), STUDENTS, at_end);
     stages_refusal(K_CASE, 0, 0, LGS_CASE_COUNTS, 0, "no case, no room", at_end);
     stages_refusal(K_CASE, sizeof K_CASE - 1, STUDENTS, LGS_CASE_LENGTH, 0, "a byte short", at_end);
     stages_refusal(K_CASE, 15, LGS_MOST_STAGES, LGS_CASE_LENGTH, 0, "15 bytes", at_end);
@@ -422,15 +484,13 @@ static void both(void)
         bytes[16 * i + 4] = 77;
     stages_result s = call_stages(bytes, sizeof bytes, STUDENTS, 1);
     check(is_part(s.report, LGS_DONE, STUDENTS, 0), "K without its stages");
-    for (size_t i = 0; i < STUDENTS; i++) {
-        bytes[16 * i + 4] = (uint8_t)(s.stages[i] & 255);
-        bytes[16 * i + 5] = (uint8_t)(s.stages[i] >> 8);
-    }
+    for (size_t i = 0; i < STUDENTS; i++)
+        put(bytes, i, 4, s.stages[i]);
     check(memcmp(bytes, K_CASE, sizeof bytes) == 0, "K's own stages are the least");
     loan l = exact(VISITS);
     l.case_bytes = bytes;
     result r = call(l, 1);
-    check(is(r.report, LGS_PLACED, 0, 0, VISITS) && memcmp(r.places, K_PLACES, sizeof K_PLACES) == 0, "the engine with these stages");
+    check(is(r.report, LGS_PLACED, 0, 0, VISITS, 0) && memcmp(r.places, K_PLACES, sizeof K_PLACES) == 0, "the engine with these stages");
 }
 
 static void *many_stages(void *number)
@@ -448,15 +508,17 @@ static void *many_stages(void *number)
 
 int main(void)
 {
+    with_fares(K_FARES, FARES);
     for (int at_end = 0; at_end < 2; at_end++) {
-        placement(exact(VISITS), at_end);
-        placement(generous(VISITS), at_end);
-        next_visit(exact(0), 1, 1, 0, at_end);
-        next_visit(exact(2), 2, 2, 2, at_end);
-        next_visit(generous(3), 3, 2, 3, at_end);
+        placement(exact(VISITS), 0, at_end);
+        placement(generous(VISITS), 0, at_end);
+        next_visit(exact(0), 1, 1, 0, 0, at_end);
+        next_visit(exact(2), 2, 2, 2, 0, at_end);
+        next_visit(generous(3), 3, 2, 3, 0, at_end);
         refusals(at_end);
         short_buffers(at_end);
         lots(at_end);
+        fares(at_end);
         stages(at_end);
     }
     overlap();

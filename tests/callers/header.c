@@ -14,9 +14,10 @@ ASSERT(offsetof(lgs_student_state, reached) == 0 && sizeof(((lgs_student_state *
 ASSERT(offsetof(lgs_student_state, held) == 4 && sizeof(((lgs_student_state *)0)->held) == 4);
 ASSERT(offsetof(lgs_student_state, openings) == 8 && sizeof(((lgs_student_state *)0)->openings) == 8);
 
-ASSERT(sizeof(lgs_report) == 32);
+ASSERT(sizeof(lgs_report) == 40);
 ASSERT(offsetof(lgs_report, kind) == 0 && offsetof(lgs_report, first) == 8);
 ASSERT(offsetof(lgs_report, second) == 16 && offsetof(lgs_report, visits) == 24);
+ASSERT(offsetof(lgs_report, fares) == 32 && sizeof(((lgs_report *)0)->fares) == 8);
 
 ASSERT(LGS_PLACED == 0 && LGS_NEXT == 1 && LGS_REFUSED == 2);
 ASSERT(LGS_CASE_LENGTH == 1 && LGS_CASE_FORM == 2 && LGS_CASE_ORDER == 3 && LGS_CASE_COUNTS == 4);
@@ -63,7 +64,7 @@ int main(void)
     uint16_t entry = 7;
     lgs_student_state state = {1, 2, 3};
     lgs_report r = lgs_place(&none, 0, &none, 0, &entry, 0, &entry, 0, &entry, 0, &entry, 0, &state, 1);
-    int refused = r.kind == LGS_REFUSED && r.first == LGS_CASE_COUNTS && r.second == 0 && r.visits == 0;
+    int refused = r.kind == LGS_REFUSED && r.first == LGS_CASE_COUNTS && r.second == 0 && r.visits == 0 && r.fares == 0;
     int left = entry == 7 && state.reached == 0 && state.held == 0 && state.openings == 0;
     return refused && left && stages_called() ? 0 : 1;
 }

@@ -1,5 +1,5 @@
-"""Tests of desk.py: example K to the byte, visits that end in never, lots drawn, equal marks parted by them, years driven visit by visit, wrong
-inputs, a withdrawal, stages worked out.
+"""Tests of desk.py: example K to the byte, visits that end in never, lots drawn, equal marks parted by them, fares added up, years driven visit by
+visit, wrong inputs, a withdrawal, stages worked out.
 
     python3 desk_tests.py DESK.PY PLACE STAGES
 """
@@ -86,12 +86,12 @@ K_CASE = """
 01 00 03 00 02 00 02 00 03 00 00 00 00 00 00 00
 02 00 01 00 01 00 03 00 00 00 00 00 00 00 00 00
 02 00 02 00 01 00 03 00 00 00 00 00 00 00 00 00
-03 00 01 00 01 00 01 00 01 00 00 00 00 00 00 00
-03 00 01 00 02 00 01 00 01 00 00 00 00 00 00 00
-03 00 02 00 01 00 01 00 02 00 00 00 00 00 00 00
-03 00 02 00 02 00 01 00 02 00 00 00 00 00 00 00
+03 00 01 00 01 00 01 00 01 00 f0 00 00 00 00 00
+03 00 01 00 02 00 01 00 01 00 36 01 00 00 00 00
+03 00 02 00 01 00 01 00 02 00 b4 00 00 00 00 00
+03 00 02 00 02 00 01 00 02 00 a4 01 00 00 00 00
 03 00 03 00 01 00 01 00 02 00 00 00 00 00 00 00
-03 00 03 00 02 00 02 00 02 00 00 00 00 00 00 00
+03 00 03 00 02 00 02 00 02 00 6d 01 00 00 00 00
 """
 K_BOOK = """
 01 00 01 00 05 00 03 00
@@ -101,6 +101,10 @@ K_BOOK = """
 """
 K_VISITS = [("Anna Berg", "Dye house", 5, 3), ("Anna Berg", "Weaving mill", 2, 4),
             ("Ben Olsen", "Weaving mill", -1, 1), ("Carla Roth", "Weaving mill", 4, 6)]
+K_PAIRS = [("Anna Berg", "Dye house"), ("Anna Berg", "Weaving mill"), ("Ben Olsen", "Dye house"), ("Ben Olsen", "Weaving mill"),
+           ("Carla Roth", "Dye house"), ("Carla Roth", "Weaving mill")]
+K_GROUPS = ("1,1", "1,1", "1,2", "1,2", "1,2", "2,2")    # from the student and from the workshop
+K_FARES = (240, 310, 180, 420, 0, 365)
 K_PLACED = """The placement is finished.
 
   Anna Berg   Dye house
@@ -111,7 +115,18 @@ Dye house, 1 of 1: Anna Berg
 Weaving mill, 1 of 1: Carla Roth
 
 Visits held for it: 4.
+Fares of these visits: 1335 pence (13.35 pounds).
 """
+NO_FARES = 'Fares of these visits: not known, pairs.csv has none below the heading "fare".\n'
+
+
+def fares_told(total):
+    return f"Fares of these visits: {total} pence ({total / 100:.2f} pounds).\n"
+
+
+def cost(couples, fares=K_FARES):
+    """What these visits of K's pairs cost together."""
+    return sum(fares[K_PAIRS.index(couple)] for couple in couples)
 
 
 def add_visits(folder, visits):
@@ -123,7 +138,7 @@ def hold_visits(folder, name, visits):
     for done, (student, workshop, a, b) in enumerate(visits):
         status, out, err = desk(folder)
         check(f"{name}, {done} visits", status == 0 and out.startswith(f"Next visit: {student} goes to {workshop}.\n")
-              and out.endswith(f"Visits so far: {done}.\n"), out + err)
+              and out.endswith(f"Visits so far: {done}.\n" + fares_told(cost(visit[:2] for visit in visits[:done]))), out + err)
         add_visits(folder, [(student, workshop, a, b)])
 
 
@@ -143,20 +158,22 @@ def guide(folder):
         text = f.read()
     first = desk(folder)[1]
     show_lots(folder, text)
-    rows = "Ana Berg,Dye house,1,1\n\n\nBen Olsen,Weaving mill,two,2\nCarla Roth,Dye house,1,2\n\nCarla Roth,Dye house,1,2\n"
-    for file, content in (("pairs.csv", pairs(rows)),
+    rows = "Ana Berg,Dye house,1,1,240\n\n\nBen Olsen,Weaving mill,two,2,420\nCarla Roth,Dye house,1,2,3.65\n\nCarla Roth,Dye house,1,2,0\n"
+    for file, content in (("pairs.csv", FARE_HEAD + rows),
                           ("visits.csv", VISIT_HEAD + "Anna Berg,Dye house,5,3\nAnna Berg,Weaving mill,5,4\n")):
         before = read(folder, file)
         write(folder, file, content)
         shows(text, desk(folder)[2])
         write(folder, file, before)
+    rows = [(s, w, *groups.split(","), str(fare)) for (s, w), groups, fare in zip(K_PAIRS, K_GROUPS, K_FARES)]
+    check("the guide's table has these fares", "".join(f"\n| {' | '.join(row)} |" for row in rows) in text, str(rows))
     write(folder, "students.csv", students("Anna Berg,,2\nBen Olsen,,2\nCarla Roth,,2\n"))
     shows(text, desk(folder, "stages")[1])
     write(folder, "students.csv", students("Anna Berg,2,2\nBen Olsen,,2\nCarla Roth,,2\n"))
     check("the guide shows what stood there", "Anna Berg (was 2)\n" in desk(folder, "stages")[1] and "`Anna Berg (was 2)`" in text)
     write(folder, "pairs.csv", read(folder, "pairs.csv").replace(b"Anna Berg,Weaving mill,1,1", b"Anna Berg,Weaving mill,1,3"))
     shows(text, desk(folder, "stages")[2])
-    for shown in (NEW_SAYS, first, K_PLACED, NEVER_PLACED + NEVER_LIST):
+    for shown in (NEW_SAYS, first, K_PLACED, NEVER_PLACED + NEVER_LIST, NO_FARES):
         shows(text, shown)
     for visits in (K_VISITS[1:], NEVER_VISITS):
         check("the guide shows what is asked for", asked_after(visits) in text, asked_after(visits))
@@ -214,6 +231,7 @@ Dye house, 1 of 1: Carla Roth
 Weaving mill, 1 of 1: Anna Berg
 
 Visits held for it: 4.
+Fares of these visits: 730 pence (7.30 pounds).
 """
 NEVER_LIST = """
 The visits:
@@ -262,7 +280,7 @@ def nevers_of_a_workshop(folder):
                         ("Ben Olsen", "Dye house", 3, "never"), ("Carla Roth", "Dye house", 2, "never")])
     status, out, err = desk(folder)
     check("nevers of a workshop", status == 0 and "\n\n  Anna Berg   Weaving mill\n  Ben Olsen   no place\n  Carla Roth  no place\n\n" in out
-          and "\nDye house, 0 of 1: nobody\n" in out and out.endswith("\nVisits held for it: 4.\n"), out + err)
+          and "\nDye house, 0 of 1: nobody\n" in out and out.endswith("\nVisits held for it: 4.\n" + fares_told(730)), out + err)
 
 
 # ---------------------------------------------------------------- lots
@@ -281,6 +299,7 @@ Dye house, 1 of 1: Anna Berg
 Weaving mill, 1 of 1: Ben Olsen
 
 Visits held for it: 4.
+Fares of these visits: 1335 pence (13.35 pounds).
 """
 LOTS_WROTE = """
 Wrote them in students.csv: {} changed, all else is as it was.
@@ -504,6 +523,75 @@ def equal_marks(folder):
     answers("equal marks held one after the other", desk(folder), (0, K_PLACED, ""))
 
 
+# ---------------------------------------------------------------- fares
+
+FARE_HEAD = "student,workshop,group from student,group from workshop,fare\n"
+
+# The fares of K's pairs as they are written, and as numbers.
+FARES = [
+    (K_FARES, K_FARES),
+    ((" 1 ", "+2", "0004", "8", '"16"', "32"), (1, 2, 4, 8, 16, 32)),
+    (("65535",) * 6, (65535,) * 6),
+    (("0",) * 6, (0,) * 6),
+    (("255", "256", "65535", "1", "65535", "99"), (255, 256, 65535, 1, 65535, 99)),
+]
+
+
+def fields(case, at):
+    """The fields at these bytes of the records of K's pairs."""
+    return tuple(struct.unpack_from("<H", case, 16 * record + at)[0] for record in range(5, 11))
+
+
+def answer_told(folder, name):
+    """The answer in two parts: all but the fares, and the line with them."""
+    status, out, err = desk(folder)
+    lines = out.splitlines(keepends=True)
+    told = [line for line in lines if line.startswith("Fares")]
+    check(f"{name}: one line tells the fares", status == 0 and len(told) == 1, out + err)
+    return "".join(line for line in lines if line not in told), told
+
+
+def fares(folder):
+    """After every visit the total is that of the visits called for, and nothing else changes with the fares; so without them."""
+    head = read(folder, "visits.csv")
+    others = [("Carla Roth", "Dye house", 7, 7), ("Ben Olsen", "Dye house", 7, 8)]    # visits that are not called for
+    for held in (0, 1, 3, 4):
+        write(folder, "visits.csv", head)
+        add_visits(folder, others[:held % 3] + K_VISITS[:held])
+        write(folder, "pairs.csv", pairs("".join(f"{s},{w},{both}\n" for (s, w), both in zip(K_PAIRS, K_GROUPS))))
+        without, told = answer_told(folder, "no fares")
+        case = read(folder, "case.dat")
+        check("no fares are told", told == [NO_FARES], str(told))
+        check("no fares in the case", fields(case, 10) == (0,) * 6, case.hex(" "))
+        for cells, numbers in FARES:
+            write(folder, "pairs.csv", FARE_HEAD + "".join(f"{s},{w},{both},{cell}\n" for (s, w), both, cell in zip(K_PAIRS, K_GROUPS, cells)))
+            rest, told = answer_told(folder, f"fares {cells}")
+            check(f"fares {cells}, {held} visits", told == [fares_told(cost((visit[:2] for visit in K_VISITS[:held]), numbers))], str(told))
+            check(f"fares {cells}, {held} visits: the answer", rest == without, rest)
+            there = read(folder, "case.dat")
+            check(f"fares {cells} in the case", fields(there, 10) == numbers and len(there) == len(case)
+                  and all(there[at] == case[at] for at in range(len(case)) if at < 80 or at % 16 not in (10, 11)), there.hex(" "))
+
+
+def fares_column(folder):
+    """The column at another place, its heading in capitals, and another column that only looks like it; no pairs at all; a wrong fare with `stages`."""
+    write(folder, "pairs.csv", "FARE;note;student;Fares;workshop;group from student;group from workshop\n"
+          "240;;Anna Berg;x;Dye house;1;1\n65535;a;Ben Olsen;7;Dye house;1;2\n")
+    rest, told = answer_told(folder, "the column first")
+    check("the column first", fields(read(folder, "case.dat") + bytes(64), 10) == (240, 65535, 0, 0, 0, 0), read(folder, "case.dat").hex(" "))
+    write(folder, "pairs.csv", FARE_HEAD.replace("fare", "fares") + "Anna Berg,Dye house,1,1,240\n")
+    check("another column is not read", answer_told(folder, "another column")[1] == [NO_FARES] and read(folder, "case.dat")[-6:] == bytes(6))
+    write(folder, "pairs.csv", FARE_HEAD)
+    rest, told = answer_told(folder, "no pairs")
+    check("no pairs", "Visits held for it: 0.\n" in rest and told == [NO_FARES], rest)
+    write(folder, "students.csv", students("Anna Berg,,2\nBen Olsen,,2\nCarla Roth,,2\n"))
+    write(folder, "pairs.csv", FARE_HEAD + "Anna Berg,Dye house,1,1,\n")
+    before = read_all(folder)
+    answers("stages, an empty fare", desk(folder, "stages"),
+            (1, "", f'pairs.csv, row 2, column "fare": the cell is empty; {FARE} Write 0 where there is nothing to pay.{END}'))
+    check("stages, an empty fare: nothing is written", read_all(folder) == before)
+
+
 # ---------------------------------------------------------------- other ways to write the tables, other years
 
 
@@ -538,7 +626,7 @@ def planned_row(folder):
 def unused_visit(folder):
     add_visits(folder, [("Carla Roth", "Dye house", 7, 7)])
     status, out, err = desk(folder)
-    check("a visit not called for", "Visits so far: 0.\nOther visits in visits.csv, not called for so far: 1.\n" in out, out + err)
+    check("a visit not called for", f"Visits so far: 0.\n{fares_told(0)}Other visits in visits.csv, not called for so far: 1.\n" in out, out + err)
 
 
 WORKS_OUT = '"python3 desk.py stages" works out stages that agree, if there are any.\n'
@@ -549,7 +637,7 @@ def stages_note(folder):
     status, out, err = desk(folder)
     check("a note on the stages", "  Dye house: Anna Berg and Ben Olsen\n  Weaving mill: Anna Berg and Ben Olsen\n" + WORKS_OUT in out, out + err)
     desk(folder, "stages")
-    check("no note on stages worked out", desk(folder)[1].endswith("Visits so far: 0.\n"), desk(folder)[1])
+    check("no note on stages worked out", desk(folder)[1].endswith("Visits so far: 0.\n" + fares_told(0)), desk(folder)[1])
 
 
 def withdrawal(folder):
@@ -560,7 +648,8 @@ def withdrawal(folder):
         lines = read(folder, name).decode().split("\r\n")
         write(folder, name, "\r\n".join(line for line in lines if "Ben Olsen" not in line))
     status, out, err = desk(folder)
-    check("a student withdrawn", "  Anna Berg   Dye house\n  Carla Roth  Weaving mill\n" in out and "Visits held for it: 3." in out, out + err)
+    check("a student withdrawn", "  Anna Berg   Dye house\n  Carla Roth  Weaving mill\n" in out
+          and "Visits held for it: 3.\n" + fares_told(915) in out, out + err)
     check("without gaps", read(folder, "book.dat")[-8:] == bytes.fromhex("02 00 02 00 04 00 06 00"))
     check("with her lot", read(folder, "case.dat")[16:32] == bytes.fromhex("01 00 02 00 02 00 02 00 03 00 00 00 00 00 00 00"))
     write(folder, "workshops.csv", "workshop,quota,line group\nDye house,0,3\nWeaving mill,1,3\n")
@@ -576,14 +665,16 @@ NEVER_MARKS = [("never", ""), ("", "never"), ("-1000", "Never")]
 
 class HiddenYear:
     """Full orders that nobody sees but through groups, marks and lots. `None` is no place. `share` is how many of the pairs are never; with `equal`
-    the workshops have few marks, and give the same to many."""
+    the workshops have few marks, and give the same to many. Pairs have fares up to `most_fare`; with None their table has no such column."""
 
-    def __init__(self, seed, share, stages=3, met=0.5, students=100, workshops=20, equal=False):
+    def __init__(self, seed, share, stages=3, met=0.5, students=100, workshops=20, equal=False, most_fare=999):
         draw = random.Random(seed)
         self.stage = {f'Berg, Åse "{n}"' if n % 7 == 0 else f"Student {n}": draw.randint(1, stages) for n in range(1, students + 1)}
         self.quota = {f"Werkstatt; {n}" if n % 5 == 0 else f"Workshop {n}": draw.randint(0, 7) for n in range(1, workshops + 1)}
         self.couples = {(s, w): None for s in self.stage for w in self.quota if draw.random() < met}
         self.lot = dict(zip(self.stage, random.Random(f"lots {seed}").sample(range(1, 513), students)))
+        fare = random.Random(f"fares {seed}")
+        self.fare = None if most_fare is None else {couple: fare.randint(0, most_fare) for couple in self.couples}
         self.given, self.group, self.line = {}, {}, {}
         for s in self.stage:
             self.rank(draw, s, [w for w in self.quota if (s, w) in self.couples], lambda w: draw.randint(1, 4), draw.randint(2, 5))
@@ -621,6 +712,10 @@ class HiddenYear:
     def marks(self, s, w):
         """What is written after their visit: each mark, or never instead."""
         return [never or self.given[who] for never, who in zip(self.never.get((s, w), ("", "")), ((s, w), (w, s)))]
+
+    def fares(self, couples):
+        """What is said of the fares of these visits."""
+        return NO_FARES if self.fare is None else fares_told(sum(self.fare[couple] for couple in couples))
 
     def prefers(self, who, one, two):
         return self.order[who].index(one) < self.order[who].index(two)
@@ -670,7 +765,9 @@ def write_year(folder, year):
     write_students(folder, year, year.stage)
     write(folder, "workshops.csv", csv_text([("workshop", "quota", "line group")] + [(w, n, year.line[w]) for w, n in year.quota.items()]))
     rows = [(s, w, year.group[s, w], year.group[w, s]) for s, w in year.couples]
-    write(folder, "pairs.csv", csv_text([("student", "workshop", "group from student", "group from workshop")] + rows))
+    head = pairs("") if year.fare is None else FARE_HEAD
+    rows = rows if year.fare is None else [(*row, year.fare[row[:2]]) for row in rows]
+    write(folder, "pairs.csv", head.replace(",", ";") + csv_text(rows))
     write(folder, "visits.csv", csv_text([("student", "workshop", "mark from student", "mark from workshop")]))
 
 
@@ -691,10 +788,12 @@ def placed_by(out, year):
 
 
 def drive(desk_once, folder, year):
-    """Holds visit after visit until the placement comes. The placement, and how many visits."""
+    """Holds visit after visit until the placement comes. The placement, and the visits; after each the fares are those of the visits held."""
     held = set()
     while True:
         status, out, err = desk_once(folder)
+        if year.fares(held) not in out:
+            return out + err, None
         if status == 0 and out.startswith("The placement is finished.\n"):
             return out, held
         couple = asked_for(out, year)
@@ -722,12 +821,14 @@ def whole_year(seed, share, prepare=lambda folder, year: None, **shape):
         status, again, err = desk(folder)
         check(f"year {seed} as a command", (status, again, err) == (0, out, ""), again + err)
         ended = [f"  {s} at {w} (never)" for s, w in held if (s, w) in year.never]
-        listed = [line for line in desk(folder, "--visits")[1].split("\n") if "never" in line]
-        check(f"year {seed} tells what ended in never", sorted(listed) == sorted(ended), str(listed))
+        listed = desk(folder, "--visits")[1].split("\nThe visits:\n")[1].splitlines()
+        check(f"year {seed} tells what ended in never", sorted(line for line in listed if "never" in line) == sorted(ended), str(listed))
+        names = {f"  {s} at {w}": (s, w) for s, w in year.couples}
+        check(f"year {seed} tells the fares of the visits listed", year.fares([names[line.replace(" (never)", "")] for line in listed]) in out, out)
         met = {year.never[couple] for couple in held if couple in year.never}
         check(f"year {seed} meets all kinds of never", len(met) == (len(NEVER_MARKS) if share else 0), str(met))
         print(f"year {seed}: {len(held)} of {len(year.couples)} pairs visited, {len(ended)} ended in never, "
-              f"{sum(w is not None for w in place.values())} of {len(place)} placed")
+              f"{sum(w is not None for w in place.values())} of {len(place)} placed. {year.fares(held)}", end="")
 
 
 def lots_decide(year):
@@ -766,6 +867,8 @@ END = "\nNothing was written. Correct this and run desk.py again.\n"
 VISIT_HEAD = "student,workshop,mark from student,mark from workshop\n"
 RANGE = "it must be a whole number from"
 MISSING = "this mark is missing and the other is there. Fill in both, or none while the visit is not held."
+FARE = "it must be a whole number of pence from 0 to 65535."
+PAIR_HEADINGS = "student, workshop, group from student, group from workshop, fare (may be left out)"
 MARK = f"{RANGE} -1000 to 1000, and not 0, or the word never."
 
 
@@ -835,6 +938,24 @@ WRONG = [
      f'pairs.csv, row 2, column "group from student": "66" is there; {RANGE} 1 to 65.{END}'),
     ("a group of 514", "pairs.csv", pairs("Anna Berg,Dye house,65,514\n"),
      f'pairs.csv, row 2, column "group from workshop": "514" is there; {RANGE} 1 to 513.{END}'),
+    ("a fare of 65536 and of -1", "pairs.csv", FARE_HEAD + "Anna Berg,Dye house,1,1,65536\nAnna Berg,Weaving mill,1,1,-1\n",
+     f'pairs.csv, row 2, column "fare": "65536" is there; {FARE}\npairs.csv, row 3, column "fare": "-1" is there; {FARE}{END}'),
+    ("fares that are no whole numbers", "pairs.csv",
+     FARE_HEAD + "Anna Berg,Dye house,1,1,2.40\nAnna Berg,Weaving mill,1,1,\u00a33\nBen Olsen,Dye house,1,2,never\n",
+     f'pairs.csv, row 2, column "fare": "2.40" is there; {FARE}\npairs.csv, row 3, column "fare": "\u00a33" is there; {FARE}\n'
+     f'pairs.csv, row 4, column "fare": "never" is there; {FARE}{END}'),
+    ("an empty fare", "pairs.csv", FARE_HEAD + "Anna Berg,Dye house,1,1,240\nAnna Berg,Weaving mill,1,1, \nBen Olsen,Dye house,1,2\n",
+     f'pairs.csv, row 3, column "fare": the cell is empty; {FARE} Write 0 where there is nothing to pay.\n'
+     f'pairs.csv, row 4, column "fare": the cell is empty; {FARE} Write 0 where there is nothing to pay.{END}'),
+    ("a fare without its heading", "pairs.csv", pairs("Anna Berg,Dye house,1,1,240\n"),
+     f"pairs.csv, row 2: there are more cells than headings. A name with a comma or semicolon in it needs quotation marks around it.{END}"),
+    ("the fare twice", "pairs.csv", "student,workshop,fare,group from student,group from workshop,Fare\nAnna Berg,Dye house,1,1,1,1\n",
+     'pairs.csv, row 1: the column "fare" is there twice. The headings are student, workshop, fare, group from student, group from workshop, fare; '
+     f"needed are {PAIR_HEADINGS}.\n"),
+    ("a heading of the pairs missing", "pairs.csv", "student,workshop,group from student,fare\n",
+     'pairs.csv, row 1: the column "group from workshop" is missing. The headings are student, workshop, group from student, fare; '
+     f"needed are {PAIR_HEADINGS}.\n"),
+    ("no headings of the pairs", "pairs.csv", "", f"pairs.csv, row 1: the headings are missing: {PAIR_HEADINGS}.\n"),
     ("a visit without its pair", "pairs.csv", pairs("Anna Berg,Dye house,1,1\n"),
      f"visits.csv, row 3: Anna Berg and Weaving mill have no row in pairs.csv.{END}"),
     ("one mark missing", "visits.csv", VISIT_HEAD + "Anna Berg,Dye house,5,\n",
@@ -891,6 +1012,9 @@ ACCEPTED = [
     ("a student's never twice", VISIT_HEAD + "Ben Olsen,Dye house,never,3\nBen Olsen,Weaving mill,never,3\n"),
 ]
 
+TOO_OLD = "is older than desk.py and knows no fares: get the one that belongs to it.\n"
+WITHOUT_FARES = "The answer of `place` ends without the fares. Run desk.py again. Where that does not help, this `place` " + TOO_OLD
+
 # What a program that is not `place` prints, and the message.
 PRINTED = [
     ("refused 3 1", "students.csv, row 3: a number is out of sequence, or a pair names nobody.\n"),
@@ -907,6 +1031,19 @@ PRINTED = [
     ("refused 5 11", "`place` refused the files, number 5: a stage, quota, group or line group is out of range.\n"),
     ("place 1 1", "The answer of `place` was cut off. Run desk.py again.\n"),
     ("next 1 1", "The answer of `place` was cut off. Run desk.py again.\n"),
+    ("next 1 1; echo visits 1; echo fares 0", "The answer of `place` was cut off. Run desk.py again.\n"),
+    ("place 1 1; echo visits 0; echo fares 0", "The answer of `place` was cut off. Run desk.py again.\n"),
+    ("fares 0", "The answer of `place` was cut off. Run desk.py again.\n"),
+    ("next 1 1; echo visits 0", WITHOUT_FARES),
+    ("place 1 1; echo place 2 0; echo place 3 2; echo visits 0", WITHOUT_FARES),
+    ("next 1 1; echo visits 0; printf 'fares 24'", WITHOUT_FARES),
+    *((f"next 1 1; echo visits 0; echo '{line}'", f"`place` printed what desk.py does not know: {line}\n")
+      for line in ("fares", "fares ", "fares x", "fares -1", "fares 2.40", "fares 1 2", "fares 1234567890", "fare 0")),
+    ("next 1 1; echo fares 0; echo visits 0", "`place` printed what desk.py does not know: visits 0\n"),
+    ("next 1 1; echo visits 0; echo fares 0; echo fares 0", "`place` printed what desk.py does not know: fares 0\n"),
+    ("refused 2 5", "pairs.csv, row 2: a kind is not 1 to 3, or a byte that should be zero is not.\n  This row has a fare: this `place` " + TOO_OLD),
+    ("refused 2 9", "pairs.csv, row 6: a kind is not 1 to 3, or a byte that should be zero is not.\n"),
+    ("refused 2 1", "students.csv, row 3: a kind is not 1 to 3, or a byte that should be zero is not.\n"),
 ]
 
 
@@ -1079,6 +1216,8 @@ STAGES_PRINTED = [
     ("refused 5 4", 1, "workshops.csv, row 3: a stage, quota, group or line group is out of range."),
     ("refused 13 1", 1, "students.csv, row 3: a lot is not 1 to 512, or an earlier student has it already."),
     ("refused 2 0", 0, "students.csv, row 2: a kind is not 1 to 3, or a byte that should be zero is not."),
+    ("refused 2 10", 1, "pairs.csv, row 7: a kind is not 1 to 3, or a byte that should be zero is not.\n  This row has a fare: this `stages` "
+     + TOO_OLD.rstrip("\n")),
     ("refused 4 0", 1, "`stages` refused the files, number 4: there is no student, no workshop, or too many of them."),
     ("refused 6 0", 1, "`stages` refused the files, number 6: a buffer of the program is too short."),
     ("refused 99 0", 1, "`stages` refused the files, number 99: desk.py does not know this number."),
@@ -1415,7 +1554,7 @@ def told_steps(err):
 def main():
     NEW_FILES.update(new_files()[0])
     for test in (example_k, guide, never, ends_of_a_visit, nevers_of_a_workshop, lots_drawn, lots_of_many, lots_kept, wrong_lots,
-                 writing_lots, equal_marks, other_spellings, accents, planned_row, unused_visit, stages_note,
+                 writing_lots, equal_marks, fares, fares_column, other_spellings, accents, planned_row, unused_visit, stages_note,
                  withdrawal, too_many_pairs, refusals, other_programs, finding_place, other_folders, stages_of_k, stages_kept, stages_wrong, no_stages,
                  other_stages_programs, finding_stages, writing_stages, open_in_a_spreadsheet):
         in_new_folder(test)
@@ -1425,10 +1564,10 @@ def main():
     only_cells()
     stages_program()
     small_years()
-    whole_year(1, share=0)
+    whole_year(1, share=0, most_fare=None)
     whole_year(2, share=0.3)
     whole_year(3, share=0.3, prepare=work_out, stages=6, met=0.25)
-    whole_year(4, share=0, equal=True)
+    whole_year(4, share=0, equal=True, most_fare=65535)
     whole_year(5, share=0.3, equal=True)
     print(f"{tally['passed']} passed, {tally['failed']} failed")
     return 1 if tally["failed"] else 0

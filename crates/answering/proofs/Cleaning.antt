@@ -4,7 +4,6 @@ use Prim.Native.Nat.{ℕ, zero, suc, _+_, _*_, _-_, _≤_, _<_}
 use mathlib.Core.Path.{_≡_, refl, sym, ap, _∙_}
 use mathlib.Core.Bool.{true, false, not}
 use mathlib.Core.List.{List}
-use mathlib.Core.List.{List·Memᴰ·head as here, List·Memᴰ·tail as later}
 use mathlib.Core.Option.{Option, some, none}
 use native.Mathlib.Omega.{arith}
 use lib.Dec.{eqb, ltb}
@@ -17,11 +16,11 @@ use Rattle.base.proofs.Below.{any-below}
 use Rattle.base.proofs.Search.{first-below, first-passes, scan-none}
 use Rattle.lgs.specs.Market.{allSeats}
 use Rattle.format.specs.Layout.{rows, rowCount, ofKind, entries, entryCount, entryAt, isInterview, isPair, marketOf, resultsOf, endsInNever}
-use Rattle.format.specs.Refusals.{Room, needed, badForm, badOrder, badCounts, badRange, badRoom, badPair, caseCauses, causes}
-use Rattle.format.specs.Causes.{whole}
+use Rattle.format.specs.Refusals.{Room, needed, badForm, badOrder, badCounts, badRange, badRoom, badPair}
 use Rattle.format.specs.Promises.{Valid}
 use Rattle.format.specs.Engine.{marketIn, resultsIn}
-use Rattle.format.proofs.Causes.{passed, room-passes}
+use Rattle.format.proofs.Causes.{passed, counts-pass, room-passes}
+use Rattle.format.proofs.Fares.{fare-small}
 use Rattle.format.proofs.Reading.{Passed, entry-found, entry-at, interview-says}
 use Rattle.records.specs.Records.{pairPlace}
 use Rattle.lookup.specs.Clean.{Clean, EntryAt, indexAt}
@@ -123,6 +122,7 @@ module _ (case book : List ℕ) (c : CleanCase case (marketIn case .students) (m
         student = student-at case (clean case n m c);
         workshop = workshop-at case (clean case n m c);
         pair = pair-at case (clean case n m c);
+        fare = fare-small case bytes;
         named = named-at case (clean case n m c);
         indexed = indexed-at;
         met = λ s w met. rw (index-has s w (met-paired s w met)) (entry-named s w (number s w) refl met);
@@ -155,13 +155,12 @@ enough case book room valid =
     }
 
 clean-case : (case book : List ℕ) (room : Room) → Valid case book room → CleanCase case (marketIn case .students) (marketIn case .workshops)
-unfolding causes caseCauses
 clean-case case book room valid =
     let all : Passed case book = passed case book room valid in
     record {
       form = scan-none (badForm (rows case)) (rowCount case) (all .form);
       order = scan-none (badOrder (rows case)) (rowCount case) (all .order);
-      counts = is-false (badCounts (rows case)) (λ b. valid (4, whole (badCounts (rows case))) (later (later (later (here refl)))) 0 (b, refl));
+      counts = is-false (badCounts (rows case)) (counts-pass case book room valid);
       range = scan-none (badRange (rows case)) (rowCount case) (all .range);
       students = refl;
       workshops = refl;

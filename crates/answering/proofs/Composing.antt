@@ -14,6 +14,7 @@ use Rattle.base.specs.Lists.{upto}
 use Rattle.base.proofs.Members.{map-append}
 use Rattle.lgs.specs.Market.{Market, Results}
 use Rattle.lgs.specs.Rule.{Interview, fuel}
+use Rattle.lgs.specs.Fares.{faresOf}
 use Rattle.lgs.specs.Promises.{pairsIn}
 use Rattle.format.specs.Layout.{rows, marketOf}
 use Rattle.format.specs.Refusals.{Room, refusal}
@@ -24,13 +25,14 @@ use Rattle.format.specs.Promises.{Valid, Refused}
 use Rattle.format.proofs.Causes.{refusal-none, refusal-some, twelve}
 use Rattle.format.proofs.Runs.{wf, distinct, engine-valid}
 use Rattle.format.proofs.PairCount.{pairs-within}
+use Rattle.format.proofs.Fares.{pairs-few}
 use Rattle.format.proofs.Promises.{promised}
 use Rattle.api.specs.declared.StudentState.{StudentState}
 use Rattle.model.specs.declared.Run.{Run}
 use Rattle.model.specs.Turn.{beginRun, runOf}
 use Rattle.api.specs.Answered.{zeroState, lent, Answered}
 use Rattle.model.specs.Ready.{Ready}
-use Rattle.model.proofs.Shows.{Lacking, Stand}
+use Rattle.model.proofs.Shows.{Lacking, Stand, Payable}
 use Rattle.model.proofs.Running.{stands, Ends, stops, finishes, Finished, ends-hand, run-ready, run-is-rule}
 use Rattle.api.specs.declared.Answer.{Answer as Brief}
 use Rattle.api.specs.Answers.{answerFor, valuesOf}
@@ -129,20 +131,29 @@ module _ (case book places visits seats index : List ℕ) (states : List Student
     unfolding marketOf
     fits = omega (arith, pairs-within (rows case), long .visits)
 
+    payable : Payable M
+    payable =
+        record {
+          few = pairs-few M (omega (arith, started .clean .manyStudents, started .clean .students)) few;
+          small = started .clean .fare;
+        }
+
     begins : (j : ℕ) → after j ≡ runOf M B j visits (replicate (length seats) 0) zeros (beginRun M B)
     begins j = rw (prepared .cleared, started .run)
 
     abbrev stand : ℕ → Stand
-    stand j = stands M (wf case book room valid) B (distinct case book room valid) few visits fits (length seats) (length states) (long .seats) (long .states) j
+    stand j =
+        stands M (wf case book room valid) B (distinct case book room valid) few visits fits payable (length seats) (length states) (long .seats)
+        (long .states) j
 
     ready-here : (j : ℕ) → 0 < stand j .run .hand
         → Ready M B (stand j .visits) (stand j .seats) (getD (stand j .states) (stand j .run .hand - 1) zeroState) (stand j .run)
         × (stand j .run .hand ≤ length (stand j .states))
-    ready-here j = run-ready M (wf case book room valid) B (distinct case book room valid) few visits fits (length seats) (length states)
+    ready-here j = run-ready M (wf case book room valid) B (distinct case book room valid) few visits fits payable (length seats) (length states)
         (long .seats) (long .states) j
 
     ends-here : Ends M B visits (stand (fuel M B))
-    ends-here = run-is-rule M (wf case book room valid) B (distinct case book room valid) few visits fits (length seats) (length states) (long .seats)
+    ends-here = run-is-rule M (wf case book room valid) B (distinct case book room valid) few visits fits payable (length seats) (length states) (long .seats)
         (long .states)
 
   -- ---- the run can be taken
@@ -215,24 +226,24 @@ module _ (case book places visits seats index : List ℕ) (states : List Student
       going = eq-eqb (p .cause) 0 (started e .cause)
 
       when-stopped : (s w : ℕ) (vs : List Interview) → Lacking M visits s w vs
-          (record { visits = visits₂; seats = seats₂; states = states₂; run = r }) → Left (next s w vs)
+          (record { visits = visits₂; seats = seats₂; states = states₂; run = r }) → Left (next s w vs (faresOf M vs))
       unfolding answerEnd toPlace answerFor placesAfter visitsAfter
       when-stopped s w vs l =
           let y : eqb (r .workshop) 0 ≡ false = ne-eqb (r .workshop) 0 (λ q. omega (arith, l .workshop, l .real)) in
           record {
-            answer = rw (going, y, l .student, l .workshop, l .count);
+            answer = rw (going, y, l .student, l .workshop, l .count, l .fares);
             canRead = rw (going, y) read-none;
             inPlaces = rw (going, y) places-stay;
             inVisits = l .visits;
           }
 
       when-finished : (q : ℕ → ℕ) (vs : List Interview) → Finished M B visits q vs (record { visits = visits₂; seats = seats₂; states = states₂; run = r })
-          → Left (placed (map q (upto (M .students))) vs)
+          → Left (placed (map q (upto (M .students))) vs (faresOf M vs))
       unfolding answerEnd toPlace answerFor placesAfter visitsAfter
       when-finished q vs f =
           let y : eqb (r .workshop) 0 ≡ true = eq-eqb (r .workshop) 0 (f .workshop) in
           record {
-            answer = rw (going, y, f .count);
+            answer = rw (going, y, f .count, f .fares);
             canRead = rw (going, y) (record {
               manyStates = omega (arith, f .states, many);
               manyPlaces = omega (arith, long e .places, many);
@@ -251,9 +262,9 @@ module _ (case book places visits seats index : List ℕ) (states : List Student
       by-end : Ends M B visits (record { visits = visits₂; seats = seats₂; states = states₂; run = r }) → Left (engine case book room)
       unfolding outcomeOf
       by-end (stops s w vs rule l) =
-          subst Left (sym (engine-valid case book room (valid e) ∙ ap (outcomeOf (M .students)) rule)) (when-stopped s w vs l)
+          subst Left (sym (engine-valid case book room (valid e) ∙ ap (outcomeOf M) rule)) (when-stopped s w vs l)
       by-end (finishes q vs rule f) =
-          subst Left (sym (engine-valid case book room (valid e) ∙ ap (outcomeOf (M .students)) rule)) (when-finished q vs f)
+          subst Left (sym (engine-valid case book room (valid e) ∙ ap (outcomeOf M) rule)) (when-finished q vs f)
 
     outcome : Left (engine case book room)
     outcome = by-refusal (refusal case book room) refl

@@ -35,5 +35,5 @@ pub record CanRead (states : List StudentState) (places : List ℕ) (n : ℕ) : 
 unfoldable pub answerEnd : Prepared → Run → Answer
 answerEnd p r =
     cond (eqb (p .cause) 0)
-    (cond (eqb (r .workshop) 0) (Placed (r .count)) (Next (r .student) (r .workshop) (r .count)))
+    (cond (eqb (r .workshop) 0) (Placed (r .count) (r .fares)) (Next (r .student) (r .workshop) (r .count) (r .fares)))
     (Refused (p .cause) (p .record))

@@ -4,7 +4,7 @@ use mathlib.Core.Path.{_≡_}
 use mathlib.Core.List.{List}
 use mathlib.Core.Option.{Option, some, none}
 use lib.ListN.{length, replicate}
-use Rattle.format.specs.Refusals.{Room, refusal}
+use Rattle.format.specs.Refusals.{refusal}
 use Rattle.format.specs.Engine.{marketIn, resultsIn}
 use Rattle.api.specs.declared.StudentState.{StudentState}
 use Rattle.api.specs.Answered.{roomOf}
@@ -22,7 +22,7 @@ pub record StepReady (case book index table visits seats : List ℕ) (k : Studen
 
 -- a run with nobody in hand, and nothing done
 abbrev pub noRun : Run
-noRun = record { hand = 0; last = 0; lost = 0; count = 0; student = 0; workshop = 0 }
+noRun = record { hand = 0; last = 0; lost = 0; count = 0; student = 0; workshop = 0; fares = 0 }
 
 -- the input is refused: number and place, and there is no run
 pub record Halted (k i : ℕ) (p : Prepared) : Type 0 where

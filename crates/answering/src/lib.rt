@@ -54,6 +54,7 @@ fn no_run() -> Run
         count: 0,
         student: 0,
         workshop: 0,
+        fares: 0,
     }
 }
 
@@ -167,6 +168,8 @@ fn answer_of(p: Prepared, r: Run) -> Answer
 {
     let cause = p.cause;
     let workshop = r.workshop;
+    let visits = r.count;
+    let fares = r.fares;
     if cause > 0 {
         return Answer::Refused {
             cause,
@@ -177,10 +180,11 @@ fn answer_of(p: Prepared, r: Run) -> Answer
         return Answer::Next {
             student: r.student,
             workshop,
-            visits: r.count,
+            visits,
+            fares,
         };
     }
-    Answer::Placed { visits: r.count }
+    Answer::Placed { visits, fares }
 }
 
 // After the run: zeros over the scratch, and the answer.
@@ -194,32 +198,36 @@ pub fn finish(seats: &mut [u16], index: &mut [u16], p: Prepared, r: Run) -> Answ
     answer_of(p, r)
 }
 
-// The answer in four numbers.
+// The answer in five numbers.
 pub fn numbers(answer: Answer) -> Report
     ensures { λ r. ⌜ r ≡ reportOf answer ⌝ }
 {
     match answer {
-        Answer::Placed { visits } => Report {
+        Answer::Placed { visits, fares } => Report {
             kind: 0,
             first: 0,
             second: 0,
             visits: visits as u64,
+            fares: fares as u64,
         },
         Answer::Next {
             student,
             workshop,
             visits,
+            fares,
         } => Report {
             kind: 1,
             first: student as u64,
             second: workshop as u64,
             visits: visits as u64,
+            fares: fares as u64,
         },
         Answer::Refused { cause, record } => Report {
             kind: 2,
             first: cause as u64,
             second: record as u64,
             visits: 0,
+            fares: 0,
         },
     }
 }

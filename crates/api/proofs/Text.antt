@@ -1,18 +1,19 @@
 -- What is printed from the buffers after an answer is the text of that answer.
 -- The head of the visits, read back pair by pair, is the answer's list.
-use Prim.Native.Nat.{ℕ, zero, suc, _+_, _*_, _≤_, _<_}
-use mathlib.Core.Path.{_≡_, refl, sym, ap, _∙_}
+use Prim.Native.Nat.{ℕ, zero, suc, _+_, _*_, _<_}
+use mathlib.Core.Path.{_≡_, refl, ap, _∙_}
 use mathlib.Core.List.{List, [], _∷_, _++_}
 use native.Mathlib.Omega.{arith}
-use lib.ListN.{length, getD, take, drop, length-append, List·getD-append}
+use lib.ListN.{length, getD, drop}
 use lib.Seq.{take-append-seam, ext-getD}
 use Rattle.base.specs.Lists.{tabulate}
 use Rattle.base.proofs.Below.{tabulate-length, tabulate-at}
 use Rattle.lgs.specs.Rule.{Interview}
 use Rattle.format.specs.Engine.{placed, next, refused, Outcome}
-use Rattle.format.specs.Buffers.{flat, withHead, placesAfter, visitsAfter, values}
-use Rattle.format.specs.Printed.{placeLines, visitsText, printed}
-use Rattle.api.specs.Answers.{answerFor, valuesOf}
+use Rattle.format.specs.Buffers.{flat, placesAfter, visitsAfter, values}
+use Rattle.format.specs.Printed.{printed}
+use Rattle.api.specs.declared.Answer.the-variants.{Placed, Next, Refused}
+use Rattle.api.specs.Answers.{answerFor, valuesOf, reportOf, readBack, Reported}
 use Rattle.api.specs.Text.{interviewsAt, textOf}
 
 flat-first : (vs : List Interview) (rest : List ℕ) (i : ℕ) → i < length vs → getD (flat vs ++ rest) (2 * i) 0 ≡ getD vs i (0, 0) .0
@@ -44,22 +45,29 @@ interviews-back vs rest =
 
 -- an answer whose places are those of n students
 abbrev pub PlacesOf : ℕ → Outcome → Type 0
-PlacesOf n (placed places vs) = length places ≡ n
-PlacesOf n (next s w vs) = Unit {0}
+PlacesOf n (placed places vs fares) = length places ≡ n
+PlacesOf n (next s w vs fares) = Unit {0}
 PlacesOf n (refused k i) = Unit {0}
 
 -- the text from the buffers is the answer's text
 pub text-printed : (a : Outcome) (n : ℕ) (places visits : List ℕ) → PlacesOf n a
     → textOf (answerFor a) n (placesAfter a places) (visitsAfter a visits) ≡ printed a
 unfolding textOf answerFor placesAfter visitsAfter printed
-text-printed (placed ps vs) n places visits e =
+text-printed (placed ps vs fares) n places visits e =
     rw (interviews-back vs (drop (length (flat vs)) visits), ← e, take-append-seam ps (drop (length ps) places))
-text-printed (next s w vs) n places visits e = rw (interviews-back vs (drop (length (flat vs)) visits))
+text-printed (next s w vs fares) n places visits e = rw (interviews-back vs (drop (length (flat vs)) visits))
 text-printed (refused k i) n places visits e = refl
 
 -- the enum's values are those of the answer
 pub values-same : (a : Outcome) → valuesOf (answerFor a) ≡ values a
 unfolding valuesOf answerFor values
-values-same (placed ps vs) = refl
-values-same (next s w vs) = refl
+values-same (placed ps vs fares) = refl
+values-same (next s w vs fares) = refl
 values-same (refused k i) = refl
+
+-- and so are those that a host reads
+pub reported : Reported
+unfolding readBack reportOf valuesOf
+reported (Placed count fares) = refl
+reported (Next s w count fares) = refl
+reported (Refused k i) = refl

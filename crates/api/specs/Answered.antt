@@ -32,12 +32,12 @@ module _ (case book places visits seats index : List ℕ) (states : List Student
   -- the buffers at entry are places to states, and those with a prime stand at exit
   pub record Answered (a : Answer) (places′ visits′ seats′ index′ : List ℕ) (states′ : List StudentState) : Type 0 where
     pub answer : a ≡ answerIn
-    -- document 01's number and values
+    -- the number and values of documents 01 and 02
     pub values : valuesOf a ≡ values (engine case book lent)
     pub inPlaces : places′ ≡ placesAfter (engine case book lent) places
     pub inVisits : visits′ ≡ visitsAfter (engine case book lent) visits
     pub inSeats : seats′ ≡ scratchAfter 0 seats
     pub inIndex : index′ ≡ scratchAfter 0 index
     pub inStates : states′ ≡ scratchAfter zeroState states
-    -- demands 2 and 3 of this answer, or the refusal's cause
+    -- demands 2 and 3 and the total of this answer, or the refusal's cause
     pub promised : Promised case book lent (engine case book lent)

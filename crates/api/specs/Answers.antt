@@ -1,27 +1,40 @@
--- The library's answer: document 01's number and values for each case of the enum.
+-- The library's answer: the number and values of documents 01 and 02 for each case of the enum.
 use Prim.Native.Nat.{ℕ}
+use mathlib.Core.Path.{_≡_}
+use mathlib.Core.Bool.{cond}
 use mathlib.Core.List.{List, [], _∷_}
 use lib.ListN.{length}
+use lib.Dec.{eqb}
 use Rattle.format.specs.Engine.{Outcome, placed, next, refused}
 use Rattle.api.specs.declared.Answer.{Answer}
 use Rattle.api.specs.declared.Answer.the-variants.{Placed, Next, Refused}
 use Rattle.api.specs.declared.Report.{Report}
 
--- the enum's case for an outcome: "the visit count", "the pair and the count of visits already done", number and place
+-- the enum's case for an outcome: "the visit count", "the pair and the count of visits already done", of both what these visits cost; number and place
 unfoldable pub answerFor : Outcome → Answer
-answerFor (placed places vs) = Placed (length vs)
-answerFor (next s w vs) = Next s w (length vs)
+answerFor (placed places vs fares) = Placed (length vs) fares
+answerFor (next s w vs fares) = Next s w (length vs) fares
 answerFor (refused k i) = Refused k i
 
--- document 01's values of each case of the enum
+-- the values of each case of the enum
 unfoldable pub valuesOf : Answer → List ℕ
-valuesOf (Placed count) = count ∷ []
-valuesOf (Next s w count) = s ∷ w ∷ count ∷ []
+valuesOf (Placed count fares) = count ∷ fares ∷ []
+valuesOf (Next s w count fares) = s ∷ w ∷ count ∷ fares ∷ []
 valuesOf (Refused k i) = k ∷ i ∷ []
 
--- The answer in four numbers, for a host in another language.
--- Kind 0, a placement: the visit count. Kind 1, a next visit: student, workshop, and the count. Kind 2, a refusal: number and place.
+-- The answer in five numbers, for a host in another language.
+-- Kind 0, a placement: the visit count and the fares. Kind 1, a next visit: student, workshop, the count and the fares. Kind 2, a refusal: number and place.
 unfoldable pub reportOf : Answer → Report
-reportOf (Placed count) = record { kind = 0; first = 0; second = 0; visits = count }
-reportOf (Next student workshop count) = record { kind = 1; first = student; second = workshop; visits = count }
-reportOf (Refused cause place) = record { kind = 2; first = cause; second = place; visits = 0 }
+reportOf (Placed count fares) = record { kind = 0; first = 0; second = 0; visits = count; fares = fares }
+reportOf (Next student workshop count fares) = record { kind = 1; first = student; second = workshop; visits = count; fares = fares }
+reportOf (Refused cause place) = record { kind = 2; first = cause; second = place; visits = 0; fares = 0 }
+
+-- the values as a host reads them by the kind; they are the enum's (`Reported`)
+unfoldable pub readBack : Report → List ℕ
+readBack r =
+    cond (eqb (r .kind) 0)
+    (r .visits ∷ r .fares ∷ [])
+    (cond (eqb (r .kind) 1) (r .first ∷ r .second ∷ r .visits ∷ r .fares ∷ []) (r .first ∷ r .second ∷ []))
+
+abbrev pub Reported : Type 0
+Reported = (a : Answer) → readBack (reportOf a) ≡ valuesOf a

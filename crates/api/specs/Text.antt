@@ -14,6 +14,6 @@ interviewsAt n visits = tabulate (λ i. (getD visits (2 * i) 0, getD visits (2 *
 
 -- the text for the enum's case, with n students, from the buffers
 unfoldable pub textOf : Answer → ℕ → List ℕ → List ℕ → List ℕ
-textOf (Placed count) n places visits = placeLines 1 (take n places) ++ visitsText (interviewsAt count visits)
-textOf (Next s w count) n places visits = lineOf nextWord (s ∷ w ∷ []) ++ visitsText (interviewsAt count visits)
+textOf (Placed count fares) n places visits = placeLines 1 (take n places) ++ visitsText (interviewsAt count visits) fares
+textOf (Next s w count fares) n places visits = lineOf nextWord (s ∷ w ∷ []) ++ visitsText (interviewsAt count visits) fares
 textOf (Refused k i) n places visits = lineOf refusedWord (k ∷ i ∷ [])

@@ -1,14 +1,16 @@
 // What a caller of the engine sees: the answer, the student states that are lent, and the answer in numbers; no code. `specs/` has the contract.
 
-// The engine's answer. The places, and the interviews of which it gives the count, are in the lent buffers.
+// The engine's answer. The places, and the interviews of which it gives the count and what they cost, are in the lent buffers.
 pub enum Answer {
     Placed {
         visits: usize,
+        fares: u32,
     },
     Next {
         student: usize,
         workshop: usize,
         visits: usize,
+        fares: u32,
     },
     Refused {
         cause: usize,
@@ -32,6 +34,7 @@ pub struct Report {
     pub first: u64,
     pub second: u64,
     pub visits: u64,
+    pub fares: u64,
 }
 
 // The answer of the part that works out the stages, which are in the lent buffer.

@@ -1,6 +1,6 @@
 -- From the definitions' lists of records to the code's numbers: `getD`, `take`, `any`, `tally` and a first match of `tabulate f n`, by `f`.
 use Prim.Native.Nat.{ℕ, zero, suc, _+_, _≤_, _<_}
-use mathlib.Core.Path.{_≡_, refl, sym, ap, _∙_}
+use mathlib.Core.Path.{_≡_, refl, sym, _∙_}
 use mathlib.Core.Logic.{⊎-elim}
 use mathlib.Core.Bool.{Bool, true, false, cond, _||_}
 use mathlib.Core.List.{List, [], _∷_, _++_, map}
@@ -200,31 +200,8 @@ unfolding find any
 find-none p d [] e = refl
 find-none p d (x ∷ xs) e = let r : (p x ≡ false) × (any p xs ≡ false) = or-false (p x) _ e in rw (r .0) (find-none p d xs (r .1))
 
--- what a search finds has what the one that stands for nothing has, and every one that passes
-pub find-has : {A : Type 0} (P : A → Type 0) (p : A → Bool) (d : A) → P d → ((x : A) → p x ≡ true → P x) → (xs : List A) → P (find p d xs)
-unfolding find
-find-has P p d q h [] = q
-find-has P p d q h (x ∷ xs) = ⊎-elim (λ (e : p x ≡ true). rw e (h x e)) (λ (e : p x ≡ false). rw e (find-has P p d q h xs)) (bool-cases (p x))
-
--- ---- a list of which every element is changed
-
-pub take-map : {A B : Type 0} (f : A → B) (i : ℕ) (xs : List A) → take i (map f xs) ≡ map f (take i xs)
-take-map f zero xs = refl
-take-map f (suc i) [] = refl
-take-map f (suc i) (x ∷ xs) = ap (λ l. f x ∷ l) (take-map f i xs)
-
--- by a test that does not see the change
+-- in a list of which every element is changed, by a test that does not see the change
 module _ {A : Type 0} (f : A → A) (p : A → Bool) (same : (x : A) → p (f x) ≡ p x) where
-  pub tally-map : (xs : List A) → tally p (map f xs) ≡ tally p xs
-  unfolding tally
-  tally-map [] = refl
-  tally-map (x ∷ xs) = rw (same x, tally-map xs)
-
-  pub any-map : (xs : List A) → any p (map f xs) ≡ any p xs
-  unfolding any
-  any-map [] = refl
-  any-map (x ∷ xs) = rw (same x, any-map xs)
-
   pub find-map : (d : A) → f d ≡ d → (xs : List A) → find p d (map f xs) ≡ f (find p d xs)
   unfolding find
   find-map d e [] = sym e

@@ -6,4 +6,5 @@ pub mod Below
 pub mod Signed
 pub mod Digits
 pub mod Grid
+pub mod Sums
 pub mod Coding

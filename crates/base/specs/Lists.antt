@@ -55,6 +55,11 @@ unfoldable pub tally : {A : Type 0} → (A → Bool) → List A → ℕ
 tally p [] = 0
 tally p (x ∷ xs) = one (p x) + tally p xs
 
+-- the sum of f over the elements
+unfoldable pub sumOf : {A : Type 0} → (A → ℕ) → List A → ℕ
+sumOf f [] = 0
+sumOf f (x ∷ xs) = f x + sumOf f xs
+
 -- the first element that passes, or d
 unfoldable pub find : {A : Type 0} → (A → Bool) → A → List A → A
 find p d [] = d

@@ -15,11 +15,15 @@ ghost use Rattle.case_tests.specs.Scans.{badRow};
 fn has_unnamed(r: Row) -> bool
     ensures { λ v. ⌜ v ≡ any (λ x. not (eqb x 0)) (unnamed (rowOf r)) ⌝ }
 {
-    let last = (r.fifth != 0) | ((r.sixth != 0) | (r.seventh != 0));
-    if r.kind == 2 {
-        return (r.pad != 0) | ((r.fourth != 0) | last);
+    let last = (r.sixth != 0) | (r.seventh != 0);
+    if r.kind == 3 {
+        return (r.pad != 0) | last;
     }
-    (r.pad != 0) | last
+    let late = (r.fifth != 0) | last;
+    if r.kind == 2 {
+        return (r.pad != 0) | ((r.fourth != 0) | late);
+    }
+    (r.pad != 0) | late
 }
 
 // 2: kind not 1 to 3, or a byte that should be zero.

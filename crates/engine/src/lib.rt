@@ -191,7 +191,7 @@ pub fn place_alone(
     )
 }
 
-// `place` for a host in another language: a slice is a pointer and a length, and the answer is four numbers.
+// `place` for a host in another language: a slice is a pointer and a length, and the answer is five numbers.
 #[no_mangle]
 pub extern "C" fn lgs_place(
     case: &[u8],

@@ -60,10 +60,10 @@ module _ (case book : List ℕ) (room : Room) where
     where
       by-answer : (a : Outcome) → engine case book room ≡ a → 2 * length (interviewsOf (engine case book room)) ≤ needed (rows case) .visits
           → Kept a (needed (rows case) .places) places visits
-      by-answer (placed l vs) e fits =
+      by-answer (placed l vs fares) e fits =
           let r : (needed (rows case) .places ≤ room .places) × (needed (rows case) .visits ≤ room .visits) =
-          enough (when-placed case book room l vs e .valid) in
-          let n : length l ≤ needed (rows case) .places = heads-fit .whenPlaced case book room l vs e in
+          enough (when-placed case book room l vs fares e .valid) in
+          let n : length l ≤ needed (rows case) .places = heads-fit .whenPlaced case book room l vs fares e in
           let m : 2 * length vs ≤ needed (rows case) .visits = rw e at fits in
           let k : length (flat vs) ≡ 2 * length vs = flat-length vs in
           record {
@@ -72,9 +72,9 @@ module _ (case book : List ℕ) (room : Room) where
             visitsLength = head-length (flat vs) visits (omega arith);
             visitsPast = λ i u. past-head (flat vs) visits i (omega arith);
           }
-      by-answer (next s w vs) e fits =
+      by-answer (next s w vs fares) e fits =
           let r : (needed (rows case) .places ≤ room .places) × (needed (rows case) .visits ≤ room .visits) =
-          enough (when-next case book room s w vs e .valid) in
+          enough (when-next case book room s w vs fares e .valid) in
           let m : 2 * length vs ≤ needed (rows case) .visits = rw e at fits in
           let k : length (flat vs) ≡ 2 * length vs = flat-length vs in
           record {

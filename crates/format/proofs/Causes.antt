@@ -16,7 +16,7 @@ use Rattle.base.proofs.Tests.{never, or-left, or-right}
 use Rattle.base.proofs.Search.{scan-none, scan-found, first-below, first-passes, first-fails, none-fails}
 use Rattle.format.specs.Layout.{rows, entries, rowCount, entryCount}
 use Rattle.format.specs.Causes.{Test, whole, each, Cause, finds, firstCause, First, Finds, NothingFound, FoundFirst}
-use Rattle.format.specs.Refusals.{Room, badForm, badOrder, badRange, badLot, badRoom, badPair, badScores, badRepeat, badTie}
+use Rattle.format.specs.Refusals.{Room, badForm, badOrder, badRange, badLot, badCounts, badRoom, badPair, badScores, badRepeat, badTie}
 use Rattle.format.specs.Refusals.{caseCauses, roomCauses, bookCauses, causes, refusal}
 use Rattle.format.specs.Promises.{Valid, Refused, Twelve}
 use Rattle.format.proofs.Reading.{Passed}
@@ -207,6 +207,10 @@ module _ (case book : List ℕ) (room : Room) where
       where
         in-book : {c : Cause} → Mem c (bookCauses case book) → Mem c (causes case book room)
         in-book m = later (later (later (later (later (later (later m))))))
+
+    pub counts-pass : badCounts (rows case) ≡ true → ⊥
+    unfolding causes caseCauses roomCauses bookCauses
+    counts-pass b = valid (4, whole (badCounts (rows case))) (later (later (later (here refl)))) 0 (b, refl)
 
     pub room-passes : badRoom (rows case) room ≡ true → ⊥
     unfolding causes caseCauses roomCauses bookCauses

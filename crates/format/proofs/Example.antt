@@ -19,7 +19,7 @@ use Rattle.format.specs.Engine.{placed, engine}
 use Rattle.format.specs.Promises.{Example, Preferred}
 use Rattle.format.specs.Encoding.{words, rowBytes, caseBytes}
 use Rattle.format.specs.Table.{caseOf, studentsK, workshopsK, pairsK, caseWith, K, bookK, visitsK, answerK, neverK, answerNeverK, exact}
-use Rattle.format.specs.Table.{bookOf, bookWith, tiedK, answerTiedK, TablesHold}
+use Rattle.format.specs.Table.{bookOf, bookWith, tiedK, answerTiedK, faresK, tensK, answerPaidK, TablesHold}
 use Rattle.format.proofs.Positions.{pair-says}
 use Rattle.format.proofs.Table.{computed}
 
@@ -104,27 +104,45 @@ unfolding someDiffer meets differ marketOf rows rowAt word any find tally tabula
     workshopsK pairsK
 agrees-k = refl
 
+-- with fares
+agrees-tens : someDiffer (rows tensK) ≡ false
+unfolding someDiffer meets differ marketOf rows rowAt word any find tally tabulate tensK faresK caseOf flatMap caseBytes rowBytes words studentsK workshopsK
+agrees-tens = refl
+
 -- a run on it that lists K's visits, one of them of a pair that is not placed
-on-k : (book places : List ℕ)
-    → engine K book exact ≡ placed places visitsK
+on-k : (case book places : List ℕ) (fares : ℕ)
+    → someDiffer (rows case) ≡ false
+    → engine case book exact ≡ placed places visitsK fares
     → (s : ℕ) × (w : ℕ) × (interviewed visitsK s w ≡ true) × (matchingOf places s ≡ w → ⊥)
-    → Example K book exact
-on-k book places answer unplaced =
-    record { places = places; interviews = visitsK; answer = answer; consistent = stages-agree (rows K) agrees-k; listedUnplaced = unplaced }
+    → Example case book exact
+on-k case book places fares agrees answer unplaced =
+    record {
+      places = places;
+      interviews = visitsK;
+      fares = fares;
+      answer = answer;
+      consistent = stages-agree (rows case) agrees;
+      listedUnplaced = unplaced;
+    }
 
 pub example-k : Example K bookK exact
 unfolding answerK visitsK interviewed any
-example-k = on-k bookK (1 ∷ 0 ∷ 2 ∷ []) (computed .exactly) (1, 2, refl, λ e. omega arith)
+example-k = on-k K bookK (1 ∷ 0 ∷ 2 ∷ []) 0 agrees-k (computed .exactly) (1, 2, refl, λ e. omega arith)
 
 -- two of the visits ended in never
 pub example-never-k : Example K neverK exact
 unfolding answerNeverK visitsK interviewed any
-example-never-k = on-k neverK (1 ∷ 0 ∷ 0 ∷ []) (computed .exactlyNever) (2, 2, refl, λ e. omega arith)
+example-never-k = on-k K neverK (1 ∷ 0 ∷ 0 ∷ []) 0 agrees-k (computed .exactlyNever) (2, 2, refl, λ e. omega arith)
 
 -- two of the visits brought equal marks of a workshop
 pub example-tied-k : Example K tiedK exact
 unfolding answerTiedK visitsK interviewed any
-example-tied-k = on-k tiedK (1 ∷ 2 ∷ 0 ∷ []) (computed .exactlyTied) (3, 2, refl, λ e. omega arith)
+example-tied-k = on-k K tiedK (1 ∷ 2 ∷ 0 ∷ []) 0 agrees-k (computed .exactlyTied) (3, 2, refl, λ e. omega arith)
+
+-- the visits cost something
+pub example-fares-k : Example tensK bookK exact
+unfolding answerPaidK visitsK interviewed any
+example-fares-k = on-k tensK bookK (1 ∷ 0 ∷ 2 ∷ []) 21011 agrees-tens (computed .exactlyPaid) (1, 2, refl, λ e. omega arith)
 
 -- of students 2 and 3 of its group 2, with equal marks, workshop 2 prefers 2, who has the lower lot
 preferred-k : Preferred K tiedK 2 2 3
@@ -135,4 +153,12 @@ preferred-k =
 
 -- ---- the tables of proved cases
 pub tables-hold : TablesHold
-tables-hold = record { computed = computed; agreeing = example-k; agreeingNever = example-never-k; agreeingLots = example-tied-k; parted = preferred-k }
+tables-hold =
+    record {
+      computed = computed;
+      agreeing = example-k;
+      agreeingNever = example-never-k;
+      agreeingLots = example-tied-k;
+      agreeingFares = example-fares-k;
+      parted = preferred-k;
+    }

@@ -6,6 +6,9 @@ pub mod Causes
 pub mod PairCount
 pub mod Books
 pub mod Runs
+pub mod Alike
+pub mod Unpriced
+pub mod Fares
 pub mod Promises
 pub mod Heads
 pub mod Buffers

@@ -9,7 +9,8 @@
 --   workshop-found      the record of workshop w is record n + w - 1; quota-at, workshop-outside-at: its quota and outside tier stand there
 --   pair-from           a pair stands at n + m or after; pair-names: it names a student and a workshop of the market
 --   pairs-rise          of two pairs the first is lower, by student and then workshop; pair-only: no pair has two records
---   pair-found          the record of a pair is the one that names it, wherever it was found; student-tier-at, workshop-tier-at: its tiers stand there
+--   pair-found          the record of a pair is the one that names it, wherever it was found; student-tier-at, workshop-tier-at,
+--                       fare-at: its tiers and its fare stand there
 --   pair-there          the market has the pair
 -- Of the first i records, if these pass (a scan for cause 3 has come to record i):
 --   student-known, workshop-known   a student (workshop) with this number stands before i exactly if the number is from 1 to how many do
@@ -338,3 +339,7 @@ module _ (case : List ℕ) where
     unfolding marketOf
     workshop-tier-at zero w i l e = absurd (omega (arith, pair-says 0 w (rowAt case i) e .1, pair-names i l (pair-says 0 w (rowAt case i) e .0) .0 .0))
     workshop-tier-at (suc s) w i l e = ap (λ r. r .fourth) (pair-found (suc s) w i l e)
+
+    pub fare-at : (s w i : ℕ) → i < rowCount case → isPair s w (rowAt case i) ≡ true → marketIn case .fare s w ≡ rowAt case i .fifth
+    unfolding marketOf
+    fare-at s w i l e = ap (λ r. r .fifth) (pair-found s w i l e)

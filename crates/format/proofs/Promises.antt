@@ -15,6 +15,7 @@ use Rattle.base.proofs.Tests.{and-make, or-right, is-false}
 use Rattle.lgs.specs.Market.{Market, Results, outscored}
 use Rattle.lgs.specs.Profiles.{Profile, StudentOptimal, Fits, flip}
 use Rattle.lgs.specs.Rule.{Interview, Step, going, stopped, finished, interviewed, below}
+use Rattle.lgs.specs.Fares.{faresOf}
 use Rattle.lgs.specs.Promises.{Listed, Placed, NextInterview, interviewsIn}
 use Rattle.lgs.proofs.Valid.{by-lower-score, by-higher-lot, outscored-apart}
 use Rattle.lgs.proofs.Sides.{real}
@@ -35,6 +36,7 @@ use Rattle.format.proofs.Lots.{lot-range, lots-apart}
 use Rattle.format.proofs.Reading.{clean}
 use Rattle.format.proofs.Causes.{refusal-some, refusal-none, passed}
 use Rattle.format.proofs.Runs.{rule, wf, distinct, ends, engine-valid, Finished, Stopped, when-placed, when-next, placed-promise, next-promise}
+use Rattle.format.proofs.Fares.{told}
 use Rattle.format.proofs.Books.{extends, agree-listed}
 use Rattle.format.proofs.PairCount.{pairs-within}
 
@@ -46,7 +48,7 @@ pub demand1 : Demand1
 unfolding engine outcomeUnless ruleOutcome outcomeOf
 demand1 case book room = by-refusal (refusal case book room) refl
   where
-    answered : Valid case book room → (x : Step) → rule case book room ≡ x → ByRule case book (outcomeOf (marketIn case .students) x)
+    answered : Valid case book room → (x : Step) → rule case book room ≡ x → ByRule case book (outcomeOf (marketIn case) x)
     answered valid (finished p vs) e = withPlaces p vs e
     answered valid (stopped s w vs) e = withNext s w vs e
     answered valid (going σ) e = absurd (run-ends case book room valid σ e)
@@ -71,16 +73,16 @@ fits-listed case book O vs met F =
     revealed-fits (marketIn case) (resultsIn book) O O (interviewed vs) met F (reveals-itself (marketIn case) O (interviewed vs) (F .strict) (F .tiers))
 
 -- the interviews that an answer lists are those of the run
-lists : (n : ℕ) (x : Step) → interviewsOf (outcomeOf n x) ≡ interviewsIn x
+lists : (M : Market) (x : Step) → interviewsOf (outcomeOf M x) ≡ interviewsIn x
 unfolding outcomeOf
-lists n (finished p vs) = refl
-lists n (stopped s w vs) = refl
-lists n (going σ) = refl
+lists M (finished p vs) = refl
+lists M (stopped s w vs) = refl
+lists M (going σ) = refl
 
 module _ (case book : List ℕ) (room : Room) where
-  placed-demand : (places : List ℕ) (vs : List Interview) → Finished case book room places vs → Demand2Placed case book places vs
-  placed-demand places vs f =
-      let P : Placed (marketIn case) (resultsIn book) places vs = placed-promise case book room places vs f in
+  placed-demand : (places : List ℕ) (vs : List Interview) (fares : ℕ) → Finished case book room places vs fares → Demand2Placed case book places vs
+  placed-demand places vs fares f =
+      let P : Placed (marketIn case) (resultsIn book) places vs = placed-promise case book room places vs fares f in
       record {
         whole = P .whole;
         optimal = λ O F. P .optimal .optimal O (fits-listed case book O vs (P .minimal .listed .answered) F);
@@ -89,27 +91,29 @@ module _ (case book : List ℕ) (room : Room) where
         listed = P .minimal .listed;
       }
 
-  next-demand : (s w : ℕ) (vs : List Interview) → Stopped case book room s w vs → Demand2Next case book room s w vs
+  next-demand : (s w : ℕ) (vs : List Interview) (fares : ℕ) → Stopped case book room s w vs fares → Demand2Next case book room s w vs
   unfolding resultsOf
-  next-demand s w vs f =
-      let N : NextInterview (marketIn case) (resultsIn book) s w vs = next-promise case book room s w vs f in
+  next-demand s w vs fares f =
+      let N : NextInterview (marketIn case) (resultsIn book) s w vs = next-promise case book room s w vs fares f in
       record {
         rule = f .run;
         stops = N;
         first = λ book′ valid′ more met.
-            rw (engine-valid case book′ room valid′, lists (marketIn case .students) (rule case book′ room))
+            rw (engine-valid case book′ room valid′, lists (marketIn case) (rule case book′ room))
             (N .first (resultsIn book′) (extends case book book′ (passed case book′ room valid′) more) met);
       }
 
 pub demand2 : Demand2
 demand2 =
     record {
-      whenPlaced = λ case book room places vs e. placed-demand case book room places vs (when-placed case book room places vs e);
-      whenNext = λ case book room s w vs e. next-demand case book room s w vs (when-next case book room s w vs e);
+      whenPlaced = λ case book room places vs fares e. placed-demand case book room places vs fares (when-placed case book room places vs fares e);
+      whenNext = λ case book room s w vs fares e. next-demand case book room s w vs fares (when-next case book room s w vs fares e);
     }
 
 pub demand3 : Demand3
-demand3 case book room places vs e = placed-promise case book room places vs (when-placed case book room places vs e) .minimal
+demand3 case book room places vs fares e =
+    let f : Finished case book room places vs fares = when-placed case book room places vs fares e in
+    rw (f .cost) (placed-promise case book room places vs fares f .minimal)
 
 -- ---- the demands of one answer
 pub promised : (case book : List ℕ) (room : Room) → Promised case book room (engine case book room)
@@ -132,9 +136,14 @@ promised case book room = by-answer (engine case book room) refl
         rw (same-number, same-place) at r
 
     by-answer : (a : Outcome) → engine case book room ≡ a → Promised case book room a
-    by-answer (placed places vs) e =
-        (when-placed case book room places vs e .valid, demand2 .whenPlaced case book room places vs e, demand3 case book room places vs e)
-    by-answer (next s w vs) e = (when-next case book room s w vs e .valid, demand2 .whenNext case book room s w vs e)
+    by-answer (placed places vs fares) e = (
+      when-placed case book room places vs fares e .valid,
+      demand2 .whenPlaced case book room places vs fares e,
+      demand3 case book room places vs fares e,
+      rw e at (told case book room),
+    )
+    by-answer (next s w vs fares) e =
+        (when-next case book room s w vs fares e .valid, demand2 .whenNext case book room s w vs fares e, rw e at (told case book room))
     by-answer (refused k i) e = when-refused k i e (demand1 case book room)
 
 -- ---- that these say something
@@ -147,34 +156,35 @@ optimal-exists case book room valid O strict tiers =
     (r .0, r .1, λ ν best s. optimal-unique (marketIn case) O strict ν (r .0) best (r .1) s)
 
 module _ (case book book′ : List ℕ) (room : Room) (valid′ : Valid case book′ room) where
-  placed-again : (places : List ℕ) (vs : List Interview) → Finished case book room places vs → SameListed vs book book′
-      → engine case book′ room ≡ placed places vs
+  placed-again : (places : List ℕ) (vs : List Interview) (fares : ℕ) → Finished case book room places vs fares → SameListed vs book book′
+      → engine case book′ room ≡ placed places vs fares
   unfolding outcomeOf
-  placed-again places vs f same =
-      let P : Placed (marketIn case) (resultsIn book) places vs = placed-promise case book room places vs f in
+  placed-again places vs fares f same =
+      let P : Placed (marketIn case) (resultsIn book) places vs = placed-promise case book room places vs fares f in
       let run′ : rule case book′ room ≡ finished (f .matching) vs =
       unlisted-finished (marketIn case) (resultsIn book) (resultsIn book′) (f .matching) vs (f .run)
       (agree-listed case book book′ (passed case book′ room valid′) vs (P .minimal .listed .answered) same) in
-      rw (engine-valid case book′ room valid′, run′) (ap (λ l. placed l vs) (sym (f .whole)))
+      rw (engine-valid case book′ room valid′, run′) (rw (f .cost) (ap (λ l. placed l vs (faresOf (marketIn case) vs)) (sym (f .whole))))
 
-  next-again : (s w : ℕ) (vs : List Interview) → Stopped case book room s w vs → SameListed vs book book′ → resultsIn book′ .met s w ≡ false
-      → engine case book′ room ≡ next s w vs
+  next-again : (s w : ℕ) (vs : List Interview) (fares : ℕ) → Stopped case book room s w vs fares → SameListed vs book book′
+      → resultsIn book′ .met s w ≡ false
+      → engine case book′ room ≡ next s w vs fares
   unfolding outcomeOf
-  next-again s w vs f same unmet =
-      let N : NextInterview (marketIn case) (resultsIn book) s w vs = next-promise case book room s w vs f in
+  next-again s w vs fares f same unmet =
+      let N : NextInterview (marketIn case) (resultsIn book) s w vs = next-promise case book room s w vs fares f in
       let run′ : rule case book′ room ≡ stopped s w vs =
       unlisted-stopped (marketIn case) (resultsIn book) (resultsIn book′) s w vs (f .run)
       (agree-listed case book book′ (passed case book′ room valid′) vs (N .listed .answered) same) unmet in
-      rw (engine-valid case book′ room valid′, run′)
+      rw (engine-valid case book′ room valid′, run′, f .cost)
 
 pub unlisted-unused : UnlistedUnused
 unfolding resultsOf
 unlisted-unused =
     record {
-      whenPlaced = λ case book book′ room places vs e valid′ same.
-          placed-again case book book′ room valid′ places vs (when-placed case book room places vs e) same;
-      whenNext = λ case book book′ room s w vs e valid′ same unmet.
-          next-again case book book′ room valid′ s w vs (when-next case book room s w vs e) same unmet;
+      whenPlaced = λ case book book′ room places vs fares e valid′ same.
+          placed-again case book book′ room valid′ places vs fares (when-placed case book room places vs fares e) same;
+      whenNext = λ case book book′ room s w vs fares e valid′ same unmet.
+          next-again case book book′ room valid′ s w vs fares (when-next case book room s w vs fares e) same unmet;
     }
 
 module _ (case book : List ℕ) (room : Room) where
@@ -183,19 +193,20 @@ module _ (case book : List ℕ) (room : Room) where
   listed-within valid vs L = omega (arith, listed-length (marketIn case) (wf case book room valid) (resultsIn book) vs L, pairs-within (rows case))
 
   answer-within : (a : Outcome) → engine case book room ≡ a → length (interviewsOf a) ≤ tally (ofKind 3) (rows case)
-  answer-within (placed places vs) e =
-      let f : Finished case book room places vs = when-placed case book room places vs e in
-      listed-within (f .valid) vs (placed-promise case book room places vs f .minimal .listed)
-  answer-within (next s w vs) e =
-      let f : Stopped case book room s w vs = when-next case book room s w vs e in
-      listed-within (f .valid) vs (next-promise case book room s w vs f .listed)
+  answer-within (placed places vs fares) e =
+      let f : Finished case book room places vs fares = when-placed case book room places vs fares e in
+      listed-within (f .valid) vs (placed-promise case book room places vs fares f .minimal .listed)
+  answer-within (next s w vs fares) e =
+      let f : Stopped case book room s w vs fares = when-next case book room s w vs fares e in
+      listed-within (f .valid) vs (next-promise case book room s w vs fares f .listed)
   answer-within (refused k i) e = omega arith
 
 pub heads-fit : HeadsFit
 unfolding needed
 heads-fit =
     record {
-      whenPlaced = λ case book room places vs e. omega (arith, placed-promise case book room places vs (when-placed case book room places vs e) .whole);
+      whenPlaced = λ case book room places vs fares e.
+          omega (arith, placed-promise case book room places vs fares (when-placed case book room places vs fares e) .whole);
       anyway = λ case book room. omega (arith, answer-within case book room (engine case book room) refl);
     }
 

@@ -1,27 +1,27 @@
 -- What is promised of the part that works out the stages. Its answer comes about in one of four ways (`Way`), by the causes of the case, the room lent,
 -- and whether there are least stages.
-use Prim.Native.Nat.{ℕ, zero, suc, _*_, _≤_, _<_}
-use mathlib.Core.Path.{_≡_, refl, sym, ap, _∙_}
+use Prim.Native.Nat.{ℕ, _≤_, _<_}
+use mathlib.Core.Path.{_≡_, refl, sym, _∙_}
 use mathlib.Core.Logic.{⊎-elim}
-use mathlib.Core.Bool.{cond}
-use mathlib.Core.List.{List, [], _∷_, _++_, map}
+use mathlib.Core.List.{List, [], _∷_, _++_}
 use mathlib.Core.List.{List·Memᴰ·head as here, Memᴰ·append-left as in-left, Memᴰ·append-right as in-right}
 use mathlib.Core.Option.{Option, some, none}
 use native.Mathlib.Omega.{arith}
 use lib.Dec.{ltb}
-use lib.ListN.{length, replicate}
+use lib.ListN.{length}
 use borrow.Author.Tests.{lt-ltb, le-ltb}
-use Rattle.base.specs.Lists.{any, upto}
+use Rattle.base.specs.Lists.{any}
 use Rattle.base.proofs.Tests.{less?}
 use Rattle.lgs.specs.Market.{Market, ConsistentStages}
-use Rattle.lgs.specs.Stages.{stageOf, matters, asked, raised, moves, settled, leastStages, FromOne, LeastStages, NoStages}
+use Rattle.lgs.specs.Stages.{stageOf, leastStages, FromOne, LeastStages, NoStages}
 use Rattle.lgs.proofs.Valid.{WellFormed}
+use Rattle.lgs.proofs.Unpriced.{least-same}
 use Rattle.lgs.proofs.Stages.{least-given, least-none, least-is, none-is, only-stages, outside}
 use Rattle.format.specs.Causes.{Cause, firstCause, whole, NothingFound}
 use Rattle.format.specs.Refusals.{caseCauses}
 use Rattle.format.specs.Engine.{marketIn}
 use Rattle.format.specs.Stages.{StagesOutcome, staged, unstaged, noneAgree, stagesRoomCauses, stagesCauses, stagesUnless, workOut}
-use Rattle.format.specs.Stages.{restaged, stagesAfter, marketWith, StagesPromised, SixExactly, TwelveExactly, OnlyStages, EightCauses, FileStagesUnread}
+use Rattle.format.specs.Stages.{restaged, stagesAfter, StagesPromised, SixExactly, TwelveExactly, OnlyStages, EightCauses, FileStagesUnread}
 use Rattle.format.specs.Stages.{StagesKept, LentStagesKept}
 use Rattle.format.proofs.Causes.{table-none, none-table, table-some, first-left, first-right, other-number}
 use Rattle.format.proofs.Buffers.{head-length, past-head}
@@ -199,17 +199,6 @@ only = only-stages
 
 -- ---- the stages in the file
 
--- the least stages do not go by the market's own
-module _ (M : Market) (own : List ℕ) where
-  settled-same : (k : ℕ) (xs : List ℕ) → settled (marketWith M own) k xs ≡ settled M k xs
-  unfolding settled moves raised asked matters
-  settled-same zero xs = refl
-  settled-same (suc k) xs = ap (λ o. cond (moves M xs) o (some xs)) (settled-same k (map (raised M xs) (upto (M .students))))
-
-  least-same : leastStages (marketWith M own) ≡ leastStages M
-  unfolding leastStages
-  least-same = settled-same (suc (M .students * M .students)) (replicate (M .students) 1)
-
 -- where the case's causes find nothing the answer goes by the market
 abbrev byMarket : Market → ℕ → StagesOutcome
 byMarket M room =
@@ -222,7 +211,8 @@ by-market case room nothing = rw (first-right (caseCauses case) _ (none-table (c
 pub file-stages-unread : FileStagesUnread
 file-stages-unread case room stages nothing sized range =
     by-market (restaged stages case) room (new-nothing case stages nothing sized fromOne few)
-    ∙ rw (new-market case stages nothing sized fromOne few, least-same (marketIn case) stages) (sym (by-market case room nothing))
+    ∙ rw (new-market case stages nothing sized fromOne few, least-same (marketIn case) (stageOf stages) (marketIn case .fare))
+    (sym (by-market case room nothing))
   where
     fromOne : FromOne (marketIn case) (stageOf stages)
     fromOne s l u = range s l u .0

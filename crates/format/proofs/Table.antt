@@ -2,12 +2,13 @@
 -- Shown by computation, from the bytes to the answer. Also: exact and short buffers, the printed text of K, and the least stages.
 use mathlib.Core.Path.{refl}
 use mathlib.Core.List.{flatMap}
-use Rattle.base.specs.Lists.{count, total, largest, upto, tabulate, keep, any, tally, find, pick, update}
+use Rattle.base.specs.Lists.{count, total, largest, upto, tabulate, keep, any, tally, sumOf, find, pick, update}
 use Rattle.base.specs.Search.{firstBad}
 use Rattle.base.specs.Words.{word, signed}
 use Rattle.lgs.specs.Market.{allSeats, seatsOf, outscored}
 use Rattle.lgs.specs.Rule.{interviewed, insert, byStage, start, declined, unopened, open?, choices, due, holders, below, lowestOf, best}
 use Rattle.lgs.specs.Rule.{interviewAll, close, settle, apply, turn, step, run, fuel, lazyGaleShapley}
+use Rattle.lgs.specs.Fares.{faresOf}
 use Rattle.lgs.specs.Stages.{matters, asked, raised, moves, settled, leastStages}
 use Rattle.format.specs.Layout.{rowAt, rows, unnamed, marketOf, entryAt, entries, resultsOf}
 use Rattle.format.specs.Refusals.{badForm, kindFalls, badNumber, notRising, namesNobody, badOrder, badCounts, badStudent, badWorkshop}
@@ -21,11 +22,12 @@ use Rattle.format.specs.Stages.{noneAgree, stagesRoomCauses, stagesCause
 use Rattle.format.specs.Table.{Computed, caseOf, bookOf, studentsK, workshopsK, pairsK, caseWith, bookWith, K, bookK, visitsK, answerK, table}
 use Rattle.format.specs.Table.{ownTable, ample, exact, shortRooms, people, countsRefused, buffersAfter, buffersExpected, texts, textsExpected}
 use Rattle.format.specs.Table.{neverTable, neverK, answerNeverK, tiedK, answerTiedK, lotsK, lotsTable, given, expected}
-use Rattle.format.specs.Table.{twoRounds, twoRoundsBook, secondChoice}
+use Rattle.format.specs.Table.{twoRounds, twoRoundsBook, secondChoice, faresK, tensK, answerPaidK, faresTable}
 use Rattle.format.specs.Table.{wished, crossed, stagedK, stagesTable, stagesGiven, stagesExpected, stagesLeft, stagesLeftExpected}
 
 pub computed : Computed
 unfolding given expected table ownTable neverTable neverK answerNeverK tiedK answerTiedK lotsK twoRounds twoRoundsBook secondChoice lotsTable
+    faresK tensK answerPaidK faresTable faresOf sumOf
     ample exact shortRooms people countsRefused buffersAfter buffersExpected
     flat placesAfter visitsAfter values
     texts textsExpected unread words rowBytes caseBytes flatMap caseOf bookOf studentsK workshopsK pairsK caseWith bookWith K bookK visitsK answerK
@@ -42,10 +44,12 @@ computed =
       own = refl;
       nevers = refl;
       lots = refl;
+      fares = refl;
       counts = refl;
       exactly = refl;
       exactlyNever = refl;
       exactlyTied = refl;
+      exactlyPaid = refl;
       shortly = refl;
       lotFirst = refl;
       buffers = refl;

@@ -5,19 +5,20 @@ use mathlib.Core.Option.{Option, some, none}
 use Rattle.base.specs.Lists.{upto}
 use Rattle.lgs.specs.Market.{Market, Results}
 use Rattle.lgs.specs.Rule.{Interview, Step, going, stopped, finished, lazyGaleShapley}
+use Rattle.lgs.specs.Fares.{faresOf}
 use Rattle.format.specs.Layout.{rows, entries, marketOf, resultsOf}
 use Rattle.format.specs.Refusals.{Room, refusal}
 
 pub data Outcome : Type 0 where
-  placed : List ℕ → List Interview → Outcome  -- the places of students 1 to n, and the interviews
-  next : ℕ → ℕ → List Interview → Outcome  -- the next interview, and the interviews done
+  placed : List ℕ → List Interview → ℕ → Outcome  -- the places of students 1 to n, the interviews, and what they cost
+  next : ℕ → ℕ → List Interview → ℕ → Outcome  -- the next interview, the interviews done, and what these cost
   refused : ℕ → ℕ → Outcome  -- number and place
 
--- What a run of the rule with n students answers. The rule is never still going after its last step (`RunEnds`), so that line is never used.
-unfoldable pub outcomeOf : ℕ → Step → Outcome
-outcomeOf n (finished p vs) = placed (map p (upto n)) vs
-outcomeOf n (stopped s w vs) = next s w vs
-outcomeOf n (going σ) = placed (map (σ .held) (upto n)) (σ .interviews)
+-- What a run of the rule on the market answers. The rule is never still going after its last step (`RunEnds`), so that line is never used.
+unfoldable pub outcomeOf : Market → Step → Outcome
+outcomeOf M (finished p vs) = placed (map p (upto (M .students))) vs (faresOf M vs)
+outcomeOf M (stopped s w vs) = next s w vs (faresOf M vs)
+outcomeOf M (going σ) = placed (map (σ .held) (upto (M .students))) (σ .interviews) (faresOf M (σ .interviews))
 
 abbrev pub marketIn : List ℕ → Market
 marketIn case = marketOf (rows case)
@@ -27,7 +28,7 @@ resultsIn book = resultsOf (entries book)
 
 -- what the staged rule answers on a market and results
 unfoldable pub ruleOutcome : Market → Results → Outcome
-ruleOutcome M B = outcomeOf (M .students) (lazyGaleShapley M B)
+ruleOutcome M B = outcomeOf M (lazyGaleShapley M B)
 
 unfoldable pub outcomeUnless : Option (ℕ × ℕ) → Market → Results → Outcome
 outcomeUnless (some r) M B = refused (r .0) (r .1)

@@ -13,7 +13,8 @@ use Rattle.lgs.specs.Market.{Market, Results}
 -- "Byte 0 is the kind, byte 1 is zero, then 16-bit fields from byte 2."
 --   kind 1, student:  first = number,   second = stage,    third = line group, fourth = lot (document 02, Paper 3)
 --   kind 2, workshop: first = number,   second = quota,    third = line group
---   kind 3, pair:     first = student,  second = workshop, third = the student's group for the workshop, fourth = the workshop's for the student
+--   kind 3, pair:     first = student,  second = workshop, third = the student's group for the workshop, fourth = the workshop's for the student,
+--                     fifth = fare in pence (document 02, Paper 4)
 pub record Row : Type 0 where
   pub kind : ℕ
   pub pad : ℕ  -- byte 1
@@ -55,12 +56,13 @@ noRow =
 abbrev pub ofKind : ℕ → Row → Bool
 ofKind k r = eqb (r .kind) k
 
--- "bytes not named are zero": byte 1 and the fields that a record of its kind does not name
+-- "bytes not named are zero": byte 1 and the fields that a record of its kind does not name. Of a pair's fare "number 2 no longer tests them" (document 02,
+-- Paper 4), nor of a student's lot (Paper 3).
 unfoldable pub unnamed : Row → List ℕ
 unnamed r =
     cond (ofKind 2 r)
     (r .pad ∷ r .fourth ∷ r .fifth ∷ r .sixth ∷ r .seventh ∷ [])
-    (r .pad ∷ r .fifth ∷ r .sixth ∷ r .seventh ∷ [])
+    (cond (ofKind 3 r) (r .pad ∷ r .sixth ∷ r .seventh ∷ []) (r .pad ∷ r .fifth ∷ r .sixth ∷ r .seventh ∷ []))
 
 -- the record of student s
 abbrev pub isStudent : ℕ → Row → Bool
@@ -93,6 +95,7 @@ marketOf rs =
       lot = λ s. find (isStudent s) noRow rs .fourth;
       quota = λ w. find (isWorkshop w) noRow rs .second;
       paired = λ s w. any (isPair s w) rs;
+      fare = λ s w. find (isPair s w) noRow rs .fifth;
       studentTier = λ s. outsideElse (find (isStudent s) noRow rs .third) (λ w. find (isPair s w) noRow rs .third);
       workshopTier = λ w. outsideElse (find (isWorkshop w) noRow rs .third) (λ s. find (isPair s w) noRow rs .fourth);
     }

@@ -35,6 +35,9 @@ visitsWord = ascii "visits"
 abbrev pub visitWord : List ℕ
 visitWord = ascii "visit"
 
+abbrev pub faresWord : List ℕ
+faresWord = ascii "fares"
+
 abbrev pub nextWord : List ℕ
 nextWord = ascii "next"
 
@@ -62,14 +65,14 @@ unfoldable pub visitLines : List Interview → List ℕ
 visitLines [] = []
 visitLines (v ∷ vs) = lineOf visitWord (v .0 ∷ v .1 ∷ []) ++ visitLines vs
 
--- The line with the count, and then a line for each visit. A line after the visits lines would stand here.
-unfoldable pub visitsText : List Interview → List ℕ
-visitsText vs = lineOf visitsWord (length vs ∷ []) ++ visitLines vs
+-- The line with the count, then a line for each visit, and "a last line `fares` with a total after the visits lines" (document 02, Paper 4).
+unfoldable pub visitsText : List Interview → ℕ → List ℕ
+visitsText vs fares = lineOf visitsWord (length vs ∷ []) ++ visitLines vs ++ lineOf faresWord (fares ∷ [])
 
 -- "A stopped run prints `next` with the pair, then the visits lines. A refusal prints `refused` with number and place."
 unfoldable pub printed : Outcome → List ℕ
-printed (placed places vs) = placeLines 1 places ++ visitsText vs
-printed (next s w vs) = lineOf nextWord (s ∷ w ∷ []) ++ visitsText vs
+printed (placed places vs fares) = placeLines 1 places ++ visitsText vs fares
+printed (next s w vs fares) = lineOf nextWord (s ∷ w ∷ []) ++ visitsText vs fares
 printed (refused k i) = lineOf refusedWord (k ∷ i ∷ [])
 
 -- "if one is missing or longer it prints only `unread`"

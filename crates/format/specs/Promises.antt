@@ -1,19 +1,22 @@
 -- The three demands, for every case and book in bytes and every room lent, and what shows that they are not empty. The proofs are in
 -- proofs/Promises.antt.
-use Prim.Native.Nat.{ℕ, suc, _+_, _-_, _*_, _≤_, _<_}
-use mathlib.Core.Bool.{true, false}
+use Prim.Native.Nat.{ℕ, suc, _+_, _-_, _*_, _/_, _%_, _≤_, _<_}
+use mathlib.Core.Bool.{Bool, true, false, cond, _&&_, _||_}
 use mathlib.Core.Path.{_≡_}
 use mathlib.Core.Logic.{_⊎_}
 use mathlib.Core.List.{List, [], _∷_, _++_, map}
 use mathlib.Core.List.{List·Memᴰ as Mem}
 use lib.ListN.{length, getD, take}
-use Rattle.base.specs.Lists.{upto, any}
+use lib.Dec.{eqb}
+use Rattle.base.specs.Lists.{upto, any, sumOf}
 use Rattle.base.specs.Words.{word}
 use Rattle.lgs.specs.Market.{ConsistentStages}
 use Rattle.lgs.specs.Profiles.{Profile, StrictProfile, RespectsTiers, Fits, StudentOptimal}
 use Rattle.lgs.specs.Rule.{Interview, interviewed, State, below, going, stopped, finished, lazyGaleShapley}
 use Rattle.lgs.specs.Promises.{Listed, OptimalWhateverUnseen, MinimalInterviews, NextInterview, Begins, matchingOf}
-use Rattle.format.specs.Layout.{Entry, rows, entries, isInterview}
+use Rattle.lgs.specs.Fares.{faresOf}
+use Rattle.format.specs.Layout.{Row, Entry, rowAt, rowCount, rows, ofKind, entries, isInterview}
+use Rattle.format.specs.Encoding.{Bytes}
 use Rattle.format.specs.Causes.{Cause, NothingFound, FoundFirst}
 use Rattle.format.specs.Refusals.{Room, needed, caseCauses, causes}
 use Rattle.format.specs.Engine.{placed, next, refused, engine, marketIn, resultsIn, Outcome}
@@ -42,10 +45,10 @@ Twelve =
 pub data ByRule (case book : List ℕ) : Outcome → Type 0 where
   withPlaces : (p : ℕ → ℕ) (vs : List Interview)
       → lazyGaleShapley (marketIn case) (resultsIn book) ≡ finished p vs
-      → ByRule case book (placed (map p (upto (marketIn case .students))) vs)
+      → ByRule case book (placed (map p (upto (marketIn case .students))) vs (faresOf (marketIn case) vs))
   withNext : (s w : ℕ) (vs : List Interview)
       → lazyGaleShapley (marketIn case) (resultsIn book) ≡ stopped s w vs
-      → ByRule case book (next s w vs)
+      → ByRule case book (next s w vs (faresOf (marketIn case) vs))
 
 -- the rule's steps do not run out
 abbrev pub RunEnds : Type 0
@@ -74,8 +77,8 @@ ExtendsBook book book′ = (e : Entry) → Mem e (entries book) → Mem e (entri
 
 -- the interviews that an answer lists
 abbrev pub interviewsOf : Outcome → List Interview
-interviewsOf (placed places vs) = vs
-interviewsOf (next s w vs) = vs
+interviewsOf (placed places vs fares) = vs
+interviewsOf (next s w vs fares) = vs
 interviewsOf (refused k i) = []
 
 -- a finished placement
@@ -103,19 +106,19 @@ pub record Demand2Next (case book : List ℕ) (room : Room) (s w : ℕ) (vs : Li
       → Begins (vs ++ ((s, w) ∷ [])) (interviewsOf (engine case book′ room))
 
 pub record Demand2 : Type 0 where
-  pub whenPlaced : (case book : List ℕ) (room : Room) (places : List ℕ) (vs : List Interview)
-      → engine case book room ≡ placed places vs
+  pub whenPlaced : (case book : List ℕ) (room : Room) (places : List ℕ) (vs : List Interview) (fares : ℕ)
+      → engine case book room ≡ placed places vs fares
       → Demand2Placed case book places vs
-  pub whenNext : (case book : List ℕ) (room : Room) (s w : ℕ) (vs : List Interview)
-      → engine case book room ≡ next s w vs
+  pub whenNext : (case book : List ℕ) (room : Room) (s w : ℕ) (vs : List Interview) (fares : ℕ)
+      → engine case book room ≡ next s w vs fares
       → Demand2Next case book room s w vs
 
--- ---- Demand 3: of "every finished run"; the smallest list where the stages agree.
+-- ---- Demand 3: of "every finished run"; where the stages agree the smallest list, and nobody who is sure, and has visited all placed pairs, pays less.
 abbrev pub Demand3 : Type 0
 Demand3 =
-    (case book : List ℕ) (room : Room) (places : List ℕ) (vs : List Interview)
-    → engine case book room ≡ placed places vs
-    → MinimalInterviews (marketIn case) (resultsIn book) places vs
+    (case book : List ℕ) (room : Room) (places : List ℕ) (vs : List Interview) (fares : ℕ)
+    → engine case book room ≡ placed places vs fares
+    → MinimalInterviews (marketIn case) (resultsIn book) places vs fares
 
 -- ---- Lots (document 02, Paper 3).
 
@@ -193,6 +196,55 @@ pub record LotsPart : Type 0 where
       → Preferred case book w s t
       → O .workshopRank w s < O .workshopRank w t
 
+-- ---- Fares (document 02, Paper 4).
+
+-- "the sum of the fares of exactly the listed pairs, read from the case": the fares in the pair records whose pair is listed
+unfoldable pub faresRead : List Row → List Interview → ℕ
+faresRead rs vs = sumOf (λ (r : Row). cond (ofKind 3 r && interviewed vs (r .first) (r .second)) (r .fifth) 0) rs
+
+-- the fare in record i, if it is a pair's: "bytes 10 and 11 of a pair record"
+abbrev pub fareAt : List ℕ → ℕ → ℕ
+fareAt case i = word case (16 * i + 10)
+
+-- the total that an answer tells; a refusal tells none
+abbrev pub faresTold : Outcome → ℕ
+faresTold (placed places vs fares) = fares
+faresTold (next s w vs fares) = fares
+faresTold (refused k i) = 0
+
+-- byte k is one of "bytes 10 and 11 of a pair record"
+abbrev pub ofFare : List ℕ → ℕ → Bool
+ofFare case k = eqb (getD case (16 * (k / 16)) 0) 3 && (eqb (k % 16) 10 || eqb (k % 16) 11)
+
+-- the second case has other fares, and else, byte for byte, what the first has
+pub record OtherFares (case case′ : List ℕ) : Type 0 where
+  pub long : length case′ ≡ length case
+  pub bytes : (k : ℕ) → ofFare case k ≡ false → getD case′ k 0 ≡ getD case k 0
+
+-- an answer but for the total
+abbrev pub untold : Outcome → Outcome
+untold (placed places vs fares) = placed places vs 0
+untold (next s w vs fares) = next s w vs 0
+untold (refused k i) = refused k i
+
+pub record FaresExactly : Type 0 where
+  -- record i of a valid case, if it is a pair's, has this pair's fare
+  pub bytes : (case book : List ℕ) (room : Room)
+      → Valid case book room
+      → (i : ℕ)
+      → i < rowCount case
+      → ofKind 3 (rowAt case i) ≡ true
+      → marketIn case .fare (rowAt case i .first) (rowAt case i .second) ≡ fareAt case i
+  -- "The total equals the sum", in every answer
+  pub total : (case book : List ℕ) (room : Room)
+      → faresTold (engine case book room) ≡ faresRead (rows case) (interviewsOf (engine case book room))
+  -- "any 16-bit number, and number 2 no longer tests them": with other fares only the total changes
+  pub free : (case case′ book : List ℕ) (room : Room)
+      → OtherFares case case′
+      → untold (engine case′ book room) ≡ untold (engine case book room)
+  -- it fits 32 bits
+  pub fits : (case book : List ℕ) (room : Room) → Bytes case → faresTold (engine case book room) ≤ 32768 * 65535
+
 -- ---- That these say something.
 
 -- a valid book has a full order that fits the groups and the book
@@ -221,22 +273,22 @@ SameListed vs book book′ =
     → Mem e (entries book′)
 
 pub record UnlistedUnused : Type 0 where
-  pub whenPlaced : (case book book′ : List ℕ) (room : Room) (places : List ℕ) (vs : List Interview)
-      → engine case book room ≡ placed places vs
+  pub whenPlaced : (case book book′ : List ℕ) (room : Room) (places : List ℕ) (vs : List Interview) (fares : ℕ)
+      → engine case book room ≡ placed places vs fares
       → Valid case book′ room
       → SameListed vs book book′
-      → engine case book′ room ≡ placed places vs
-  pub whenNext : (case book book′ : List ℕ) (room : Room) (s w : ℕ) (vs : List Interview)
-      → engine case book room ≡ next s w vs
+      → engine case book′ room ≡ placed places vs fares
+  pub whenNext : (case book book′ : List ℕ) (room : Room) (s w : ℕ) (vs : List Interview) (fares : ℕ)
+      → engine case book room ≡ next s w vs fares
       → Valid case book′ room
       → SameListed vs book book′
       → any (isInterview s w) (entries book′) ≡ false
-      → engine case book′ room ≡ next s w vs
+      → engine case book′ room ≡ next s w vs fares
 
 -- what an answer puts into the buffers fits the needed lengths
 pub record HeadsFit : Type 0 where
-  pub whenPlaced : (case book : List ℕ) (room : Room) (places : List ℕ) (vs : List Interview)
-      → engine case book room ≡ placed places vs
+  pub whenPlaced : (case book : List ℕ) (room : Room) (places : List ℕ) (vs : List Interview) (fares : ℕ)
+      → engine case book room ≡ placed places vs fares
       → length places ≤ needed (rows case) .places
   pub anyway : (case book : List ℕ) (room : Room)
       → 2 * length (interviewsOf (engine case book room)) ≤ needed (rows case) .visits
@@ -257,15 +309,19 @@ BuffersKept =
 
 -- ---- The demands of one answer, for a contract: what holds of it, whichever it is.
 abbrev pub Promised : List ℕ → List ℕ → Room → Outcome → Type 0
-Promised case book room (placed places vs) =
-    Valid case book room × Demand2Placed case book places vs × MinimalInterviews (marketIn case) (resultsIn book) places vs
-Promised case book room (next s w vs) = Valid case book room × Demand2Next case book room s w vs
+Promised case book room (placed places vs fares) =
+    Valid case book room
+    × Demand2Placed case book places vs
+    × MinimalInterviews (marketIn case) (resultsIn book) places vs fares
+    × (fares ≡ faresRead (rows case) vs)
+Promised case book room (next s w vs fares) = Valid case book room × Demand2Next case book room s w vs × (fares ≡ faresRead (rows case) vs)
 Promised case book room (refused k i) = Refused case book room k i
 
 -- a case and a book with agreeing stages and a finished run that lists more than the placed pairs
 pub record Example (case book : List ℕ) (room : Room) : Type 0 where
   pub places : List ℕ
   pub interviews : List Interview
-  pub answer : engine case book room ≡ placed places interviews
+  pub fares : ℕ
+  pub answer : engine case book room ≡ placed places interviews fares
   pub consistent : ConsistentStages (marketIn case) (marketIn case .stage)
   pub listedUnplaced : (s : ℕ) × (w : ℕ) × (interviewed interviews s w ≡ true) × (matchingOf places s ≡ w → ⊥)

@@ -10,14 +10,14 @@ use lib.Dec.{ltb}
 use Rattle.lgs.specs.Market.{Market, ConsistentStages}
 use Rattle.lgs.specs.Rule.{Interview}
 use Rattle.lgs.specs.Stages.{stageOf, leastStages, LeastStages, NoStages}
-use Rattle.lgs.specs.Promises.{Smallest}
+use Rattle.lgs.specs.Promises.{Smallest, Cheapest}
 use Rattle.format.specs.Layout.{Row, rows, ofKind}
 use Rattle.format.specs.Causes.{Cause, whole, firstCause, NothingFound, FoundFirst}
 use Rattle.format.specs.Encoding.{caseBytes, Bytes}
 use Rattle.format.specs.Refusals.{Room, caseCauses}
 use Rattle.format.specs.Engine.{placed, engine, marketIn, resultsIn}
 use Rattle.format.specs.Buffers.{withHead}
-use Rattle.format.specs.Promises.{Valid, FirstWrongLot}
+use Rattle.format.specs.Promises.{Valid, FirstWrongLot, OtherFares}
 
 pub data StagesOutcome : Type 0 where
   staged : List ℕ → StagesOutcome  -- the stages of students 1 to n
@@ -95,6 +95,7 @@ marketWith M stages =
       lot = M .lot;
       quota = M .quota;
       paired = M .paired;
+      fare = M .fare;
       studentTier = M .studentTier;
       workshopTier = M .workshopTier;
     }
@@ -110,11 +111,14 @@ pub record ShortList (case stages : List ℕ) : Type 0 where
   -- valid where the case was, and the same market but for the stages
   pub valid : (book : List ℕ) (lent : Room) → Valid case book lent → Valid (restaged stages case) book lent
   pub market : marketIn (restaged stages case) ≡ marketWith (marketIn case) stages
-  -- the stages agree, and so the list of a finished run is the smallest
+  -- the stages agree, and so the list of a finished run is the smallest, and nobody who is sure, and has visited all placed pairs, pays less
   pub agree : ConsistentStages (marketIn (restaged stages case)) (marketIn (restaged stages case) .stage)
-  pub smallest : (book : List ℕ) (lent : Room) (places : List ℕ) (vs : List Interview)
-      → engine (restaged stages case) book lent ≡ placed places vs
+  pub smallest : (book : List ℕ) (lent : Room) (places : List ℕ) (vs : List Interview) (fares : ℕ)
+      → engine (restaged stages case) book lent ≡ placed places vs fares
       → Smallest (marketIn (restaged stages case)) (resultsIn book) places vs
+  pub cheapest : (book : List ℕ) (lent : Room) (places : List ℕ) (vs : List Interview) (fares : ℕ)
+      → engine (restaged stages case) book lent ≡ placed places vs fares
+      → Cheapest (marketIn (restaged stages case)) (resultsIn book) places fares
 
 -- what holds of an answer, whichever it is; the stages are within cause 5's range, up to 512, so that they can be written into a case
 abbrev pub StagesPromised : List ℕ → ℕ → StagesOutcome → Type 0
@@ -164,6 +168,10 @@ pub record StagesThirteenExactly : Type 0 where
 abbrev pub EightCauses : Type 0
 EightCauses =
     (case : List ℕ) (room : ℕ) → map (λ (c : Cause). c .0) (stagesCauses case room) ≡ 1 ∷ 2 ∷ 3 ∷ 4 ∷ 5 ∷ 13 ∷ 6 ∷ 12 ∷ []
+
+-- fares change no stage and no refusal of the part (document 02, Paper 4)
+abbrev pub FaresUnread : Type 0
+FaresUnread = (case case′ : List ℕ) (room : ℕ) → OtherFares case case′ → workOut case′ room ≡ workOut case room
 
 -- "The stages in the file are only checked for range": in a case that 1 to 5 and 13 pass, any others within it give the same answer
 abbrev pub FileStagesUnread : Type 0

@@ -56,6 +56,14 @@ f4 a b c d = a ∷ b ∷ c ∷ d ∷ []
 abbrev pub numbered : ℕ → ℕ → ℕ → List ℕ
 numbered n stage line = f4 n stage line n
 
+-- ---- answers whose visits cost nothing: document 01's, and most of ours
+
+abbrev pub placedFree : List ℕ → List Interview → Outcome
+placedFree places vs = placed places vs 0
+
+abbrev pub nextFree : ℕ → ℕ → List Interview → Outcome
+nextFree s w vs = next s w vs 0
+
 -- ---- example K, with what its variants change: the quotas, and the line group of workshop 2
 
 unfoldable pub studentsK : List (List ℕ)
@@ -88,11 +96,11 @@ unfoldable pub visitsK : List Interview
 visitsK = (1, 1) ∷ (1, 2) ∷ (2, 2) ∷ (3, 2) ∷ []
 
 unfoldable pub answerK : Outcome
-answerK = placed (1 ∷ 0 ∷ 2 ∷ []) visitsK
+answerK = placedFree (1 ∷ 0 ∷ 2 ∷ []) visitsK
 
 -- to equal marks of workshop 2 for 2 and 3, of whom 2 has the lower lot: "the one for 11 becomes places 1, 2, 0"
 unfoldable pub answerTiedK : Outcome
-answerTiedK = placed (1 ∷ 2 ∷ 0 ∷ []) visitsK
+answerTiedK = placedFree (1 ∷ 2 ∷ 0 ∷ []) visitsK
 
 -- a case, a book, and the answer to them
 pub record Sample : Type 0 where
@@ -108,14 +116,14 @@ sample case book answer = record { case = case; book = book; answer = answer }
 unfoldable pub table : List Sample
 table =
     sample K bookK answerK
-    ∷ sample K [] (next 1 1 [])
-    ∷ sample K (take 16 bookK) (next 2 2 ((1, 1) ∷ (1, 2) ∷ []))
-    ∷ sample K (bookWith 5 4 7 4 6) (placed (1 ∷ 2 ∷ 0 ∷ []) visitsK)
-    ∷ sample K (bookWith 5 4 1 (neg 4) 6) (placed (1 ∷ 2 ∷ 0 ∷ []) visitsK)
-    ∷ sample (caseWith 0 1 3) bookK (placed (2 ∷ 0 ∷ 0 ∷ []) ((1, 2) ∷ []))
-    ∷ sample (caseWith 1 2 3) bookK (placed (1 ∷ 2 ∷ 2 ∷ []) visitsK)
-    ∷ sample (caseOf studentsK (workshopsK 1 1 3) []) [] (placed (0 ∷ 0 ∷ 0 ∷ []) [])
-    ∷ sample (caseWith 1 1 2) (bookWith 5 4 1 4 (neg 6)) (placed (1 ∷ 2 ∷ 0 ∷ []) visitsK)
+    ∷ sample K [] (nextFree 1 1 [])
+    ∷ sample K (take 16 bookK) (nextFree 2 2 ((1, 1) ∷ (1, 2) ∷ []))
+    ∷ sample K (bookWith 5 4 7 4 6) (placedFree (1 ∷ 2 ∷ 0 ∷ []) visitsK)
+    ∷ sample K (bookWith 5 4 1 (neg 4) 6) (placedFree (1 ∷ 2 ∷ 0 ∷ []) visitsK)
+    ∷ sample (caseWith 0 1 3) bookK (placedFree (2 ∷ 0 ∷ 0 ∷ []) ((1, 2) ∷ []))
+    ∷ sample (caseWith 1 2 3) bookK (placedFree (1 ∷ 2 ∷ 2 ∷ []) visitsK)
+    ∷ sample (caseOf studentsK (workshopsK 1 1 3) []) [] (placedFree (0 ∷ 0 ∷ 0 ∷ []) [])
+    ∷ sample (caseWith 1 1 2) (bookWith 5 4 1 4 (neg 6)) (placedFree (1 ∷ 2 ∷ 0 ∷ []) visitsK)
     ∷ sample K (bookWith 5 1 1 4 6) answerK
     ∷ sample K tiedK answerTiedK
     ∷ sample K (bookWith 1000 4 1 4 6) answerK
@@ -133,37 +141,37 @@ oneEach s w pairs = caseOf (s ∷ []) (w ∷ []) pairs
 unfoldable pub ownTable : List Sample
 ownTable =
     -- a negative mark outside the line group closes nothing
-    sample (oneEach (numbered 1 1 1) (f3 1 1 2) (f4 1 1 1 1 ∷ [])) (bookOf (f4 1 1 1 (neg 1) ∷ [])) (placed (1 ∷ []) ((1, 1) ∷ []))
+    sample (oneEach (numbered 1 1 1) (f3 1 1 2) (f4 1 1 1 1 ∷ [])) (bookOf (f4 1 1 1 (neg 1) ∷ [])) (placedFree (1 ∷ []) ((1, 1) ∷ []))
     -- a workshop with a free seat is deleted for nobody
     ∷ sample (caseOf (numbered 1 1 1 ∷ numbered 2 1 1 ∷ []) (f3 1 2 2 ∷ []) (f4 1 1 1 1 ∷ f4 2 1 1 2 ∷ [])) (bookOf (f4 1 1 1 1 ∷ []))
-    (next 2 1 ((1, 1) ∷ []))
+    (nextFree 2 1 ((1, 1) ∷ []))
     -- marks of two groups are not compared
     ∷ sample (caseOf (numbered 1 1 2 ∷ numbered 2 1 2 ∷ []) (f3 1 1 3 ∷ []) (f4 1 1 1 2 ∷ f4 2 1 1 1 ∷ [])) (bookOf (f4 1 1 1 5 ∷ f4 2 1 1 1 ∷ []))
-    (placed (0 ∷ 1 ∷ []) ((1, 1) ∷ (2, 1) ∷ []))
+    (placedFree (0 ∷ 1 ∷ []) ((1, 1) ∷ (2, 1) ∷ []))
     -- the next group is opened only when nothing is open; groups may have gaps
     ∷ sample (caseOf (numbered 1 1 9 ∷ []) (f3 1 1 2 ∷ f3 2 1 2 ∷ []) (f4 1 1 3 1 ∷ f4 1 2 7 1 ∷ [])) (bookOf (f4 1 1 (neg 5) 1 ∷ []))
-    (placed (1 ∷ []) ((1, 1) ∷ []))
+    (placedFree (1 ∷ []) ((1, 1) ∷ []))
     -- stages come before numbers
-    ∷ sample (caseOf (numbered 1 2 2 ∷ numbered 2 1 2 ∷ []) (f3 1 2 3 ∷ []) (f4 1 1 1 1 ∷ f4 2 1 1 1 ∷ [])) [] (next 2 1 [])
+    ∷ sample (caseOf (numbered 1 2 2 ∷ numbered 2 1 2 ∷ []) (f3 1 2 3 ∷ []) (f4 1 1 1 1 ∷ f4 2 1 1 1 ∷ [])) [] (nextFree 2 1 [])
     -- a mark below 0 of the student in her line group leaves her without a place, and the visit stays on the list
-    ∷ sample (oneEach (numbered 1 1 1) (f3 1 1 1) (f4 1 1 1 1 ∷ [])) (bookOf (f4 1 1 (neg 1) 1 ∷ [])) (placed (0 ∷ []) ((1, 1) ∷ []))
+    ∷ sample (oneEach (numbered 1 1 1) (f3 1 1 1) (f4 1 1 1 1 ∷ [])) (bookOf (f4 1 1 (neg 1) 1 ∷ [])) (placedFree (0 ∷ []) ((1, 1) ∷ []))
     -- a workshop's mark below 0 in its line group is a no
-    ∷ sample (oneEach (numbered 1 1 1) (f3 1 1 1) (f4 1 1 1 1 ∷ [])) (bookOf (f4 1 1 1 (neg 1) ∷ [])) (placed (0 ∷ []) ((1, 1) ∷ []))
+    ∷ sample (oneEach (numbered 1 1 1) (f3 1 1 1) (f4 1 1 1 1 ∷ [])) (bookOf (f4 1 1 1 (neg 1) ∷ [])) (placedFree (0 ∷ []) ((1, 1) ∷ []))
     -- a workshop beyond the student's line is never visited, nor a student beyond the workshop's line
-    ∷ sample (oneEach (numbered 1 1 1) (f3 1 1 1) (f4 1 1 2 1 ∷ [])) [] (placed (0 ∷ []) [])
-    ∷ sample (oneEach (numbered 1 1 1) (f3 1 1 1) (f4 1 1 1 2 ∷ [])) [] (placed (0 ∷ []) [])
+    ∷ sample (oneEach (numbered 1 1 1) (f3 1 1 1) (f4 1 1 2 1 ∷ [])) [] (placedFree (0 ∷ []) [])
+    ∷ sample (oneEach (numbered 1 1 1) (f3 1 1 1) (f4 1 1 1 2 ∷ [])) [] (placedFree (0 ∷ []) [])
     -- a dropped student is in hand next
     ∷ sample
     (caseOf (numbered 1 1 3 ∷ numbered 2 1 3 ∷ numbered 3 1 3 ∷ []) (f3 1 1 2 ∷ f3 2 1 2 ∷ []) (f4 1 1 1 1 ∷ f4 1 2 2 1 ∷ f4 2 1 1 1 ∷ f4 3 2 1 1 ∷ []))
     (bookOf (f4 1 1 1 1 ∷ f4 1 2 1 1 ∷ f4 2 1 1 2 ∷ f4 3 2 1 2 ∷ []))
-    (placed (0 ∷ 1 ∷ 2 ∷ []) ((1, 1) ∷ (2, 1) ∷ (1, 2) ∷ (3, 2) ∷ []))
+    (placedFree (0 ∷ 1 ∷ 2 ∷ []) ((1, 1) ∷ (2, 1) ∷ (1, 2) ∷ (3, 2) ∷ []))
     -- a stop inside a group keeps its visits
-    ∷ sample K (take 8 bookK) (next 1 2 ((1, 1) ∷ []))
+    ∷ sample K (take 8 bookK) (nextFree 1 2 ((1, 1) ∷ []))
     -- a student's equal marks in two groups are fine
     ∷ sample K (bookOf (f4 1 1 5 3 ∷ f4 1 2 2 4 ∷ f4 2 2 (neg 1) 1 ∷ f4 3 1 4 9 ∷ f4 3 2 4 6 ∷ [])) answerK
     -- the ends of the ranges are allowed
     ∷ sample (oneEach (numbered 1 512 65) (f3 1 512 513) (f4 1 1 65 513 ∷ [])) (bookOf (f4 1 1 (neg 1000) (neg 1000) ∷ []))
-    (placed (0 ∷ []) ((1, 1) ∷ []))
+    (placedFree (0 ∷ []) ((1, 1) ∷ []))
     -- refusals that the fifteen lack, at the first record
     ∷ sample (oneEach (numbered 1 1 1) (1 ∷ 1 ∷ 1 ∷ 7 ∷ []) []) [] (refused 2 1)
     ∷ sample (caseBytes (rowWith 4 (f3 1 1 1) ∷ [])) [] (refused 2 0)
@@ -178,13 +186,21 @@ ownTable =
     ∷ sample (oneEach (numbered 1 1 1) (f3 1 1 1) []) (bookOf (f4 1 1 1 1 ∷ [])) (refused 8 0)
     ∷ sample K (bookOf (f4 1 1 5 3 ∷ f4 1 2 2 0 ∷ [])) (refused 9 1)
     ∷ sample K (bookOf (f4 1 1 5 3 ∷ f4 1 1 4 2 ∷ [])) (refused 10 1)
-    -- byte 1, and bytes 10 to 15; bytes 8 and 9 of a workshop stand above
+    -- byte 1, and bytes 10 to 15, of a pair 12 to 15; bytes 8 and 9 of a workshop stand above
     ∷ sample (1 ∷ 1 ∷ words (numbered 1 1 1) ++ replicate 6 0) [] (refused 2 0)
-    ∷ sample (oneEach (numbered 1 1 1) (f3 1 1 1) ((1 ∷ 1 ∷ 1 ∷ 1 ∷ 1 ∷ []) ∷ [])) [] (refused 2 2)
+    ∷ sample (caseBytes (rowWith 1 (numbered 1 1 1) ∷ []) ++ (2 ∷ 1 ∷ words (f3 1 1 1) ++ replicate 8 0)) [] (refused 2 1)
+    ∷ sample (oneEach (numbered 1 1 1) (f3 1 1 1) [] ++ (3 ∷ 1 ∷ words (f4 1 1 1 1) ++ replicate 6 0)) [] (refused 2 2)
+    ∷ sample (oneEach (1 ∷ 1 ∷ 1 ∷ 1 ∷ 0 ∷ 1 ∷ []) (f3 1 1 1) []) [] (refused 2 0)
+    ∷ sample (oneEach (numbered 1 1 1) (1 ∷ 1 ∷ 1 ∷ 0 ∷ 0 ∷ 1 ∷ []) []) [] (refused 2 1)
+    ∷ sample (oneEach (numbered 1 1 1) (1 ∷ 1 ∷ 1 ∷ 0 ∷ 0 ∷ 0 ∷ 1 ∷ []) []) [] (refused 2 1)
+    ∷ sample (oneEach (numbered 1 1 1) (f3 1 1 1) ((1 ∷ 1 ∷ 1 ∷ 1 ∷ 0 ∷ 1 ∷ []) ∷ [])) [] (refused 2 2)
     ∷ sample (oneEach (numbered 1 1 1) (f3 1 1 1) ((1 ∷ 1 ∷ 1 ∷ 1 ∷ 0 ∷ 256 ∷ []) ∷ [])) [] (refused 2 2)
+    ∷ sample (oneEach (numbered 1 1 1) (f3 1 1 1) ((1 ∷ 1 ∷ 1 ∷ 1 ∷ 0 ∷ 0 ∷ 256 ∷ []) ∷ [])) [] (refused 2 2)
     ∷ sample (oneEach (1 ∷ 1 ∷ 1 ∷ 1 ∷ 0 ∷ 0 ∷ 256 ∷ []) (f3 1 1 1) []) [] (refused 2 0)
     ∷ sample (oneEach (1 ∷ 1 ∷ 1 ∷ 1 ∷ 1 ∷ []) (f3 1 1 1) []) [] (refused 2 0)
+    ∷ sample (oneEach (1 ∷ 1 ∷ 1 ∷ 1 ∷ 256 ∷ []) (f3 1 1 1) []) [] (refused 2 0)
     ∷ sample (oneEach (numbered 1 1 1) (1 ∷ 1 ∷ 1 ∷ 0 ∷ 1 ∷ []) []) [] (refused 2 1)
+    ∷ sample (oneEach (numbered 1 1 1) (1 ∷ 1 ∷ 1 ∷ 0 ∷ 256 ∷ []) []) [] (refused 2 1)
     ∷ sample (caseBytes (rowWith 0 (f3 1 1 1) ∷ [])) [] (refused 2 0)
     -- a pair before its workshop, kinds that fall, a pair with nobody, pairs not rising by workshop and by student
     ∷ sample (caseBytes (rowWith 1 (numbered 1 1 1) ∷ rowWith 3 (f4 1 1 1 1) ∷ rowWith 2 (f3 1 1 1) ∷ [])) [] (refused 3 1)
@@ -240,25 +256,25 @@ unfoldable pub neverK : List ℕ
 neverK = bookWith 5 4 out 4 out
 
 unfoldable pub answerNeverK : Outcome
-answerNeverK = placed (1 ∷ 0 ∷ 0 ∷ []) visitsK
+answerNeverK = placedFree (1 ∷ 0 ∷ 0 ∷ []) visitsK
 
 unfoldable pub neverTable : List Sample
 neverTable =
     -- from the student's side, from the workshop's, from both; -999 is a mark like others
-    wanted out 1 (placed (0 ∷ []) ((1, 1) ∷ []))
-    ∷ wanted 1 out (placed (0 ∷ []) ((1, 1) ∷ []))
-    ∷ wanted out out (placed (0 ∷ []) ((1, 1) ∷ []))
-    ∷ wanted (neg 999) (neg 999) (placed (1 ∷ []) ((1, 1) ∷ []))
+    wanted out 1 (placedFree (0 ∷ []) ((1, 1) ∷ []))
+    ∷ wanted 1 out (placedFree (0 ∷ []) ((1, 1) ∷ []))
+    ∷ wanted out out (placedFree (0 ∷ []) ((1, 1) ∷ []))
+    ∷ wanted (neg 999) (neg 999) (placedFree (1 ∷ []) ((1, 1) ∷ []))
     -- from the one whose line group it is not, though the other's mark is above 0 in the line group
-    ∷ doubted out 1 (placed (0 ∷ []) ((1, 1) ∷ []))
-    ∷ doubtful 1 out (placed (0 ∷ []) ((1, 1) ∷ []))
+    ∷ doubted out 1 (placedFree (0 ∷ []) ((1, 1) ∷ []))
+    ∷ doubtful 1 out (placedFree (0 ∷ []) ((1, 1) ∷ []))
     -- K with (1,1) never, from either side: student 1 has workshop 2, and workshop 1 is free for student 2
-    ∷ sample K (bookWith out 4 1 4 6) (next 2 1 ((1, 1) ∷ (1, 2) ∷ []))
-    ∷ sample K (bookOf (f4 1 1 5 out ∷ f4 1 2 2 4 ∷ f4 2 2 (neg 1) 1 ∷ f4 3 2 4 6 ∷ [])) (next 2 1 ((1, 1) ∷ (1, 2) ∷ []))
+    ∷ sample K (bookWith out 4 1 4 6) (nextFree 2 1 ((1, 1) ∷ (1, 2) ∷ []))
+    ∷ sample K (bookOf (f4 1 1 5 out ∷ f4 1 2 2 4 ∷ f4 2 2 (neg 1) 1 ∷ f4 3 2 4 6 ∷ [])) (nextFree 2 1 ((1, 1) ∷ (1, 2) ∷ []))
     -- two of one workshop in one group, two of one student in one group: not refused
     ∷ sample K neverK answerNeverK
-    ∷ threeMarks 2 out 7 out (placed (2 ∷ []) ((1, 1) ∷ (1, 2) ∷ (1, 3) ∷ []))
-    ∷ threeMarks 1 out 7 out (placed (2 ∷ []) ((1, 1) ∷ (1, 2) ∷ (1, 3) ∷ []))
+    ∷ threeMarks 2 out 7 out (placedFree (2 ∷ []) ((1, 1) ∷ (1, 2) ∷ (1, 3) ∷ []))
+    ∷ threeMarks 1 out 7 out (placedFree (2 ∷ []) ((1, 1) ∷ (1, 2) ∷ (1, 3) ∷ []))
     -- equal ordinary marks beside one: refused; so is 1000 twice
     ∷ threeMarks 2 out 7 7 (refused 11 2)
     ∷ threeMarks 2 1000 7 1000 (refused 11 2)
@@ -267,12 +283,12 @@ neverTable =
     ∷ sample K (bookOf (f4 1 2 5 4 ∷ f4 1 1 5 out ∷ [])) (refused 11 1)
     -- nothing open after a never: on to the next group
     ∷ sample (caseOf (numbered 1 1 3 ∷ []) (f3 1 1 2 ∷ f3 2 1 2 ∷ []) (f4 1 1 1 1 ∷ f4 1 2 2 1 ∷ [])) (bookOf (f4 1 1 out 1 ∷ f4 1 2 1 1 ∷ []))
-    (placed (2 ∷ []) ((1, 1) ∷ (1, 2) ∷ []))
+    (placedFree (2 ∷ []) ((1, 1) ∷ (1, 2) ∷ []))
     -- a never takes no seat: the workshop is deleted for nobody
     ∷ sample (caseOf (numbered 1 1 2 ∷ numbered 2 2 2 ∷ []) (f3 1 1 3 ∷ []) (f4 1 1 1 1 ∷ f4 2 1 1 2 ∷ [])) (bookOf (f4 1 1 1 out ∷ f4 2 1 1 1 ∷ []))
-    (placed (0 ∷ 1 ∷ []) ((1, 1) ∷ (2, 1) ∷ []))
+    (placedFree (0 ∷ 1 ∷ []) ((1, 1) ∷ (2, 1) ∷ []))
     -- a visit that ended in never does not end the group: the next of it is called for
-    ∷ sample K (bookOf (f4 1 1 out 3 ∷ [])) (next 1 2 ((1, 1) ∷ []))
+    ∷ sample K (bookOf (f4 1 1 out 3 ∷ [])) (nextFree 1 2 ((1, 1) ∷ []))
     ∷ []
 
 -- ---- our own of lots (document 02, Paper 3)
@@ -290,7 +306,7 @@ rivals seats lots groups marks answer =
 
 -- the places of the three, who have all visited
 abbrev pub rivalsPlaced : ℕ → ℕ → ℕ → Outcome
-rivalsPlaced a b c = placed (a ∷ b ∷ c ∷ []) ((1, 1) ∷ (2, 1) ∷ (3, 1) ∷ [])
+rivalsPlaced a b c = placedFree (a ∷ b ∷ c ∷ []) ((1, 1) ∷ (2, 1) ∷ (3, 1) ∷ [])
 
 -- student 1 has workshops 1 and 2 in one group, student 2 workshop 2 and student 3 workshop 1, with these lots
 unfoldable pub twoRounds : ℕ → ℕ → ℕ → List ℕ
@@ -353,15 +369,63 @@ lotsTable =
     ∷ sample (lotsK 9 8 7) (bookOf (f4 1 1 5 3 ∷ f4 1 2 5 4 ∷ [])) (refused 11 1)
     ∷ sample K (bookOf (f4 3 2 4 6 ∷ f4 2 1 5 3 ∷ f4 2 2 5 6 ∷ [])) (refused 11 2)
     -- an equal mark with the lower lot is not below: workshop 2 stays open to student 1, whom workshop 1 drops; with the higher lot it does not
-    ∷ sample (twoRounds 1 2 3) twoRoundsBook (placed (2 ∷ 0 ∷ 1 ∷ []) ((1, 1) ∷ (1, 2) ∷ (2, 2) ∷ (3, 1) ∷ []))
-    ∷ sample (twoRounds 2 1 3) twoRoundsBook (placed (0 ∷ 2 ∷ 1 ∷ []) ((1, 1) ∷ (1, 2) ∷ (2, 2) ∷ (3, 1) ∷ []))
+    ∷ sample (twoRounds 1 2 3) twoRoundsBook (placedFree (2 ∷ 0 ∷ 1 ∷ []) ((1, 1) ∷ (1, 2) ∷ (2, 2) ∷ (3, 1) ∷ []))
+    ∷ sample (twoRounds 2 1 3) twoRoundsBook (placedFree (0 ∷ 2 ∷ 1 ∷ []) ((1, 1) ∷ (1, 2) ∷ (2, 2) ∷ (3, 1) ∷ []))
     -- a lot decides who is dropped, and so the next visit
-    ∷ sample (secondChoice 2 1) (bookOf (f4 1 1 1 5 ∷ f4 2 1 1 5 ∷ [])) (next 1 2 ((1, 1) ∷ (2, 1) ∷ []))
-    ∷ sample (secondChoice 1 2) (bookOf (f4 1 1 1 5 ∷ f4 2 1 1 5 ∷ [])) (next 2 2 ((1, 1) ∷ (2, 1) ∷ []))
+    ∷ sample (secondChoice 2 1) (bookOf (f4 1 1 1 5 ∷ f4 2 1 1 5 ∷ [])) (nextFree 1 2 ((1, 1) ∷ (2, 1) ∷ []))
+    ∷ sample (secondChoice 1 2) (bookOf (f4 1 1 1 5 ∷ f4 2 1 1 5 ∷ [])) (nextFree 2 2 ((1, 1) ∷ (2, 1) ∷ []))
     -- after 5, in any record, and before 7
     ∷ sample (caseOf (f4 1 1 2 0 ∷ f4 2 513 2 2 ∷ []) (f3 1 1 3 ∷ []) []) [] (refused 5 1)
     ∷ sample (oneEach (f4 1 1 2 513) (f3 1 513 3) []) [] (refused 5 1)
     ∷ sample (lotsK 1 1 2) (0 ∷ []) (refused 13 1)
+    ∷ []
+
+-- ---- our own of fares
+
+-- K with these fares of student 1's pairs, of student 2's and of student 3's; (2, 1) and (3, 1) are never visited
+unfoldable pub faresK : ℕ → ℕ → ℕ → ℕ → ℕ → ℕ → List ℕ
+faresK a b c d e f =
+    caseOf studentsK (workshopsK 1 1 3)
+    ((1 ∷ 1 ∷ 1 ∷ 1 ∷ a ∷ [])
+    ∷ (1 ∷ 2 ∷ 1 ∷ 1 ∷ b ∷ [])
+    ∷ (2 ∷ 1 ∷ 1 ∷ 2 ∷ c ∷ [])
+    ∷ (2 ∷ 2 ∷ 1 ∷ 2 ∷ d ∷ [])
+    ∷ (3 ∷ 1 ∷ 1 ∷ 2 ∷ e ∷ [])
+    ∷ (3 ∷ 2 ∷ 2 ∷ 2 ∷ f ∷ [])
+    ∷ [])
+
+-- no two sets of these fares have the same sum
+unfoldable pub tensK : List ℕ
+tensK = faresK 1 10 100 1000 10000 20000
+
+-- the listed pairs, whether placed or not, and no other
+unfoldable pub answerPaidK : Outcome
+answerPaidK = placed (1 ∷ 0 ∷ 2 ∷ []) visitsK 21011
+
+unfoldable pub faresTable : List Sample
+faresTable =
+    sample tensK bookK answerPaidK
+    -- only at pairs that are never visited
+    ∷ sample (faresK 0 0 65535 0 65535 0) bookK answerK
+    -- the largest fare at several listed pairs: more than 16 bits
+    ∷ sample (faresK 65535 65535 65535 65535 65535 65535) bookK (placed (1 ∷ 0 ∷ 2 ∷ []) visitsK 262140)
+    -- low byte and high byte
+    ∷ sample (faresK 255 256 0 0 0 513) bookK (placed (1 ∷ 0 ∷ 2 ∷ []) visitsK 1024)
+    -- a stopped run: the visits done, and not the next one
+    ∷ sample tensK [] (nextFree 1 1 [])
+    ∷ sample tensK (take 8 bookK) (next 1 2 ((1, 1) ∷ []) 1)
+    ∷ sample tensK (take 16 bookK) (next 2 2 ((1, 1) ∷ (1, 2) ∷ []) 11)
+    ∷ sample tensK (take 24 bookK) (next 3 2 ((1, 1) ∷ (1, 2) ∷ (2, 2) ∷ []) 1011)
+    -- a record of the book for a pair that is never visited costs nothing
+    ∷ sample tensK (bookOf (f4 1 1 5 3 ∷ f4 1 2 2 4 ∷ f4 2 2 (neg 1) 1 ∷ f4 3 1 4 9 ∷ f4 3 2 4 6 ∷ [])) answerPaidK
+    -- a visit that ended in never, and one after which both say no, cost as others do
+    ∷ sample tensK neverK (placed (1 ∷ 0 ∷ 0 ∷ []) visitsK 21011)
+    ∷ sample (oneEach (numbered 1 1 1) (f3 1 1 1) ((1 ∷ 1 ∷ 1 ∷ 1 ∷ 7 ∷ []) ∷ [])) (bookOf (f4 1 1 (neg 1) (neg 1) ∷ []))
+    (placed (0 ∷ []) ((1, 1) ∷ []) 7)
+    -- no visit, no fare: the workshop has no seats
+    ∷ sample (oneEach (numbered 1 1 1) (f3 1 0 1) ((1 ∷ 1 ∷ 1 ∷ 1 ∷ 7 ∷ []) ∷ [])) [] (placedFree (0 ∷ []) [])
+    -- a wrong group beside a fare
+    ∷ sample (oneEach (numbered 1 1 1) (f3 1 1 1) ((1 ∷ 1 ∷ 66 ∷ 1 ∷ 7 ∷ []) ∷ [])) [] (refused 5 2)
     ∷ []
 
 -- room enough for each of these
@@ -394,10 +458,12 @@ countsRefused =
     ∷ badCounts (people 1 65)
     ∷ []
 
--- ---- lent buffers after an answer: K's with a place more than needed and two visits more than used, and those of a next visit and a refusal
+-- ---- lent buffers after an answer: K's with a place more than needed and two visits more than used, and those of a next visit and a refusal; the values,
+-- with fares
 
+-- a next visit of `tensK`
 abbrev pub nextK : Outcome
-nextK = next 2 2 ((1, 1) ∷ (1, 2) ∷ [])
+nextK = next 2 2 ((1, 1) ∷ (1, 2) ∷ []) 11
 
 unfoldable pub buffersAfter : List (List ℕ)
 buffersAfter =
@@ -408,7 +474,7 @@ buffersAfter =
     ∷ placesAfter (refused 9 0) (replicate 3 9)
     ∷ visitsAfter (refused 9 0) (replicate 3 9)
     ∷ scratchAfter 0 (replicate 3 9)
-    ∷ values answerK
+    ∷ values answerPaidK
     ∷ values nextK
     ∷ values (refused 9 1)
     ∷ []
@@ -422,21 +488,29 @@ buffersExpected =
     ∷ (9 ∷ 9 ∷ 9 ∷ [])
     ∷ (9 ∷ 9 ∷ 9 ∷ [])
     ∷ (0 ∷ 0 ∷ 0 ∷ [])
-    ∷ (4 ∷ [])
-    ∷ (2 ∷ 2 ∷ 2 ∷ [])
+    ∷ (4 ∷ 21011 ∷ [])
+    ∷ (2 ∷ 2 ∷ 2 ∷ 11 ∷ [])
     ∷ (9 ∷ 1 ∷ [])
     ∷ []
 
 -- ---- printed text: of K, of a next visit, of numbers with several digits, and of a file that cannot be read
 
 unfoldable pub texts : List (List ℕ)
-texts = printed answerK ∷ printed nextK ∷ printed (placed (64 ∷ []) ((1, 64) ∷ [])) ∷ printed (refused 11 2047) ∷ unread ∷ []
+texts =
+    printed answerK
+    ∷ printed nextK
+    ∷ printed (placed (64 ∷ []) ((1, 64) ∷ []) 65535)
+    ∷ printed (next 512 64 [] 1024)
+    ∷ printed (refused 11 2047)
+    ∷ unread
+    ∷ []
 
 unfoldable pub textsExpected : List (List ℕ)
 textsExpected =
-    ascii "place 1 1\nplace 2 0\nplace 3 2\nvisits 4\nvisit 1 1\nvisit 1 2\nvisit 2 2\nvisit 3 2\n"
-    ∷ ascii "next 2 2\nvisits 2\nvisit 1 1\nvisit 1 2\n"
-    ∷ ascii "place 1 64\nvisits 1\nvisit 1 64\n"
+    ascii "place 1 1\nplace 2 0\nplace 3 2\nvisits 4\nvisit 1 1\nvisit 1 2\nvisit 2 2\nvisit 3 2\nfares 0\n"
+    ∷ ascii "next 2 2\nvisits 2\nvisit 1 1\nvisit 1 2\nfares 11\n"
+    ∷ ascii "place 1 64\nvisits 1\nvisit 1 64\nfares 65535\n"
+    ∷ ascii "next 512 64\nvisits 0\nfares 1024\n"
     ∷ ascii "refused 11 2047\n"
     ∷ ascii "unread\n"
     ∷ []
@@ -515,6 +589,9 @@ stagesTable =
     ∷ within 2 (lotsK 1 1 2) (unstaged 13 1)
     ∷ within 4 (caseOf (f4 1 1 2 5 ∷ f4 2 0 2 5 ∷ []) (oneSeat 1) []) (unstaged 5 1)
     ∷ within 4 (caseOf (f4 1 1 1 3 ∷ f4 2 1 1 3 ∷ []) (oneSeat 2) (f4 1 1 1 1 ∷ f4 1 2 1 2 ∷ f4 2 1 1 2 ∷ f4 2 2 1 1 ∷ [])) (unstaged 13 1)
+    -- a byte at 10 of a student is refused, and a pair's fare changes nothing
+    ∷ within 4 (oneEach (1 ∷ 1 ∷ 1 ∷ 1 ∷ 1 ∷ []) (f3 1 1 1) []) (unstaged 2 0)
+    ∷ within 3 tensK (staged (1 ∷ 2 ∷ 2 ∷ []))
     -- lots change no stage
     ∷ within 3 (lotsK 512 1 7) (staged (1 ∷ 2 ∷ 2 ∷ []))
     -- one entry short: 6, after 5 and before 12
@@ -569,10 +646,12 @@ pub record Computed : Type 0 where
   pub own : given ownTable ≡ expected ownTable
   pub nevers : given neverTable ≡ expected neverTable
   pub lots : given lotsTable ≡ expected lotsTable
+  pub fares : given faresTable ≡ expected faresTable
   pub counts : countsRefused ≡ true ∷ true ∷ false ∷ true ∷ true ∷ []
   pub exactly : engine K bookK exact ≡ answerK
   pub exactlyNever : engine K neverK exact ≡ answerNeverK
   pub exactlyTied : engine K tiedK exact ≡ answerTiedK
+  pub exactlyPaid : engine tensK bookK exact ≡ answerPaidK
   pub shortly : map (λ (room : Room). engine K (0 ∷ []) room) shortRooms ≡ map (λ (room : Room). refused 6 0) shortRooms
   pub lotFirst : map (λ (room : Room). engine (lotsK 1 2 2) (0 ∷ []) room) shortRooms ≡ map (λ (room : Room). refused 13 2) shortRooms
   pub buffers : buffersAfter ≡ buffersExpected
@@ -580,10 +659,11 @@ pub record Computed : Type 0 where
   pub stages : stagesGiven stagesTable ≡ stagesExpected stagesTable
   pub stagesBuffers : stagesLeft ≡ stagesLeftExpected
 
--- and K is a run with agreeing stages, also where two of the listed visits ended in never, and where a lot decides: workshop 2 has 2 before 3
+-- and K is a run with agreeing stages, also where two of the listed visits ended in never, where a lot decides (workshop 2 has 2 before 3), and with fares
 pub record TablesHold : Type 0 where
   pub computed : Computed
   pub agreeing : Example K bookK exact
   pub agreeingNever : Example K neverK exact
   pub agreeingLots : Example K tiedK exact
+  pub agreeingFares : Example tensK bookK exact
   pub parted : Preferred K tiedK 2 2 3

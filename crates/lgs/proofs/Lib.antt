@@ -25,3 +25,4 @@ pub mod OptimalExists
 pub mod Agreement
 pub mod Promises
 pub mod Stages
+pub mod Unpriced

@@ -1,22 +1,22 @@
--- No interview is held twice: what a student interviews next is in a tier beyond all that she has interviewed. So a list is no longer than a
--- set of pairs that holds it.
-use Prim.Native.Nat.{ℕ, _≤_, _<_}
-use mathlib.Core.Path.{_≡_, refl, ap}
+-- No interview is held twice: what a student interviews next is in a tier beyond all that she has interviewed. So a list is no longer, and no dearer, than
+-- a set of pairs that holds it.
+use Prim.Native.Nat.{ℕ, _≤_}
+use mathlib.Core.Path.{_≡_, refl}
 use mathlib.Core.Logic.{⊎-elim}
-use mathlib.Core.Bool.{Bool, true, false, not, _&&_}
+use mathlib.Core.Bool.{Bool, true, false, _&&_}
 use mathlib.Core.List.{List, [], _∷_, _++_, List·Memᴰ as Mem}
 use native.Mathlib.Omega.{arith}
 use lib.Dec.{eqb}
 use lib.ListN.{length}
 use borrow.Author.Tests.{eqb-true, eq-eqb}
-use Rattle.base.specs.Lists.{count, total, upto, any, tally}
+use Rattle.base.specs.Lists.{upto, any, sumOf}
 use Rattle.base.proofs.Tests.{never, is-false, and-left, and-right, and-make, or-true, or-left, or-right}
-use Rattle.base.proofs.Counting.{count-less, count-mono, total-le, total-less}
-use Rattle.base.proofs.Grid.{named-within}
+use Rattle.base.proofs.Grid.{over, over-mono, over-either, over-none, over-one, over-count}
 use Rattle.base.proofs.Members.{NoDup, upto-distinct, keep-distinct}
 use Rattle.lgs.specs.Market.{Market, Results}
 use Rattle.lgs.specs.Profiles.{Profile}
 use Rattle.lgs.specs.Rule.{State, Interview, interviewed, choices, due, start, close}
+use Rattle.lgs.specs.Fares.{faresOf, faresIn}
 use Rattle.lgs.specs.Promises.{NoRepeats, pairsIn}
 use Rattle.lgs.proofs.Valid.{WellFormed}
 use Rattle.lgs.proofs.Invariant.{Setting, Seen, Inv}
@@ -64,70 +64,79 @@ before-distinct (x ∷ vs) us v d =
         let e₁ : x .1 ≡ v .1 = eqb-true _ _ (and-right (eqb (x .0) (v .0)) _ q) in
         never (rw (e₀, e₁) (interviewed-after vs (v ∷ us) (v .0) (v .1) (interviewed-head v us))) (d .0)
 
--- ---- a list without repetition is no longer than a set that holds it
+-- ---- a list without repetition costs what its set of pairs does, and no more than a set that holds it; f is what each pair costs
 
--- the set without one interview
-without : Interview → (ℕ → ℕ → Bool) → ℕ → ℕ → Bool
-without v Us s w = not (eqb (v .0) s && eqb (v .1) w) && Us s w
+abbrev cost : (ℕ → ℕ → ℕ) → List Interview → ℕ
+cost f vs = sumOf (λ (v : Interview). f (v .0) (v .1)) vs
 
-fits-set : (n m : ℕ) (vs : List Interview) (Us : ℕ → ℕ → Bool) → NoRepeats vs
-    → ((s w : ℕ) → interviewed vs s w ≡ true → ((1 ≤ s) × (s ≤ n)) × ((1 ≤ w) × (w ≤ m)) × (Us s w ≡ true))
-    → length vs ≤ total (λ s. count (Us s) m) n
-unfolding without
-fits-set n m [] Us d inside = omega arith
-fits-set n m (v ∷ vs) Us d inside =
-    let r : ((1 ≤ v .0) × (v .0 ≤ n)) × ((1 ≤ v .1) × (v .1 ≤ m)) × (Us (v .0) (v .1) ≡ true) = inside (v .0) (v .1) (interviewed-head v vs) in
-    let rest : length vs ≤ total (λ s. count (without v Us s) m) n =
-    fits-set n m vs (without v Us) (d .1)
-    (λ s w e.
-    let k : ((1 ≤ s) × (s ≤ n)) × ((1 ≤ w) × (w ≤ m)) × (Us s w ≡ true) = inside s w (interviewed-later v vs s w e) in
-    (k .0, k .1, kept s w e (k .2))) in
-    let less : total (λ s. count (without v Us s) m) n < total (λ s. count (Us s) m) n =
-    total-less (λ s. count (without v Us s) m) (λ s. count (Us s) m) n (v .0) (r .0 .0) (r .0 .1)
-    (λ s. count-mono (without v Us s) (Us s) m (λ w a b e. and-right (not (eqb (v .0) s && eqb (v .1) w)) _ e))
-    (count-less (without v Us (v .0)) (Us (v .0)) m (v .1) (λ w a b e. and-right (not (eqb (v .0) (v .0) && eqb (v .1) w)) _ e) (r .1 .0) (r .1 .1)
-    (r .2) gone) in
-    omega arith
+list-over : (n m : ℕ) (f : ℕ → ℕ → ℕ) (vs : List Interview) → NoRepeats vs
+    → ((s w : ℕ) → interviewed vs s w ≡ true → ((1 ≤ s) × (s ≤ n)) × ((1 ≤ w) × (w ≤ m)))
+    → over n m f (interviewed vs) ≡ cost f vs
+unfolding interviewed any sumOf
+list-over n m f [] d inside = over-none n m f
+list-over n m f (v ∷ vs) d inside =
+    let r : ((1 ≤ v .0) × (v .0 ≤ n)) × ((1 ≤ v .1) × (v .1 ≤ m)) = inside (v .0) (v .1) (interviewed-head v vs) in
+    omega (
+      arith,
+      over-either n m f (λ s w. eqb (v .0) s && eqb (v .1) w) (interviewed vs) (λ s w q. same s w q),
+      over-one n m f (v .0) (v .1) (r .0 .0) (r .0 .1) (r .1 .0) (r .1 .1),
+      list-over n m f vs (d .1) (λ s w e. inside s w (interviewed-later v vs s w e)),
+    )
   where
-    gone : without v Us (v .0) (v .1) ≡ false
-    gone = rw (eq-eqb (v .0) (v .0) refl, eq-eqb (v .1) (v .1) refl)
+    same : (s w : ℕ) → (eqb (v .0) s && eqb (v .1) w) ≡ true → interviewed vs s w ≡ false
+    same s w q = rw (← eqb-true (v .0) s (and-left (eqb (v .0) s) _ q), ← eqb-true (v .1) w (and-right (eqb (v .0) s) _ q)) (d .0)
 
-    kept : (s w : ℕ) → interviewed vs s w ≡ true → Us s w ≡ true → without v Us s w ≡ true
-    kept s w e u = and-make (ap not (is-false (eqb (v .0) s && eqb (v .1) w) (λ q. never e (same s w q)))) u
-      where
-        same : (s w : ℕ) → (eqb (v .0) s && eqb (v .1) w) ≡ true → interviewed vs s w ≡ false
-        same s w q = rw (← eqb-true (v .0) s (and-left (eqb (v .0) s) _ q), ← eqb-true (v .1) w (and-right (eqb (v .0) s) _ q)) (d .0)
-
-pub listed-fits : (M : Market) → WellFormed M → (vs : List Interview) (Us : ℕ → ℕ → Bool) → NoRepeats vs
-    → ((s w : ℕ) → interviewed vs s w ≡ true → M .paired s w ≡ true)
-    → ((s w : ℕ) → interviewed vs s w ≡ true → Us s w ≡ true)
-    → length vs ≤ pairsIn M Us
-unfolding pairsIn
-listed-fits M wf vs Us d pair inside =
-    fits-set (M .students) (M .workshops) vs (λ s w. M .paired s w && Us s w) d
-    (λ s w v. (wf .student s w (pair s w v), wf .workshop s w (pair s w v), and-make (pair s w v) (inside s w v)))
-
--- ---- and a set has no more pairs than a list that names them all
-
-one-each : (vs : List Interview) → tally (λ v. true) vs ≡ length vs
-unfolding tally
+one-each : (vs : List Interview) → cost (λ s w. 1) vs ≡ length vs
+unfolding sumOf
 one-each [] = refl
 one-each (v ∷ vs) = omega (arith, one-each vs)
 
-pub listed-counted : (M : Market) → WellFormed M → (vs : List Interview) → NoRepeats vs
-    → ((s w : ℕ) → interviewed vs s w ≡ true → M .paired s w ≡ true)
-    → pairsIn M (interviewed vs) ≡ length vs
-unfolding pairsIn interviewed
-listed-counted M wf vs d pair =
-    let m = M .workshops in
-    omega (
-      arith,
-      listed-fits M wf vs (interviewed vs) d pair (λ s w v. v),
-      total-le (λ s. count (λ w. M .paired s w && interviewed vs s w) m) (λ s. count (interviewed vs s) m) (M .students)
-          (λ s. count-mono (λ w. M .paired s w && interviewed vs s w) (interviewed vs s) m (λ w l u e. and-right (M .paired s w) _ e)),
-      named-within (M .students) m {A = Interview} (λ v. true) (λ v. v .0) (λ v. v .1) vs,
-      one-each vs,
-    )
+module _ (M : Market) (wf : WellFormed M) (vs : List Interview) (once : NoRepeats vs)
+    (pair : (s w : ℕ) → interviewed vs s w ≡ true → M .paired s w ≡ true) where
+  -- the pairs of a set that have a pair record
+  abbrev recorded : (ℕ → ℕ → Bool) → ℕ → ℕ → Bool
+  recorded Us s w = M .paired s w && Us s w
+
+  listed-over : (f : ℕ → ℕ → ℕ) → over (M .students) (M .workshops) f (interviewed vs) ≡ cost f vs
+  listed-over f =
+      list-over (M .students) (M .workshops) f vs once (λ s w e. (wf .student s w (pair s w e), wf .workshop s w (pair s w e)))
+
+  cost-fits : (f : ℕ → ℕ → ℕ) (Us : ℕ → ℕ → Bool) → ((s w : ℕ) → interviewed vs s w ≡ true → Us s w ≡ true)
+      → cost f vs ≤ over (M .students) (M .workshops) f (recorded Us)
+  cost-fits f Us inside =
+      omega (
+        arith,
+        listed-over f,
+        over-mono (M .students) (M .workshops) f (interviewed vs) (recorded Us) (λ s w e. and-make (pair s w e) (inside s w e)),
+      )
+
+  cost-is : (f : ℕ → ℕ → ℕ) → over (M .students) (M .workshops) f (recorded (interviewed vs)) ≡ cost f vs
+  cost-is f =
+      omega (
+        arith,
+        listed-over f,
+        cost-fits f (interviewed vs) (λ s w e. e),
+        over-mono (M .students) (M .workshops) f (recorded (interviewed vs)) (interviewed vs) (λ s w e. and-right (M .paired s w) _ e),
+      )
+
+  -- it is no longer than such a set
+  pub listed-fits : (Us : ℕ → ℕ → Bool) → ((s w : ℕ) → interviewed vs s w ≡ true → Us s w ≡ true) → length vs ≤ pairsIn M Us
+  unfolding pairsIn
+  listed-fits Us inside =
+      omega (arith, cost-fits (λ s w. 1) Us inside, over-count (M .students) (M .workshops) (recorded Us), one-each vs)
+
+  pub listed-counted : pairsIn M (interviewed vs) ≡ length vs
+  unfolding pairsIn
+  listed-counted = omega (arith, cost-is (λ s w. 1), over-count (M .students) (M .workshops) (recorded (interviewed vs)), one-each vs)
+
+  -- its fares are no more than those of such a set
+  pub fares-fit : (Us : ℕ → ℕ → Bool) → ((s w : ℕ) → interviewed vs s w ≡ true → Us s w ≡ true) → faresOf M vs ≤ faresIn M Us
+  unfolding faresOf faresIn
+  fares-fit Us inside = cost-fits (M .fare) Us inside
+
+  pub fares-paid : faresIn M (interviewed vs) ≡ faresOf M vs
+  unfolding faresOf faresIn
+  fares-paid = cost-is (M .fare)
 
 -- ---- the run
 

@@ -10,10 +10,11 @@ use lib.ListN.{length, getD, length-map, List·getD-eq-default}
 use Rattle.base.specs.Lists.{upto}
 use Rattle.base.proofs.Tests.{less?}
 use Rattle.base.proofs.Members.{upto-length, map-upto-at}
-use Rattle.lgs.specs.Market.{Market, Results}
+use Rattle.lgs.specs.Market.{Market, Results, ConsistentStages}
 use Rattle.lgs.specs.Profiles.{Profile, Fits, StudentOptimal, Determined, outsideOr, flip}
 use Rattle.lgs.specs.Rule.{State, going, stopped, finished, Interview, interviewed, lazyGaleShapley}
-use Rattle.lgs.specs.Promises.{matchingOf, pairsIn, Listed, MinimalInterviews, Placed, Extends, NextInterview}
+use Rattle.lgs.specs.Fares.{faresOf}
+use Rattle.lgs.specs.Promises.{matchingOf, pairsIn, SureSet, Listed, MinimalInterviews, Placed, Extends, NextInterview}
 use Rattle.lgs.proofs.Valid.{WellFormed, Distinct}
 use Rattle.lgs.proofs.Invariant.{Setting, fits-setting}
 use Rattle.lgs.proofs.Sides.{wider}
@@ -22,14 +23,14 @@ use Rattle.lgs.proofs.Undetermined.{reveals-itself}
 use Rattle.lgs.proofs.Exists.{scoreProfile, score-fits}
 use Rattle.lgs.proofs.Finished.{End, lgs-end, lgs-optimal, lgs-met, lgs-placed-listed}
 use Rattle.lgs.proofs.Minimal.{listed-optimal, listed-determined, listed-needed}
-use Rattle.lgs.proofs.Once.{last-once, listed-fits, listed-counted}
+use Rattle.lgs.proofs.Once.{last-once, listed-fits, listed-counted, fares-fit, fares-paid}
 use Rattle.lgs.proofs.Stopped.{Stopped, lgs-stopped}
 use Rattle.lgs.proofs.Ends.{run-answers}
 use Rattle.lgs.proofs.Agreement.{AgreeOn, next-held}
 
 -- the listed interviews are no more than the pair records
 pub listed-length : (M : Market) → WellFormed M → (B : Results) (vs : List Interview) → Listed M B vs → length vs ≤ pairsIn M (M .paired)
-listed-length M wf B vs L = listed-fits M wf vs (M .paired) (L .once) (L .pair) (L .pair)
+listed-length M wf B vs L = listed-fits M wf vs (L .once) (L .pair) (M .paired) (L .pair)
 
 module _ (M : Market) (wf : WellFormed M) (B : Results) (distinct : Distinct M B) where
   -- some profile fits the tiers and the book
@@ -84,7 +85,13 @@ module _ (M : Market) (wf : WellFormed M) (B : Results) (distinct : Distinct M B
               once = rw (z .interviews) (last-once M B (scoreProfile M wf B) (B .met) setting (z .state) (z .reached) (λ s w v. z .inv .seen s w v .seen));
             }
 
-    minimal : MinimalInterviews M B places vs
+    -- with agreeing stages such a set has every listed interview
+    holds-all : ConsistentStages M (M .stage) → (O : Profile) → Fits M B (B .met) O → (Vs : ℕ → ℕ → Bool) (μ : ℕ → ℕ) → SureSet M B places O Vs μ
+        → (s w : ℕ) → interviewed vs s w ≡ true → Vs s w ≡ true
+    holds-all agree O fits Vs μ set =
+        listed-needed M wf B distinct p vs run O fits agree Vs μ (set .sure) (λ s l. rw (same-place s) at (set .holds s (rw (same-place s) l)))
+
+    minimal : MinimalInterviews M B places vs (faresOf M vs)
     minimal =
         record {
           listed = listed;
@@ -96,10 +103,12 @@ module _ (M : Market) (wf : WellFormed M) (B : Results) (distinct : Distinct M B
                     (lgs-placed-listed M B p vs run (scoreProfile M wf B) (B .met) setting (lgs-met M B p vs run) s (rw (same-place s) at l));
               };
           counted = listed-counted M wf vs (listed .once) (listed .pair);
+          paid = fares-paid M wf vs (listed .once) (listed .pair);
           minimal = λ agree O fits Vs μ set.
-              let every : (s w : ℕ) → interviewed vs s w ≡ true → Vs s w ≡ true =
-              listed-needed M wf B distinct p vs run O fits agree Vs μ (set .sure) (λ s l. rw (same-place s) at (set .holds s (rw (same-place s) l))) in
-              (every, listed-fits M wf vs Vs (listed .once) (listed .pair) every);
+              let every : (s w : ℕ) → interviewed vs s w ≡ true → Vs s w ≡ true = holds-all agree O fits Vs μ set in
+              (every, listed-fits M wf vs (listed .once) (listed .pair) Vs every);
+          cheapest = λ agree O fits Vs μ set.
+              fares-fit M wf vs (listed .once) (listed .pair) Vs (holds-all agree O fits Vs μ set);
         }
 
     -- an answer with a matching

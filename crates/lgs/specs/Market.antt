@@ -14,6 +14,7 @@ pub record Market : Type 0 where
   pub lot : ℕ → ℕ  -- of a student (document 02, Paper 3)
   pub quota : ℕ → ℕ  -- of a workshop
   pub paired : ℕ → ℕ → Bool  -- student, workshop: there is a pair record
+  pub fare : ℕ → ℕ → ℕ  -- student, workshop: what the visit costs, in pence (document 02, Paper 4)
   pub studentTier : ℕ → ℕ → ℕ  -- student, then a workshop or 0
   pub workshopTier : ℕ → ℕ → ℕ  -- workshop, then a student or 0
 

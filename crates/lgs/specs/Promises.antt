@@ -8,6 +8,7 @@ use Rattle.base.specs.Lists.{count, total, entryFor}
 use Rattle.lgs.specs.Market.{Market, Results, ConsistentStages}
 use Rattle.lgs.specs.Profiles.{Profile, StrictProfile, RespectsTiers, Fits, StudentOptimal, Determined}
 use Rattle.lgs.specs.Rule.{Interview, interviewed, Step, going, stopped, finished, lazyGaleShapley}
+use Rattle.lgs.specs.Fares.{faresOf, faresIn}
 
 -- the matching that a list of places stands for: student s has entry s - 1, and nobody else has a place
 abbrev pub matchingOf : List ℕ → ℕ → ℕ
@@ -59,20 +60,33 @@ module _ (M : Market) (B : Results) where
       → SureSet places O Vs μ
       → ((s w : ℕ) → interviewed vs s w ≡ true → Vs s w ≡ true) × (length vs ≤ pairsIn M Vs)
 
-  -- Demand 3. "Let the results come from any full order that fits the groups and the book."
-  pub record MinimalInterviews (places : List ℕ) (vs : List Interview) : Type 0 where
+  -- "Nobody who is sure, and has visited all placed pairs, pays less" (document 02, Paper 4): every such set, with results from any full order that fits the
+  -- groups and the book, costs at least these fares. (That it can cost no more is `paid` with `itself`.)
+  abbrev pub Cheapest : List ℕ → ℕ → Type 0
+  Cheapest places fares =
+      (O : Profile)
+      → Fits M B (B .met) O
+      → (Vs : ℕ → ℕ → Bool) (μ : ℕ → ℕ)
+      → SureSet places O Vs μ
+      → fares ≤ faresIn M Vs
+
+  -- Demand 3. "Let the results come from any full order that fits the groups and the book." `fares` is the total that comes with the list.
+  pub record MinimalInterviews (places : List ℕ) (vs : List Interview) (fares : ℕ) : Type 0 where
     -- "Our list is itself such a set", and its holder is sure of this placement; it "names no pair twice", so it has as many pairs as it is long.
     -- This needs no agreeing stages.
     pub listed : Listed vs
     pub itself : (O : Profile) → Fits M B (B .met) O → SureSet places O (interviewed vs) (matchingOf places)
     pub counted : pairsIn M (interviewed vs) ≡ length vs
+    -- what the list costs as such a set is the total
+    pub paid : faresIn M (interviewed vs) ≡ fares
     pub minimal : ConsistentStages M (M .stage) → Smallest places vs
+    pub cheapest : ConsistentStages M (M .stage) → Cheapest places fares
 
   -- an answer with a placement (from bytes: `Demand2Placed` and `Demand3` of the crate format)
   pub record Placed (places : List ℕ) (vs : List Interview) : Type 0 where
     pub whole : length places ≡ M .students
     pub optimal : OptimalWhateverUnseen places vs
-    pub minimal : MinimalInterviews places vs
+    pub minimal : MinimalInterviews places vs (faresOf M vs)
 
 -- Whoever has not met a placed pair must reckon with never there. So whoever is sure of a matching has met its placed pairs: that such a set "holds
 -- every placed pair" follows, and is asked because demand 3 has these words.

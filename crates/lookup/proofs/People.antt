@@ -7,7 +7,7 @@ use native.Mathlib.Omega.{arith}
 use Rattle.format.specs.Layout.{rowAt, rowCount}
 use Rattle.format.specs.Engine.{marketIn}
 use Rattle.format.proofs.Positions.{Clean, places, pair-says, pair-names, stage-at, lot-at, student-outside-at, quota-at, workshop-outside-at, student-tier-at}
-use Rattle.format.proofs.Positions.{workshop-tier-at}
+use Rattle.format.proofs.Positions.{workshop-tier-at, fare-at}
 use Rattle.records.specs.Records.{pairPlace}
 use Rattle.tables.proofs.Reading.{pair-there}
 use Rattle.lookup.specs.Clean.{StudentAt, WorkshopAt, PairAt}
@@ -41,6 +41,7 @@ module _ (case : List ℕ) (c : Clean case (rowCount case)) where
           within = p .0;
           studentTier = student-tier-at case c s w (pairPlace case s w) (p .0) (p .1);
           workshopTier = workshop-tier-at case c s w (pairPlace case s w) (p .0) (p .1);
+          fare = fare-at case c s w (pairPlace case s w) (p .0) (p .1);
         }
 
     pub named-at : ((1 ≤ s) × (s ≤ n)) × ((1 ≤ w) × (w ≤ m))

@@ -31,6 +31,7 @@ pub record PairAt (case : List ℕ) (s w : ℕ) : Type 0 where
   pub within : pairPlace case s w < rowCount case
   pub studentTier : marketIn case .studentTier s w ≡ rowAt case (pairPlace case s w) .third
   pub workshopTier : marketIn case .workshopTier w s ≡ rowAt case (pairPlace case s w) .fourth
+  pub fare : marketIn case .fare s w ≡ rowAt case (pairPlace case s w) .fifth
 
 -- what the index has for the pair: the number of its book record plus 1, or 0; with n students and m workshops, entry 0 is that of record n + m
 abbrev pub indexAt : List ℕ → List ℕ → ℕ → ℕ → ℕ → ℕ → ℕ
@@ -54,6 +55,7 @@ pub record Clean (case book index table : List ℕ) (n m : ℕ) : Type 0 where
   pub student : (s : ℕ) → 1 ≤ s → s ≤ n → StudentAt case s
   pub workshop : (w : ℕ) → 1 ≤ w → w ≤ m → WorkshopAt case n w
   pub pair : (s w : ℕ) → marketIn case .paired s w ≡ true → PairAt case s w
+  pub fare : (s w : ℕ) → marketIn case .fare s w ≤ 65535
   pub named : (s w : ℕ) → marketIn case .paired s w ≡ true → ((1 ≤ s) × (s ≤ n)) × ((1 ≤ w) × (w ≤ m))
   pub indexed : (s w : ℕ) → marketIn case .paired s w ≡ true → (n + m ≤ pairPlace case s w) × (pairPlace case s w - (n + m) < length index)
   pub met : (s w : ℕ) → resultsIn book .met s w ≡ true → EntryAt book s w (indexAt case index n m s w)

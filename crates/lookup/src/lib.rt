@@ -65,6 +65,14 @@ pub fn workshop_tier(case: &[u8], pair: usize) -> u16
     records::fourth_at(case, pair)
 }
 
+// What a visit of the pair costs, from its record.
+pub fn fare_of(case: &[u8], pair: usize) -> u16
+    requires { ⌜ pair < rowCount (now case) ⌝ }
+    ensures { λ r. ⌜ r ≡ rowAt (now (case .entry)) pair .fifth ⌝ }
+{
+    records::fifth_at(case, pair)
+}
+
 // ---- the interview of a pair
 
 // The number of the book record of a pair's interview plus 1, or 0: `first` is the number of the first pair's record.

@@ -90,7 +90,7 @@ module _ (M : Market) (B : Results) (O : Profile) (E : Setting M B O (B .met)) w
     due-fits once =
         omega (
           arith,
-          listed-fits M (E .wf) (σ .interviews ++ interviewsWith s (due M B σ s)) (M .paired) (due-apart once) pairs pairs,
+          listed-fits M (E .wf) (σ .interviews ++ interviewsWith s (due M B σ s)) (due-apart once) pairs (M .paired) pairs,
           length-append (σ .interviews) (interviewsWith s (due M B σ s)),
           length-map {B = Interview} (due M B σ s) (λ d. (s, d)),
         )

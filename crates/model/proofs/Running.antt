@@ -11,6 +11,7 @@ use borrow.Author.Tests.{eq-eqb, ne-eqb}
 use Rattle.lgs.specs.Market.{Market, Results, allSeats}
 use Rattle.lgs.specs.Profiles.{Profile}
 use Rattle.lgs.specs.Rule.{Interview, stopped, finished, fuel, lazyGaleShapley}
+use Rattle.lgs.specs.Fares.{faresOf}
 use Rattle.lgs.specs.Promises.{pairsIn}
 use Rattle.format.specs.Buffers.{flat, withHead}
 use Rattle.model.specs.Model.{Machine, Turn, on, lacks, done, begin, takeTurn}
@@ -26,7 +27,7 @@ use Rattle.model.proofs.Turns.{weightOf}
 use Rattle.model.proofs.Refined.{setting, begin-weight}
 use Rattle.model.proofs.Loop.{Sound, Safe, sound-begin, sound-on, sound-lacks, sound-done, sound-safe}
 use Rattle.model.proofs.Stages.{Waits, over, holds}
-use Rattle.model.proofs.Shows.{Stand, Shows, Lacking, stateAt, beginning, shows-begin, shows-ready}
+use Rattle.model.proofs.Shows.{Stand, Shows, Lacking, Payable, stateAt, beginning, shows-begin, shows-ready}
 use Rattle.model.proofs.ShowsTurn.{oneTurn, Follows, shows-turn}
 
 -- ---- the run, and its two laws
@@ -52,6 +53,7 @@ module _ (M : Market) (B : Results) (old : List ℕ) where
     pub hand : x .run .hand ≡ 0
     pub workshop : x .run .workshop ≡ 0
     pub count : x .run .count ≡ length vs
+    pub fares : x .run .fares ≡ faresOf M vs
     pub visits : x .visits ≡ withHead (flat vs) old
     pub states : M .students ≤ length (x .states)
     pub held : (s : ℕ) → 1 ≤ s → s ≤ M .students → stateAt (x .states) s .held ≡ p s
@@ -102,6 +104,7 @@ module _ (M : Market) (wf : WellFormed M) (B : Results) (distinct : Distinct M B
           hand = over-now;
           workshop = W .workshop;
           count = W .count;
+          fares = W .fares;
           visits = W .visits;
           states = W .states;
           held = λ s l u. ap (λ c. c .held) (sym (W .card s l u));
@@ -148,13 +151,13 @@ module _ (M : Market) (wf : WellFormed M) (B : Results) (distinct : Distinct M B
     way-ends x W (past s w vs e l) z = stops s w vs e l
 
     -- each turn finds the buffers ready
-    way-ready : 2 * pairsIn M (M .paired) ≤ length old → (x : Stand) (W : ℕ) → OnWay old x W → 0 < x .run .hand
+    way-ready : 2 * pairsIn M (M .paired) ≤ length old → Payable M → (x : Stand) (W : ℕ) → OnWay old x W → 0 < x .run .hand
         → Ready M B (x .visits) (x .seats) (stateAt (x .states) (x .run .hand)) (x .run) × (x .run .hand ≤ length (x .states))
-    way-ready room x W (past s w vs e l) pos = absurd (omega (arith, l .hand))
-    way-ready room x W (runs m D K less) pos =
+    way-ready room P x W (past s w vs e l) pos = absurd (omega (arith, l .hand))
+    way-ready room P x W (runs m D K less) pos =
         let r : (rest : List ℕ) × (m .waiting ≡ x .run .hand ∷ rest) = in-hand m x K pos in
         let k : Ready M B (x .visits) (x .seats) (stateAt (x .states) (x .run .hand)) (x .run) =
-        shows-ready M B old fits m x (sound-safe M B O E m D) K (r .0) (r .1) room in
+        shows-ready M B old fits m x (sound-safe M B O E m D) K (r .0) (r .1) room P in
         (k, omega (arith, k .hand, K .states))
 
     way-on : (x : Stand) (W : ℕ) → OnWay old x W → 0 < x .run .hand → OnWay old (oneTurn M B x) W
@@ -184,7 +187,7 @@ module _ (M : Market) (wf : WellFormed M) (B : Results) (distinct : Distinct M B
         (eq? (x .run .hand) 0)
 
     -- ---- from zeroed buffers
-    module _ (room : 2 * pairsIn M (M .paired) ≤ length old) (n k : ℕ) (seats : allSeats M ≤ n) (states : M .students ≤ k) where
+    module _ (room : 2 * pairsIn M (M .paired) ≤ length old) (P : Payable M) (n k : ℕ) (seats : allSeats M ≤ n) (states : M .students ≤ k) where
       abbrev pub stands : ℕ → Stand
       stands j = after M B j (beginning M B old n k)
 
@@ -195,7 +198,7 @@ module _ (M : Market) (wf : WellFormed M) (B : Results) (distinct : Distinct M B
       pub run-ready : (j : ℕ) → 0 < stands j .run .hand
           → Ready M B (stands j .visits) (stands j .seats) (stateAt (stands j .states) (stands j .run .hand)) (stands j .run)
           × (stands j .run .hand ≤ length (stands j .states))
-      run-ready j pos = way-ready room (stands j) (fuel M B) (way-after j (beginning M B old n k) (fuel M B) way-begin) pos
+      run-ready j pos = way-ready room P (stands j) (fuel M B) (way-after j (beginning M B old n k) (fuel M B) way-begin) pos
 
       -- the run on the buffers is the staged rule
       pub run-is-rule : Ends M B old (stands (fuel M B))

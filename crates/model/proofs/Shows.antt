@@ -8,10 +8,11 @@ use native.Mathlib.Omega.{arith}
 use lib.Dec.{eqb}
 use lib.ListN.{length, getD, take, drop, replicate, length-append, length-drop, length-replicate, getD-replicate}
 use lib.Seq.{take-at, drop-append-add, drop-drop}
-use Rattle.base.specs.Lists.{count, upto, keep}
+use Rattle.base.specs.Lists.{count, upto, keep, sumOf}
 use Rattle.base.specs.Bits.{member}
 use Rattle.lgs.specs.Market.{Market, Results, seatsOf, allSeats}
 use Rattle.lgs.specs.Rule.{Interview}
+use Rattle.lgs.specs.Fares.{faresOf}
 use Rattle.lgs.specs.Promises.{pairsIn}
 use Rattle.format.specs.Buffers.{flat, withHead}
 use Rattle.api.specs.declared.StudentState.{StudentState}
@@ -22,6 +23,7 @@ use Rattle.model.specs.Turn.{toldState, putAt, dueAt, beginRun}
 use Rattle.api.specs.Answered.{zeroState}
 use Rattle.model.specs.Ready.{Booked, InOrder, Ready}
 use Rattle.base.proofs.Digits.{keep-same, keep-count, bit-zero}
+use Rattle.base.proofs.Sums.{sum-within}
 use Rattle.model.proofs.Seats.{seat-in}
 use Rattle.model.proofs.Loop.{Safe}
 use Rattle.model.proofs.Stages.{Waits, over, holds, waits-first}
@@ -72,6 +74,11 @@ pub record Stand : Type 0 where
 abbrev pub stateAt : List StudentState → ℕ → StudentState
 stateAt states s = getD states (s - 1) zeroState
 
+-- there are no more pairs than of 512 students and 64 workshops, and a fare is a 16-bit number
+pub record Payable (M : Market) : Type 0 where
+  pub few : pairsIn M (M .paired) ≤ 32768
+  pub small : (s w : ℕ) → M .fare s w ≤ 65535
+
 module _ (M : Market) (old : List ℕ) where
   -- the buffers show the machine; `old` are the visits as they were lent
   pub record Shows (m : Machine) (x : Stand) : Type 0 where
@@ -81,6 +88,7 @@ module _ (M : Market) (old : List ℕ) where
     pub small : (s : ℕ) → 1 ≤ s → s ≤ M .students → stateAt (x .states) s .openings < 2 ^ 64
     pub visits : x .visits ≡ withHead (flat (m .interviews)) old
     pub count : x .run .count ≡ length (m .interviews)
+    pub fares : x .run .fares ≡ faresOf M (m .interviews)
     pub waits : Waits (M .stage) (M .students) (x .run .hand) (x .run .last) (m .waiting)
     pub lost : x .run .lost ≡ m .lost
     pub dropper : m .lost ≤ M .workshops
@@ -93,6 +101,7 @@ module _ (M : Market) (old : List ℕ) where
     pub workshop : x .run .workshop ≡ w
     pub real : 0 < w
     pub count : x .run .count ≡ length vs
+    pub fares : x .run .fares ≡ faresOf M vs
     pub visits : x .visits ≡ withHead (flat vs) old
 
 module _ (M : Market) (B : Results) (old : List ℕ) where
@@ -101,7 +110,7 @@ module _ (M : Market) (B : Results) (old : List ℕ) where
   beginning n k = record { visits = old; seats = zeros n; states = replicate k zeroState; run = beginRun M B }
 
   pub shows-begin : (n k : ℕ) → allSeats M ≤ n → M .students ≤ k → Shows M old (begin M B) (beginning n k)
-  unfolding begin beginRun flat
+  unfolding begin beginRun flat faresOf sumOf
   shows-begin n k seats states =
       record {
         stored = stored-none M n seats;
@@ -110,6 +119,7 @@ module _ (M : Market) (B : Results) (old : List ℕ) where
         small = λ s l u. rw (at s l u) (omega arith);
         visits = refl;
         count = refl;
+        fares = refl;
         waits = waits-first (M .stage) (M .students);
         lost = refl;
         dropper = omega arith;
@@ -146,8 +156,10 @@ module _ (M : Market) (B : Results) (old : List ℕ) where
       opening-booked d b = S .bits (x .run .hand) rest wait d (rw told-shown b)
 
       -- all that the code of a turn needs
-      pub shows-ready : 2 * pairsIn M (M .paired) ≤ length old → Ready M B (x .visits) (x .seats) (stateAt (x .states) (x .run .hand)) (x .run)
-      shows-ready room =
+      pub shows-ready : 2 * pairsIn M (M .paired) ≤ length old → Payable M
+          → Ready M B (x .visits) (x .seats) (stateAt (x .states) (x .run .hand)) (x .run)
+      unfolding faresOf
+      shows-ready room P =
           record {
             hand = in-range;
             last = last-in;
@@ -159,6 +171,13 @@ module _ (M : Market) (B : Results) (old : List ℕ) where
             seated = λ w l u i li p. seat-booked w l u i p;
             ordered = seats-ordered;
             room = rw (W .visits) (omega (arith, due-room, head-length (flat (m .interviews)) old (omega (arith, due-room, flat-length (m .interviews)))));
+            paid = omega (
+              arith,
+              W .fares,
+              sum-within (λ (v : Interview). M .fare (v .0) (v .1)) 65535 (λ v. P .small (v .0) (v .1)) (m .interviews),
+              S .room (x .run .hand) rest wait,
+              P .few,
+            );
           }
         where
           state : StudentState

@@ -15,7 +15,8 @@ use borrow.Author.Tests.{eqb-true, eqb-false, eq-eqb, ne-eqb, not-true}
 use Rattle.base.specs.Lists.{upto, keep, update, consIf}
 use Rattle.base.specs.Bits.{member, members}
 use Rattle.lgs.specs.Market.{Market, Results, studentOutside, seatsOf}
-use Rattle.lgs.specs.Rule.{best}
+use Rattle.lgs.specs.Rule.{Interview, best}
+use Rattle.lgs.specs.Fares.{faresOf}
 use Rattle.format.specs.Buffers.{flat, withHead}
 use Rattle.api.specs.declared.StudentState.{StudentState}
 use Rattle.model.specs.Model.{Machine, Turn, on, lacks, done, push, dueNow, options, held, missing, round, opens, answers, applies, acts, takeTurn}
@@ -23,6 +24,7 @@ use Rattle.model.specs.Store.{part, putPart, pushPadded}
 use Rattle.model.specs.Turn.{Left, putAt, toldState, RoundSoFar, roundTo, favouriteIn, afterRound, afterSeating, openTier, applyTo, turnOf}
 use Rattle.api.specs.Answered.{zeroState}
 use Rattle.base.proofs.Tests.{is-false, and-left, and-right, eq?}
+use Rattle.base.proofs.Sums.{sum-append}
 use Rattle.base.proofs.Members.{consIf-in, in-front, keep-in, update-at, update-off}
 use Rattle.model.proofs.Seats.{push-fits}
 use Rattle.model.proofs.Tied.{top-pick}
@@ -105,6 +107,7 @@ module _ (M : Market) (B : Results) (old : List ℕ) (fits : M .workshops ≤ 64
         small = small-at state state-small;
         visits = W .visits;
         count = W .count;
+        fares = W .fares;
         waits = taken (M .stage) (M .students) (x .run .last) rest (coming .1);
         lost = refl;
         dropper = omega arith;
@@ -141,6 +144,7 @@ module _ (M : Market) (B : Results) (old : List ℕ) (fits : M .workshops ≤ 64
           small = small-at held-state state-small;
           visits = W .visits;
           count = W .count;
+          fares = W .fares;
           waits = taken (M .stage) (M .students) (x .run .last) rest (coming .1);
           lost = refl;
           dropper = omega arith;
@@ -155,6 +159,7 @@ module _ (M : Market) (B : Results) (old : List ℕ) (fits : M .workshops ≤ 64
           small = small-at held-state state-small;
           visits = W .visits;
           count = W .count;
+          fares = W .fares;
           waits = holds (omega arith) (coming .0) (coming .1);
           lost = refl;
           dropper = u;
@@ -168,6 +173,17 @@ module _ (M : Market) (B : Results) (old : List ℕ) (fits : M .workshops ≤ 64
   -- ---- she goes to her next tier
   abbrev o : RoundSoFar
   o = roundTo M B (x .seats) hand (suc (state .reached)) (state .openings) (M .workshops)
+
+  -- the interviews listed and what they cost, after the round
+  more-visits : putAt (2 * x .run .count) (flat (o .interviews)) (x .visits) ≡ withHead (flat (m .interviews ++ o .interviews)) old
+  more-visits = rw (W .visits) (head-more (m .interviews) (o .interviews) (x .run .count) old (W .count))
+
+  more-count : x .run .count + length (o .interviews) ≡ length (m .interviews ++ o .interviews)
+  more-count = omega (arith, W .count, length-append (m .interviews) (o .interviews))
+
+  more-fares : x .run .fares + faresOf M (o .interviews) ≡ faresOf M (m .interviews ++ o .interviews)
+  unfolding faresOf
+  more-fares = omega (arith, W .fares, sum-append (λ (v : Interview). M .fare (v .0) (v .1)) (m .interviews) (o .interviews))
 
   by-missing : (b : Bool) → eqb (o .missing) 0 ≡ b
       → Follows M old (after (openTier M B (x .visits) (x .seats) state (x .run)))
@@ -183,6 +199,7 @@ module _ (M : Market) (B : Results) (old : List ℕ) (fits : M .workshops ≤ 64
         small = small-at new-state new-small;
         visits = more-visits;
         count = more-count;
+        fares = more-fares;
         waits = holds (range .0) (coming .0) (coming .1);
         lost = refl;
         dropper = omega arith;
@@ -194,12 +211,6 @@ module _ (M : Market) (B : Results) (old : List ℕ) (fits : M .workshops ≤ 64
 
       new-small : o .openings < 2 ^ 64
       new-small = round-small M B hand (x .seats) (suc (state .reached)) (state .openings) (m .interviews) (M .workshops) fits state-small
-
-      more-visits : putAt (2 * x .run .count) (flat (o .interviews)) (x .visits) ≡ withHead (flat (m .interviews ++ o .interviews)) old
-      more-visits = rw (W .visits) (head-more (m .interviews) (o .interviews) (x .run .count) old (W .count))
-
-      more-count : x .run .count + length (o .interviews) ≡ length (m .interviews ++ o .interviews)
-      more-count = omega (arith, W .count, length-append (m .interviews) (o .interviews))
   by-missing false e =
       rw e
       (record {
@@ -207,8 +218,9 @@ module _ (M : Market) (B : Results) (old : List ℕ) (fits : M .workshops ≤ 64
         student = refl;
         workshop = refl;
         real = pos-of-ne-zero (eqb-false _ _ e);
-        count = omega (arith, W .count, length-append (m .interviews) (o .interviews));
-        visits = rw (W .visits) (head-more (m .interviews) (o .interviews) (x .run .count) old (W .count));
+        count = more-count;
+        fares = more-fares;
+        visits = more-visits;
       })
 
   opened : Follows M old (after (openTier M B (x .visits) (x .seats) state (x .run)))

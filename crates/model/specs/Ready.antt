@@ -39,3 +39,5 @@ pub record Ready (M : Market) (B : Results) (visits seats : List ℕ) (k : Stude
   pub ordered : (w : ℕ) → 1 ≤ w → w ≤ M .workshops → InOrder M B w (part M seats w)
   -- there is room for the interviews of her next tier
   pub room : 2 * (r .count + count (dueAt M B seats (r .hand) (suc (k .reached))) (M .workshops)) ≤ length visits
+  -- the interviews held have cost at most the largest fare each, and there are at most as many as pairs of 512 students and 64 workshops
+  pub paid : r .fares ≤ 32768 * 65535

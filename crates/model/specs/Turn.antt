@@ -9,6 +9,7 @@ use Rattle.base.specs.Lists.{consIf}
 use Rattle.base.specs.Bits.{members}
 use Rattle.lgs.specs.Market.{Market, Results, studentOutside}
 use Rattle.lgs.specs.Rule.{Interview, unopened, best}
+use Rattle.lgs.specs.Fares.{faresOf}
 use Rattle.format.specs.Buffers.{flat}
 use Rattle.api.specs.declared.StudentState.{StudentState}
 use Rattle.api.specs.Answered.{zeroState}
@@ -74,21 +75,23 @@ module _ (M : Market) (B : Results) where
   abbrev pub nextRun : Run → Run
   nextRun r =
       let h = nextIn (M .stage) (r .last) (M .students) in
-      record { hand = h; last = h; lost = 0; count = r .count; student = 0; workshop = 0 }
+      record { hand = h; last = h; lost = 0; count = r .count; student = 0; workshop = 0; fares = r .fares }
 
   -- the run after a round of the student in hand
   unfoldable pub afterRound : Run → RoundSoFar → Run
   afterRound r o =
+      let n = r .count + length (o .interviews) in
+      let cost = r .fares + faresOf M (o .interviews) in
       cond (eqb (o .missing) 0)
-      (record { hand = r .hand; last = r .last; lost = 0; count = r .count + length (o .interviews); student = 0; workshop = 0 })
-      (record { hand = 0; last = r .last; lost = 0; count = r .count + length (o .interviews); student = r .hand; workshop = o .missing })
+      (record { hand = r .hand; last = r .last; lost = 0; count = n; student = 0; workshop = 0; fares = cost })
+      (record { hand = 0; last = r .last; lost = 0; count = n; student = r .hand; workshop = o .missing; fares = cost })
 
   -- the run after workshop c has taken the student in hand and has dropped x (0: nobody)
   unfoldable pub afterSeating : Run → ℕ → ℕ → Run
   afterSeating r c x =
       cond (eqb x 0)
       (nextRun r)
-      (record { hand = x; last = r .last; lost = c; count = r .count; student = 0; workshop = 0 })
+      (record { hand = x; last = r .last; lost = c; count = r .count; student = 0; workshop = 0; fares = r .fares })
 
   -- what a turn leaves: the student's state and the run, the visits and the seats
   pub record Left : Type 0 where
@@ -134,7 +137,9 @@ module _ (M : Market) (B : Results) where
 
   -- the run's beginning: the first student of the first stage
   unfoldable pub beginRun : Run
-  beginRun = let h = nextIn (M .stage) 0 (M .students) in record { hand = h; last = h; lost = 0; count = 0; student = 0; workshop = 0 }
+  beginRun =
+      let h = nextIn (M .stage) 0 (M .students) in
+      record { hand = h; last = h; lost = 0; count = 0; student = 0; workshop = 0; fares = 0 }
 
   -- the buffers, the students' states and the run after k turns at most: once no student is in hand nothing changes
   unfoldable pub runOf : ℕ → List ℕ → List ℕ → List StudentState → Run → List ℕ × (List ℕ × (List StudentState × Run))

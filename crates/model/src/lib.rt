@@ -4,7 +4,8 @@
 use api::StudentState;
 
 // Where a run stands: the student in hand, or 0 when it is over; the last student taken in the order of stages; the workshop that has just
-// dropped the student in hand, or 0; the number of interviews held; the student and the workshop of the interview that is missing, or 0.
+// dropped the student in hand, or 0; the number of interviews held; the student and the workshop of the interview that is missing, or 0; what the
+// interviews held have cost.
 pub struct Run {
     pub hand: usize,
     pub last: usize,
@@ -12,6 +13,7 @@ pub struct Run {
     pub count: usize,
     pub student: usize,
     pub workshop: usize,
+    pub fares: u32,
 }
 
 // What a turn gives back.

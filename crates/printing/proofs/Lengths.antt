@@ -10,7 +10,7 @@ use lib.ListN.{length, getD, take, drop, length-append, length-take}
 use lib.Seq.{sets-eq, take-append-seam}
 use Rattle.base.proofs.Tests.{less?}
 use Rattle.format.specs.Printed.{digitsWithin, decimal, numbers, lineOf, placeLines, visitLines, visitsText, Whole}
-use Rattle.format.specs.Printed.{placeWord, visitWord, visitsWord, nextWord, refusedWord}
+use Rattle.format.specs.Printed.{placeWord, visitWord, visitsWord, faresWord, nextWord, refusedWord}
 use Rattle.api.specs.Text.{interviewsAt, textOf}
 use Rattle.api.specs.declared.Answer.{Answer}
 use Rattle.api.specs.declared.Answer.the-variants.{Placed, Next, Refused}
@@ -91,17 +91,27 @@ lines-length l (suc i) h =
       lines-length l i h,
     ))
 
--- and the line with the count
-visits-length : (l : List ℕ) (count : ℕ) → ((j : ℕ) → getD l j 0 < 65536) → length l < 2 ^ 64 → 2 * count ≤ length l
-    → length (visitsText (interviewsAt count l)) ≤ 9 * length l + 28
-visits-length l count h m le =
-    rw (sym (visits-text l count))
+-- the line with the fares: "fares" and a space, at most 10 digits, and a line feed
+fares-length : (fares : ℕ) → fares < 2 ^ 32 → length (lineOf faresWord (fares ∷ [])) ≤ 17
+fares-length fares h = omega (arith, line-one-length faresWord fares, decimal-length 10 fares (omega arith) (omega arith))
+
+-- the line with the count, at most 28 bytes, the lines of visits, and the line with the fares
+visits-length : (l : List ℕ) (count fares : ℕ)
+    → ((j : ℕ) → getD l j 0 < 65536)
+    → length l < 2 ^ 64
+    → 2 * count ≤ length l
+    → fares < 2 ^ 32
+    → length (visitsText (interviewsAt count l) fares) ≤ 9 * length l + 45
+visits-length l count fares h m le small =
+    rw (sym (visits-text l count fares))
     (omega (
       arith,
+      length-append (lineOf visitsWord (count ∷ []) ++ visitLines (interviewsAt count l)) (lineOf faresWord (fares ∷ [])),
       length-append (lineOf visitsWord (count ∷ [])) (visitLines (interviewsAt count l)),
       line-one-length visitsWord count,
       number-length count (omega arith),
       lines-length l count h,
+      fares-length fares small,
     ))
 
 -- a text that the buffer has room for stands there whole
@@ -122,29 +132,33 @@ put-both p l = (p, λ h. put-whole p (omega arith))
 pub whole-within : {t : List ℕ} {end : ℕ} {out : List ℕ} → Whole t out end → end ≤ length out
 whole-within {t} {end} {out} p = omega (arith, p .long, ap length (p .bytes), length-take end out, min-le-right end (length out))
 
--- the first line of an answer that has two numbers in it
-abbrev pub FirstLine : Answer → Type 0
-FirstLine (Placed count) = Unit {0}
-FirstLine (Next s w count) = length (lineOf nextWord (s ∷ w ∷ [])) ≤ 47
-FirstLine (Refused k i) = length (lineOf refusedWord (k ∷ i ∷ [])) ≤ 50
+-- what bounds an answer's own numbers: the length of a first line that has two of them, and 32 bits for the fares
+abbrev pub Numbers : Answer → Type 0
+Numbers (Placed count fares) = fares < 2 ^ 32
+Numbers (Next s w count fares) = (length (lineOf nextWord (s ∷ w ∷ [])) ≤ 47) × (fares < 2 ^ 32)
+Numbers (Refused k i) = length (lineOf refusedWord (k ∷ i ∷ [])) ≤ 50
 
 -- the text of an answer from buffers of entries of two bytes
 pub text-length : (a : Answer) (n : ℕ) (places visits : List ℕ)
     → TextFits a n places visits
-    → FirstLine a
+    → Numbers a
     → ((j : ℕ) → getD places j 0 < 65536)
     → ((j : ℕ) → getD visits j 0 < 65536)
     → length places < 2 ^ 64
     → length visits < 2 ^ 64
     → length (textOf a n places visits) ≤ 33 * length places + 9 * length visits + 100
 unfolding textOf
-text-length (Placed count) n places visits f s h k l m =
+text-length (Placed count fares) n places visits f s h k l m =
     omega (
       arith,
-      length-append (placeLines 1 (take n places)) (visitsText (interviewsAt count visits)),
+      length-append (placeLines 1 (take n places)) (visitsText (interviewsAt count visits) fares),
       places-length places n h l (f .0),
-      visits-length visits count k m (f .1),
+      visits-length visits count fares k m (f .1) s,
     )
-text-length (Next a b count) n places visits f s h k l m =
-    omega (arith, length-append (lineOf nextWord (a ∷ b ∷ [])) (visitsText (interviewsAt count visits)), visits-length visits count k m f)
+text-length (Next a b count fares) n places visits f s h k l m =
+    omega (
+      arith,
+      length-append (lineOf nextWord (a ∷ b ∷ [])) (visitsText (interviewsAt count visits) fares),
+      visits-length visits count fares k m f (s .1),
+    )
 text-length (Refused a b) n places visits f s h k l m = omega arith

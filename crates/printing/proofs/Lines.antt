@@ -1,5 +1,5 @@
 -- The lines of places and of interviews: one more is put after the others.
-use Prim.Native.Nat.{ℕ, zero, suc, _+_, _*_, _≤_, _<_}
+use Prim.Native.Nat.{ℕ, zero, suc, _+_, _*_, _<_}
 use mathlib.Core.Path.{_≡_, refl, sym, ap, _∙_}
 use mathlib.Core.List.{List, [], _∷_, _++_, append-assoc, append-nil}
 use native.Mathlib.Omega.{arith}
@@ -7,7 +7,7 @@ use lib.ListN.{length, getD, take}
 use Rattle.base.specs.Lists.{tabulate}
 use Rattle.base.proofs.Below.{tabulate-length}
 use Rattle.lgs.specs.Rule.{Interview}
-use Rattle.format.specs.Printed.{lineOf, placeWord, visitWord, visitsWord, placeLines, visitLines, visitsText}
+use Rattle.format.specs.Printed.{lineOf, placeWord, visitWord, visitsWord, faresWord, placeLines, visitLines, visitsText}
 use Rattle.api.specs.Text.{interviewsAt}
 
 pub places-on : (l : List ℕ) (k i : ℕ) → i < length l
@@ -40,9 +40,10 @@ pub places-none : (k : ℕ) (l : List ℕ) → placeLines k (take 0 l) ≡ []
 unfolding placeLines
 places-none k l = refl
 
--- the line with the count, and then the lines
-pub visits-text : (l : List ℕ) (n : ℕ) → lineOf visitsWord (n ∷ []) ++ visitLines (interviewsAt n l) ≡ visitsText (interviewsAt n l)
+-- the line with the count, then the lines, and the line with the fares
+pub visits-text : (l : List ℕ) (n fares : ℕ)
+    → lineOf visitsWord (n ∷ []) ++ visitLines (interviewsAt n l) ++ lineOf faresWord (fares ∷ []) ≡ visitsText (interviewsAt n l) fares
 unfolding visitsText interviewsAt
-visits-text l n =
+visits-text l n fares =
     let f : ℕ → Interview = λ i. (getD l (2 * i) 0, getD l (2 * i + 1) 0) in
-    ap (λ (k : ℕ). lineOf visitsWord (k ∷ []) ++ visitLines (tabulate f n)) (sym (tabulate-length f n))
+    ap (λ (k : ℕ). lineOf visitsWord (k ∷ []) ++ visitLines (tabulate f n) ++ lineOf faresWord (fares ∷ [])) (sym (tabulate-length f n))

@@ -2,7 +2,7 @@
 use Prim.Native.Nat.{ℕ, _+_, _*_, _≤_, min}
 use mathlib.Core.Path.{_≡_}
 use mathlib.Core.List.{List}
-use lib.ListN.{length, take}
+use lib.ListN.{length}
 use lib.Seq.{sets}
 use Rattle.format.specs.Printed.{Whole}
 use Rattle.api.specs.declared.Answer.{Answer}
@@ -20,6 +20,6 @@ pub record PutWhole (text out after : List ℕ) (end : ℕ) : Type 0 where
 
 -- the buffers have what the answer speaks of: n places, and the interviews of its count
 abbrev pub TextFits : Answer → ℕ → List ℕ → List ℕ → Type 0
-TextFits (Placed count) n places visits = (n ≤ length places) × (2 * count ≤ length visits)
-TextFits (Next s w count) n places visits = 2 * count ≤ length visits
+TextFits (Placed count fares) n places visits = (n ≤ length places) × (2 * count ≤ length visits)
+TextFits (Next s w count fares) n places visits = 2 * count ≤ length visits
 TextFits (Refused k i) n places visits = Unit {0}

@@ -1,8 +1,8 @@
 // The text of an answer, put into lent bytes. Text that does not fit is cut off at the buffer's end; nothing is written past it.
 ghost use mathlib.Core.Path.{_≡_};
-ghost use mathlib.Core.List.{List, [], _∷_, _++_};
-ghost use Prim.Native.Nat.{ℕ, _+_, _*_, _≤_, _<_};
-ghost use lib.ListN.{length, getD, take};
+ghost use mathlib.Core.List.{[], _∷_, _++_};
+ghost use Prim.Native.Nat.{_+_, _*_, _≤_, _<_};
+ghost use lib.ListN.{length, take};
 ghost use Rattle.format.specs.Printed.{ascii, decimal, lineOf, placeLines, visitLines, visitsText, unread, Whole};
 ghost use Rattle.api.specs.Text.{interviewsAt, textOf};
 ghost use Rattle.printing.specs.Text.{Put, TextFits};
@@ -109,13 +109,14 @@ fn put_visit_lines(out: &mut [u8], at: usize, visits: &[u16], count: usize) -> u
     end
 }
 
-// The line with the count, and the lines of the interviews. A line after them would be put here, and stand in `visitsText`.
-fn put_visits(out: &mut [u8], at: usize, visits: &[u16], count: usize) -> usize
+// The line with the count, the lines of the interviews, and the line with what they cost, of at most 17 bytes: ten digits hold a u32.
+fn put_visits(out: &mut [u8], at: usize, visits: &[u16], count: usize, fares: u32) -> usize
     requires { ⌜ (at ≤ length (now out)) × (2 * count ≤ length (now visits)) ⌝ }
-    ensures { λ r. ⌜ Put (visitsText (interviewsAt count (now (visits .entry)))) at (now (out .entry)) (now (out .exit)) r ⌝ }
+    ensures { λ r. ⌜ Put (visitsText (interviewsAt count (now (visits .entry))) fares) at (now (out .entry)) (now (out .exit)) r ⌝ }
 {
     let end = put_line1(&mut *out, at, b"visits", count);
-    put_visit_lines(out, end, visits, count)
+    let end = put_visit_lines(&mut *out, end, visits, count);
+    put_line1(out, end, b"fares", fares as usize)
 }
 
 fn wide(x: u16) -> usize
@@ -125,7 +126,8 @@ fn wide(x: u16) -> usize
 }
 
 // The text of an answer with n students, from the lent buffers. The result is the text's length, or the buffer's where the text is longer.
-// Where `out` has 33 bytes for each entry of the places, 9 for each of the visits and 100 more, it gets the whole text.
+// Where `out` has 33 bytes for each entry of the places, 9 for each of the visits and 100 more, it gets the whole text: the lines `next`, `visits`
+// and `fares` have at most 47, 28 and 17 bytes.
 pub fn put_answer(answer: Answer, n: usize, places: &[u16], visits: &[u16], out: &mut [u8]) -> usize
     requires { ⌜ TextFits answer n (now places) (now visits) ⌝ }
     ensures { λ r. ⌜ Put (textOf answer n (now (places .entry)) (now (visits .entry))) 0 (now (out .entry)) (now (out .exit)) r ⌝ }
@@ -133,17 +135,21 @@ pub fn put_answer(answer: Answer, n: usize, places: &[u16], visits: &[u16], out:
         → Whole (textOf answer n (now (places .entry)) (now (visits .entry))) (now (out .exit)) r) ⌝ }
 {
     match answer {
-        Answer::Placed { visits: count } => {
+        Answer::Placed {
+            visits: count,
+            fares,
+        } => {
             let end = put_places(&mut *out, 0, places, n);
-            put_visits(out, end, visits, count)
+            put_visits(out, end, visits, count, fares)
         }
         Answer::Next {
             student,
             workshop,
             visits: count,
+            fares,
         } => {
             let end = put_line2(&mut *out, 0, b"next", student, workshop);
-            put_visits(out, end, visits, count)
+            put_visits(out, end, visits, count, fares)
         }
         Answer::Refused { cause, record } => put_line2(out, 0, b"refused", cause, record),
     }

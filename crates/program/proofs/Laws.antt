@@ -1,15 +1,12 @@
 -- The buffers that the engine leaves have the text of its answer.
-use Prim.Native.Nat.{ℕ, _+_, _*_, _-_, _≤_}
-use mathlib.Core.Path.{_≡_, refl, sym, ap, _∙_, subst}
-use mathlib.Core.List.{List, _++_}
+use Prim.Native.Nat.{ℕ, _-_}
+use mathlib.Core.Path.{_≡_}
+use mathlib.Core.List.{List}
 use native.Mathlib.Omega.{arith}
-use native.Mathlib.Nat.{min-le-right}
-use lib.ListN.{length, take, drop, length-take, length-drop, length-append}
-use Rattle.lgs.specs.Rule.{Interview}
-use Rattle.format.specs.Refusals.{Room}
+use lib.ListN.{length, drop, length-append}
 use Rattle.format.specs.Engine.{placed, next, refused, engine, marketIn}
 use Rattle.format.specs.Engine.{Outcome}
-use Rattle.format.specs.Buffers.{flat, withHead, placesAfter, visitsAfter}
+use Rattle.format.specs.Buffers.{flat, placesAfter, visitsAfter}
 use Rattle.format.specs.Printed.{printed}
 use Rattle.format.specs.Promises.{Promised}
 use Rattle.format.proofs.Buffers.{flat-length}
@@ -24,11 +21,11 @@ use Rattle.printing.specs.Text.{TextFits}
 -- the buffers after an answer have what it speaks of
 fits-after : (a : Outcome) (n : ℕ) (places visits : List ℕ) → PlacesOf n a → TextFits (answerFor a) n (placesAfter a places) (visitsAfter a visits)
 unfolding answerFor placesAfter visitsAfter
-fits-after (placed ps vs) n places visits e = (
+fits-after (placed ps vs fares) n places visits e = (
   omega (arith, length-append ps (drop (length ps) places)),
   omega (arith, length-append (flat vs) (drop (length (flat vs)) visits), flat-length vs),
 )
-fits-after (next s w vs) n places visits e = omega (arith, length-append (flat vs) (drop (length (flat vs)) visits), flat-length vs)
+fits-after (next s w vs fares) n places visits e = omega (arith, length-append (flat vs) (drop (length (flat vs)) visits), flat-length vs)
 fits-after (refused k i) n places visits e = tt
 
 module _ {case book places visits seats index : List ℕ} {states : List StudentState} {a : Answer} {places′ visits′ seats′ index′ : List ℕ}
@@ -37,8 +34,8 @@ module _ {case book places visits seats index : List ℕ} {states : List Student
   full = engine case book (lent case book places visits seats index states)
 
   whole : (b : Outcome) → Promised case book (lent case book places visits seats index states) b → PlacesOf (marketIn case .students) b
-  whole (placed ps vs) p = p .1 .whole
-  whole (next s w vs) p = tt
+  whole (placed ps vs fares) p = p .1 .whole
+  whole (next s w vs fares) p = tt
   whole (refused k i) p = tt
 
   pub answer-fits : TextFits a (marketIn case .students) places′ visits′

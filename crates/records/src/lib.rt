@@ -173,6 +173,13 @@ pub fn fourth_at(case: &[u8], i: usize) -> u16
     field_at(case, i, 4)
 }
 
+pub fn fifth_at(case: &[u8], i: usize) -> u16
+    requires { ⌜ i < rowCount (now case) ⌝ }
+    ensures { λ r. ⌜ r ≡ rowAt (now (case .entry)) i .fifth ⌝ }
+{
+    field_at(case, i, 5)
+}
+
 pub fn row_at(case: &[u8], i: usize) -> Row
     requires { ⌜ i < rowCount (now case) ⌝ }
     ensures { λ r. ⌜ rowOf r ≡ rowAt (now (case .entry)) i ⌝ }
@@ -184,7 +191,7 @@ pub fn row_at(case: &[u8], i: usize) -> Row
         second: second_at(case, i),
         third: third_at(case, i),
         fourth: fourth_at(case, i),
-        fifth: field_at(case, i, 5),
+        fifth: fifth_at(case, i),
         sixth: field_at(case, i, 6),
         seventh: field_at(case, i, 7),
     }

@@ -1,7 +1,7 @@
 -- Which workshops a student is to be interviewed by, test by test.
 use Prim.Native.Nat.{ℕ, _≤_, _<_}
 use mathlib.Core.Path.{_≡_, sym, _∙_}
-use mathlib.Core.Bool.{Bool, true, false, not, _&&_}
+use mathlib.Core.Bool.{Bool, true, not, _&&_}
 use mathlib.Core.List.{List}
 use native.Mathlib.Omega.{arith}
 use lib.Dec.{eqb, ltb}
@@ -68,3 +68,7 @@ module _ (case : List ℕ) (s w t p : ℕ) (e : p ≡ pairPlace case s w) where
 -- the workshop's tier, from the pair's record
 pub tier-at : (case : List ℕ) (s w p t : ℕ) → PairAt case s w → p ≡ pairPlace case s w → t ≡ rowAt case p .fourth → t ≡ marketIn case .workshopTier w s
 tier-at case s w p t k q r = r ∙ rw q (sym (k .workshopTier))
+
+-- the fare, from the pair's record
+pub fare-at : (case : List ℕ) (s w p x : ℕ) → PairAt case s w → p ≡ pairPlace case s w → x ≡ rowAt case p .fifth → x ≡ marketIn case .fare s w
+fare-at case s w p x k q r = r ∙ rw q (sym (k .fare))

@@ -181,7 +181,7 @@ next f a (suc m) l h =
     last false e g = absurd (omega (arith, ap one e))
 
 -- between two places with the same count nothing is of the tier, and the round stays as it is
-module _ (M : Market) (B : Results) (seats : List ℕ) (s t set held : ℕ) (old visits : List ℕ) (total openings : ℕ) where
+module _ (M : Market) (B : Results) (seats : List ℕ) (s t set held : ℕ) (old visits : List ℕ) (total openings fares : ℕ) where
   passed : (a b : ℕ) → a ≤ b → count (inTier M s t) b ≡ count (inTier M s t) a → roundTo M B seats s t set b ≡ roundTo M B seats s t set a
   unfolding count
   passed a zero l e = let z : a ≡ 0 = omega arith in rw z
@@ -198,43 +198,43 @@ module _ (M : Market) (B : Results) (seats : List ℕ) (s t set held : ℕ) (old
       none false n q = n
       none true n q = absurd (omega (arith, count-to (inTier M s t) a b (omega arith), ap one n))
 
-  round-passed : (a b : ℕ) → a ≤ b → count (inTier M s t) b ≡ count (inTier M s t) a → Rounding M B seats s t set held old visits total openings a →
-      Rounding M B seats s t set held old visits total openings b
+  round-passed : (a b : ℕ) → a ≤ b → count (inTier M s t) b ≡ count (inTier M s t) a → Rounding M B seats s t set held old visits total openings fares a →
+      Rounding M B seats s t set held old visits total openings fares b
   round-passed a b l e r =
       let q : roundTo M B seats s t set b ≡ roundTo M B seats s t set a = passed a b l e in
-      record { all = rw q (r .all); sets = rw q (r .sets); on = rw q (r .on); written = rw q (r .written) }
+      record { all = rw q (r .all); sets = rw q (r .sets); paid = rw q (r .paid); on = rw q (r .on); written = rw q (r .written) }
 
 -- k of the n workshops listed have been gone over
-pub record Going (case : List ℕ) (B : Results) (seats : List ℕ) (s t set held m n : ℕ) (pairs old visits : List ℕ) (total openings k : ℕ) : Type 0 where
+pub record Going (case : List ℕ) (B : Results) (seats : List ℕ) (s t set held m n : ℕ) (pairs old visits : List ℕ) (total openings fares k : ℕ) : Type 0 where
   pub listed : TierListed case s t m n pairs
   pub done : ℕ
   pub within : done ≤ m
   pub place : count (inTier (marketIn case) s t) done ≡ k
-  pub so : Rounding (marketIn case) B seats s t set held old visits total openings done
+  pub so : Rounding (marketIn case) B seats s t set held old visits total openings fares done
 
 -- the workshop at place k of the list is w; its pair's record is p
-pub record Coming (case : List ℕ) (B : Results) (seats : List ℕ) (s t set held m : ℕ) (old visits : List ℕ) (total openings k w p : ℕ) : Type 0 where
+pub record Coming (case : List ℕ) (B : Results) (seats : List ℕ) (s t set held m : ℕ) (old visits : List ℕ) (total openings fares k w p : ℕ) : Type 0 where
   pub at : ℕ
   pub below : at < m
   pub number : w ≡ suc at
   pub place : count (inTier (marketIn case) s t) at ≡ k
   pub tier : inTier (marketIn case) s t w ≡ true
   pub pair : p ≡ pairPlace case s w
-  pub so : Rounding (marketIn case) B seats s t set held old visits total openings at
+  pub so : Rounding (marketIn case) B seats s t set held old visits total openings fares at
 
 module _ (case : List ℕ) (B : Results) (seats : List ℕ) (s t set held m n : ℕ) (pairs old : List ℕ) where
-  pub going-start : TierListed case s t m n pairs → Going case B seats s t set held m n pairs old old held set 0
+  pub going-start : TierListed case s t m n pairs → Going case B seats s t set held m n pairs old old held set 0 0
   unfolding count
   going-start l = record { listed = l; done = 0; within = omega arith; place = refl; so = round-start (marketIn case) B seats s t set held old }
 
-  module _ (visits : List ℕ) (total openings k : ℕ) (g : Going case B seats s t set held m n pairs old visits total openings k) where
+  module _ (visits : List ℕ) (total openings fares k : ℕ) (g : Going case B seats s t set held m n pairs old visits total openings fares k) where
     -- there are no more places than workshops
     pub going-few : n ≤ m
     going-few = omega (arith, g .listed .many, count-le (inTier (marketIn case) s t) m)
 
-    pub going-end : n ≤ k → Rounding (marketIn case) B seats s t set held old visits total openings m
+    pub going-end : n ≤ k → Rounding (marketIn case) B seats s t set held old visits total openings fares m
     going-end l =
-        round-passed (marketIn case) B seats s t set held old visits total openings (g .done) m (g .within)
+        round-passed (marketIn case) B seats s t set held old visits total openings fares (g .done) m (g .within)
         (omega (arith, g .listed .many, g .place, count-to (inTier (marketIn case) s t) (g .done) m (g .within)))
         (g .so)
 
@@ -242,7 +242,7 @@ module _ (case : List ℕ) (B : Results) (seats : List ℕ) (s t set held m n : 
       pub ahead : Next (inTier (marketIn case) s t) (g .done) m
       ahead = next (inTier (marketIn case) s t) (g .done) m (g .within) (omega (arith, g .listed .many, g .place))
 
-      pub coming : Coming case B seats s t set held m old visits total openings k (suc (ahead .at)) (getD pairs k 0)
+      pub coming : Coming case B seats s t set held m old visits total openings fares k (suc (ahead .at)) (getD pairs k 0)
       coming =
           let e : count (inTier (marketIn case) s t) (ahead .at) ≡ k = ahead .same ∙ g .place in
           record {
@@ -252,7 +252,7 @@ module _ (case : List ℕ) (B : Results) (seats : List ℕ) (s t set held m n : 
             place = e;
             tier = ahead .passes;
             pair = ap (λ (i : ℕ). getD pairs i 0) (sym e) ∙ g .listed .pair (ahead .at) (ahead .to) (ahead .passes);
-            so = round-passed (marketIn case) B seats s t set held old visits total openings (g .done) (ahead .at) (ahead .from) (ahead .same) (g .so);
+            so = round-passed (marketIn case) B seats s t set held old visits total openings fares (g .done) (ahead .at) (ahead .from) (ahead .same) (g .so);
           }
 
       -- its number stands in the pair's record
@@ -260,16 +260,16 @@ module _ (case : List ℕ) (B : Results) (seats : List ℕ) (s t set held m n : 
         pub coming-within : getD pairs k 0 < rowCount case
         coming-within = omega (arith, coming .pair, found (suc (ahead .at)) (tier-pair (marketIn case) B seats s t (suc (ahead .at)) (coming .tier)) .within)
 
-        pub coming-as : (w : ℕ) → w ≡ rowAt case (getD pairs k 0) .second → Coming case B seats s t set held m old visits total openings k w
+        pub coming-as : (w : ℕ) → w ≡ rowAt case (getD pairs k 0) .second → Coming case B seats s t set held m old visits total openings fares k w
             (getD pairs k 0)
         coming-as w e = rw (e ∙ pair-second case s (suc (ahead .at)) t (getD pairs k 0) (coming .pair) coming-within) coming
 
     -- the workshop has been dealt with
-    pub going-on : (w p : ℕ) (visits′ : List ℕ) (total′ openings′ : ℕ)
-        → Coming case B seats s t set held m old visits total openings k w p
-        → Rounding (marketIn case) B seats s t set held old visits′ total′ openings′ w
-        → Going case B seats s t set held m n pairs old visits′ total′ openings′ (k + 1)
+    pub going-on : (w p : ℕ) (visits′ : List ℕ) (total′ openings′ fares′ : ℕ)
+        → Coming case B seats s t set held m old visits total openings fares k w p
+        → Rounding (marketIn case) B seats s t set held old visits′ total′ openings′ fares′ w
+        → Going case B seats s t set held m n pairs old visits′ total′ openings′ fares′ (k + 1)
     unfolding count
-    going-on w p visits′ total′ openings′ c r =
+    going-on w p visits′ total′ openings′ fares′ c r =
         let y : inTier (marketIn case) s t (suc (c .at)) ≡ true = rw (← c .number) (c .tier) in
         record { listed = g .listed; done = w; within = omega (arith, c .number, c .below); place = rw (c .number) (omega (arith, c .place, ap one y)); so = r }

@@ -8,10 +8,13 @@ use native.Mathlib.Omega.{arith}
 use lib.Dec.{eqb}
 use lib.ListN.{length, length-append}
 use borrow.Author.Tests.{eq-eqb, ne-eqb}
-use Rattle.base.specs.Lists.{one, count}
+use Rattle.base.specs.Lists.{one, count, sumOf}
 use Rattle.base.proofs.Tests.{bool-cases, less?}
+use Rattle.base.proofs.Counting.{count-le}
+use Rattle.base.proofs.Sums.{sum-append, sum-within}
 use Rattle.lgs.specs.Market.{Market, Results}
 use Rattle.lgs.specs.Rule.{Interview, unopened}
+use Rattle.lgs.specs.Fares.{faresOf}
 use Rattle.format.specs.Buffers.{flat}
 use Rattle.model.specs.Turn.{RoundSoFar, dueAt, roundAt, roundTo, putAt, withMember}
 use Rattle.turning.specs.Round.{roundOf}
@@ -58,6 +61,17 @@ module _ (M : Market) (B : Results) (seats : List ℕ) (s t set : ℕ) where
   few zero = omega arith
   few (suc k) = omega (arith, step-length k, few k)
 
+  -- with fares of 16 bits, those of 64 workshops at most cost so much at most
+  pub round-cheap : ((v : Interview) → M .fare (v .0) (v .1) ≤ 65535) → (k : ℕ) → k ≤ 64 → faresOf M (soFar k .interviews) ≤ 64 * 65535
+  unfolding faresOf
+  round-cheap small k l =
+      omega (
+        arith,
+        sum-within (λ (v : Interview). M .fare (v .0) (v .1)) 65535 small (soFar k .interviews),
+        few k,
+        count-le (dueAt M B seats s t) k,
+      )
+
   -- workshop k + 1 is not to be interviewed
   pub skipped : (k : ℕ) → dueAt M B seats s t (suc k) ≡ false → soFar (suc k) ≡ soFar k
   unfolding roundTo
@@ -87,28 +101,30 @@ module _ (M : Market) (B : Results) (seats : List ℕ) (s t set : ℕ) where
     lacking m = come ∙ rw m
 
 -- after the first k workshops, of `held` interviews before and the visits `old`
-pub record Rounding (M : Market) (B : Results) (seats : List ℕ) (s t set held : ℕ) (old visits : List ℕ) (total openings k : ℕ) : Type 0 where
+pub record Rounding (M : Market) (B : Results) (seats : List ℕ) (s t set held : ℕ) (old visits : List ℕ) (total openings fares k : ℕ) : Type 0 where
   pub all : total ≡ held + length (roundTo M B seats s t set k .interviews)
   pub sets : openings ≡ roundTo M B seats s t set k .openings
+  pub paid : fares ≡ faresOf M (roundTo M B seats s t set k .interviews)
   pub on : roundTo M B seats s t set k .missing ≡ 0
   pub written : visits ≡ putAt (2 * held) (flat (roundTo M B seats s t set k .interviews)) old
 
 -- what the code answers and leaves in the visits
-abbrev pub Answers : Round → List ℕ → ℕ → RoundSoFar → List ℕ → Type 0
-Answers r visits held o old = (r ≡ roundOf held o) × (visits ≡ putAt (2 * held) (flat (o .interviews)) old)
+abbrev pub Answers : Market → Round → List ℕ → ℕ → RoundSoFar → List ℕ → Type 0
+Answers M r visits held o old = (r ≡ roundOf M held o) × (visits ≡ putAt (2 * held) (flat (o .interviews)) old)
 
 module _ (M : Market) (B : Results) (seats : List ℕ) (s t set held : ℕ) (old : List ℕ) where
-  pub round-start : Rounding M B seats s t set held old old held set 0
-  unfolding roundTo flat
-  round-start = record { all = omega arith; sets = refl; on = refl; written = sym (put-none old (2 * held)) }
+  pub round-start : Rounding M B seats s t set held old old held set 0 0
+  unfolding roundTo flat faresOf sumOf
+  round-start = record { all = omega arith; sets = refl; paid = refl; on = refl; written = sym (put-none old (2 * held)) }
 
-  module _ (visits : List ℕ) (total openings k n : ℕ) (r : Rounding M B seats s t set held old visits total openings k) where
+  module _ (visits : List ℕ) (total openings fares k n : ℕ) (r : Rounding M B seats s t set held old visits total openings fares k) where
     -- the round is over
-    pub round-end : k ≡ n → Answers (record { count = total; openings = openings; missing = 0 }) visits held (roundTo M B seats s t set n) old
+    pub round-end : k ≡ n
+        → Answers M (record { count = total; openings = openings; missing = 0; fares = fares }) visits held (roundTo M B seats s t set n) old
     round-end e = rw (← e) (same, r .written)
       where
-        same : record { count = total; openings = openings; missing = 0 } ≡ roundOf held (roundTo M B seats s t set k)
-        same = cc (r .all, r .sets, r .on)
+        same : record { count = total; openings = openings; missing = 0; fares = fares } ≡ roundOf M held (roundTo M B seats s t set k)
+        same = cc (r .all, r .sets, r .on, r .paid)
 
     module _ (room : 2 * (held + count (dueAt M B seats s t) n) ≤ length old) where
       pub round-length : k ≤ n → length visits ≡ length old
@@ -121,10 +137,10 @@ module _ (M : Market) (B : Results) (seats : List ℕ) (s t set held : ℕ) (old
 
       -- the next workshop is w
       module _ (l : k < n) (w : ℕ) (e : w ≡ suc k) where
-        pub round-skip : dueAt M B seats s t w ≡ false → Rounding M B seats s t set held old visits total openings w
+        pub round-skip : dueAt M B seats s t w ≡ false → Rounding M B seats s t set held old visits total openings fares w
         round-skip d =
             let q : roundTo M B seats s t set w ≡ roundTo M B seats s t set k = rw e (skipped M B seats s t set k (rw e at d)) in
-            record { all = rw q (r .all); sets = rw q (r .sets); on = rw q (r .on); written = rw q (r .written) }
+            record { all = rw q (r .all); sets = rw q (r .sets); paid = rw q (r .paid); on = rw q (r .on); written = rw q (r .written) }
 
         module _ (d : dueAt M B seats s t w ≡ true) where
           due-next : dueAt M B seats s t (suc k) ≡ true
@@ -142,10 +158,11 @@ module _ (M : Market) (B : Results) (seats : List ℕ) (s t set held : ℕ) (old
               let b : length (flat vs ++ (s ∷ w ∷ [])) ≡ length (flat vs) + 2 = length-append (flat vs) (s ∷ w ∷ []) in
               rw (a, r .written, flat-snoc vs s w) (put-more (flat vs) (s ∷ w ∷ []) old (2 * held) (omega (arith, round-room, round-length (omega arith))))
 
-          pub round-held : B .met s w ≡ true
+          pub round-held : B .met s w ≡ true → (fare : ℕ) → fare ≡ M .fare s w
               → Rounding M B seats s t set held old (putAt (2 * total) (s ∷ w ∷ []) visits) (total + 1)
-              (cond (unopened M B s w) openings (withMember openings w)) w
-          round-held m =
+              (cond (unopened M B s w) openings (withMember openings w)) (fares + fare) w
+          unfolding faresOf sumOf
+          round-held m fare f =
               let vs : List Interview = roundTo M B seats s t set k .interviews in
               let q : roundTo M B seats s t set w
               ≡ record {
@@ -154,11 +171,17 @@ module _ (M : Market) (B : Results) (seats : List ℕ) (s t set held : ℕ) (old
                     (withMember (roundTo M B seats s t set k .openings) w);
                 missing = 0;
               } = rw e (taken M B seats s t set k (r .on) due-next (rw e at m)) in
-              record { all = rw q (omega (arith, r .all, length-append vs ((s, w) ∷ []))); sets = rw (q, r .sets); on = rw q; written = rw q more }
+              record {
+                all = rw q (omega (arith, r .all, length-append vs ((s, w) ∷ [])));
+                sets = rw (q, r .sets);
+                paid = rw q (omega (arith, f, r .paid, sum-append (λ (v : Interview). M .fare (v .0) (v .1)) vs ((s, w) ∷ [])));
+                on = rw q;
+                written = rw q more;
+              }
 
           -- it is missing, and the round stops
-          pub round-missing : B .met s w ≡ false → Answers (record { count = total; openings = openings; missing = w }) visits held
-              (roundTo M B seats s t set n) old
+          pub round-missing : B .met s w ≡ false
+              → Answers M (record { count = total; openings = openings; missing = w; fares = fares }) visits held (roundTo M B seats s t set n) old
           round-missing m = rw whole (same, r .written)
             where
               q : roundTo M B seats s t set (suc k) ≡ record
@@ -169,10 +192,11 @@ module _ (M : Market) (B : Results) (seats : List ℕ) (s t set held : ℕ) (old
                   { interviews = roundTo M B seats s t set k .interviews; openings = roundTo M B seats s t set k .openings; missing = suc k }
               whole = stays M B seats s t set (suc k) n l (λ z. let y : suc k ≡ 0 = rw q at z in omega arith) ∙ q
 
-              same : _≡_ {A = Round} (record { count = total; openings = openings; missing = w })
+              same : _≡_ {A = Round} (record { count = total; openings = openings; missing = w; fares = fares })
                   (record {
                     count = held + length (roundTo M B seats s t set k .interviews);
                     openings = roundTo M B seats s t set k .openings;
                     missing = suc k;
+                    fares = faresOf M (roundTo M B seats s t set k .interviews);
                   })
-              same = rw (r .all, r .sets, e)
+              same = rw (r .all, r .sets, r .paid, e)

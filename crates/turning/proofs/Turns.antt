@@ -101,7 +101,7 @@ module _ (M : Market) (B : Results) (visits seats : List ℕ) (k : StudentState)
     same-round = rw (e, ← q)
 
     pub open-turned : (o : Round) (next : Run)
-        → o ≡ roundOf (r .count) held
+        → o ≡ roundOf M (r .count) held
         → next ≡ afterRound M B r held
         → record { state = record { reached = t; held = k .held; openings = o .openings }; run = next } ≡ openTier M B visits seats k r .turned
     unfolding openTier
@@ -150,15 +150,17 @@ apply-visits M B visits seats k r zero = refl
 apply-visits M B visits seats k r (suc c) = refl
 
 -- the run after a round
-module _ (M : Market) (B : Results) (r : Run) (o : Round) (s : RoundSoFar) (e : o ≡ roundOf (r .count) s) where
-  pub round-over : o .missing ≡ 0 → record { hand = r .hand; last = r .last; lost = 0; count = o .count; student = 0; workshop = 0 } ≡ afterRound M B r s
+module _ (M : Market) (B : Results) (r : Run) (o : Round) (s : RoundSoFar) (e : o ≡ roundOf M (r .count) s) where
+  pub round-over : o .missing ≡ 0
+      → record { hand = r .hand; last = r .last; lost = 0; count = o .count; student = 0; workshop = 0; fares = r .fares + o .fares } ≡ afterRound M B r s
   unfolding afterRound
   round-over h =
       let z : s .missing ≡ 0 = rw e at h in
       rw (e, eq-eqb (s .missing) 0 z)
 
   pub round-stopped : (o .missing ≡ 0 → ⊥)
-      → record { hand = 0; last = r .last; lost = 0; count = o .count; student = r .hand; workshop = o .missing } ≡ afterRound M B r s
+      → record { hand = 0; last = r .last; lost = 0; count = o .count; student = r .hand; workshop = o .missing; fares = r .fares + o .fares }
+      ≡ afterRound M B r s
   unfolding afterRound
   round-stopped h =
       let z : s .missing ≡ 0 → ⊥ = rw e at h in

@@ -7,6 +7,7 @@ use lib.ListN.{length, getD}
 use lib.Dec.{eqb}
 use Rattle.base.specs.Lists.{count}
 use Rattle.lgs.specs.Market.{Market, Results, seatsOf, seatsBefore, allSeats}
+use Rattle.lgs.specs.Fares.{faresOf}
 use Rattle.format.specs.Engine.{marketIn}
 use Rattle.records.specs.Records.{pairPlace}
 use Rattle.model.specs.Store.{part, lastOf}
@@ -30,8 +31,9 @@ pub record SeatedAll (M : Market) (B : Results) (seats : List ℕ) : Type 0 wher
   pub ordered : (w : ℕ) → 1 ≤ w → w ≤ M .workshops → InOrder M B w (part M seats w)
 
 -- the code's answer, where `count` interviews were held before
-abbrev pub roundOf : ℕ → RoundSoFar → Round
-roundOf count o = record { count = count + length (o .interviews); openings = o .openings; missing = o .missing }
+abbrev pub roundOf : Market → ℕ → RoundSoFar → Round
+roundOf M count o =
+    record { count = count + length (o .interviews); openings = o .openings; missing = o .missing; fares = faresOf M (o .interviews) }
 
 -- workshop w is of tier t for the student
 unfoldable pub inTier : Market → ℕ → ℕ → ℕ → Bool

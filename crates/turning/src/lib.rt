@@ -1,6 +1,6 @@
 // One turn of the student in hand: she goes to her next tier and is interviewed there, or applies to the best of what is open to her.
 ghost use mathlib.Core.Path.{_≡_};
-ghost use mathlib.Core.Bool.{true, false, not, cond, _&&_, _||_};
+ghost use mathlib.Core.Bool.{true, false, not, cond, _&&_};
 ghost use mathlib.Core.List.{List, [], _∷_};
 ghost use Prim.Native.Nat.{ℕ, suc, _+_, _-_, _*_, _≤_, _<_};
 ghost use lib.ListN.{length};
@@ -18,7 +18,7 @@ ghost use Rattle.model.specs.Store.{nextIn, lastOf};
 ghost use Rattle.model.specs.Turn.{toldState, withMember, favouriteIn, RoundSoFar, dueAt, roundTo, putAt, nextRun, afterRound, afterSeating, openTier, applyTo, turnOf, beginRun};
 ghost use Rattle.model.specs.Ready.{Booked, Ready};
 ghost use Rattle.tables.specs.Table.{Tabled, setOf, allOf};
-ghost use Rattle.lookup.specs.Clean.{StudentAt, WorkshopAt, PairAt, EntryAt, Clean};
+ghost use Rattle.lookup.specs.Clean.{WorkshopAt, PairAt, EntryAt, Clean};
 ghost use Rattle.turning.specs.Next.{Ordered, FirstAfter};
 ghost use Rattle.turning.specs.Round.{SeatsAt, SeatedAll, roundOf, TierListed};
 use api::StudentState;
@@ -358,11 +358,12 @@ fn put_interview(visits: &mut [u16], count: usize, s: u16, w: u16)
     visits[at + 1] = w;
 }
 
-// How many interviews have been held, the open set, and the workshop of a missing interview or 0.
+// How many interviews have been held, the open set, the workshop of a missing interview or 0, and what those of this round cost.
 pub struct Round {
     pub count: usize,
     pub openings: u64,
     pub missing: usize,
+    pub fares: u32,
 }
 
 // The open set after an interview with workshop w: the workshop is in it, unless the interview opens nothing.
@@ -429,7 +430,8 @@ fn hold_round(
     requires { ⌜ (1 ≤ s) × (s ≤ students) ⌝ }
     requires { ⌜ ((w : ℕ) → 1 ≤ w → w ≤ workshops → SeatsAt (now case) (now seats) students w) ⌝ }
     requires { ⌜ 2 * (held + count (dueAt (marketIn (now case)) (resultsIn (now book)) (now seats) s tier) workshops) ≤ length (now visits) ⌝ }
-    ensures { λ r. ⌜ r ≡ roundOf held (roundTo (marketIn (now (case .entry))) (resultsIn (now (book .entry))) (now (seats .entry)) s tier set workshops) ⌝ }
+    ensures { λ r. ⌜ r ≡ roundOf (marketIn (now (case .entry))) held
+        (roundTo (marketIn (now (case .entry))) (resultsIn (now (book .entry))) (now (seats .entry)) s tier set workshops) ⌝ }
     ensures { λ r. ⌜ now (visits .exit) ≡ putAt (2 * held)
         (flat (roundTo (marketIn (now (case .entry))) (resultsIn (now (book .entry))) (now (seats .entry)) s tier set workshops .interviews)) (now (visits .entry)) ⌝ }
 {
@@ -437,6 +439,7 @@ fn hold_round(
     let n = list_tier(case, table, s, tier, &mut pairs);
     let mut count = held;
     let mut openings = set;
+    let mut fares = 0;
     let mut k = 0;
     while k < n {
         let pair = pairs[k] as usize;
@@ -453,10 +456,12 @@ fn hold_round(
                     count,
                     openings,
                     missing: w,
+                    fares,
                 };
             }
             put_interview(visits, count, s as u16, w as u16);
             openings = opened(case, book, students, w, pair, e, openings);
+            fares += lookup::fare_of(case, pair) as u32;
             count += 1;
             k += 1;
         }
@@ -465,6 +470,7 @@ fn hold_round(
         count,
         openings,
         missing: 0,
+        fares,
     }
 }
 
@@ -484,6 +490,7 @@ fn next_run(case: &[u8], table: &[u64], run: Run) -> Run
         count: run.count,
         student: 0,
         workshop: 0,
+        fares: run.fares,
     }
 }
 
@@ -500,13 +507,16 @@ pub fn begin_run(case: &[u8], table: &[u64]) -> Run
         count: 0,
         student: 0,
         workshop: 0,
+        fares: 0,
     }
 }
 
 // The run after a round of the student in hand.
 fn after_round(run: Run, round: Round) -> Run
-    ensures { λ r. ⌜ ((M : Market) (B : Results) (o : RoundSoFar) → round ≡ roundOf (run .count) o → r ≡ afterRound M B run o) ⌝ }
+    requires { ⌜ run .fares + round .fares < 4294967296 ⌝ }
+    ensures { λ r. ⌜ ((M : Market) (B : Results) (o : RoundSoFar) → round ≡ roundOf M (run .count) o → r ≡ afterRound M B run o) ⌝ }
 {
+    let fares = run.fares + round.fares;
     if round.missing == 0 {
         return Run {
             hand: run.hand,
@@ -515,6 +525,7 @@ fn after_round(run: Run, round: Round) -> Run
             count: round.count,
             student: 0,
             workshop: 0,
+            fares,
         };
     }
     Run {
@@ -524,6 +535,7 @@ fn after_round(run: Run, round: Round) -> Run
         count: round.count,
         student: run.hand,
         workshop: round.missing,
+        fares,
     }
 }
 
@@ -541,7 +553,7 @@ fn open_tier(
     workshops: usize,
 ) -> Turned
     requires { ⌜ Clean (now case) (now book) (now index) (now table) students workshops ⌝ }
-    requires { ⌜ (1 ≤ run .hand) × (run .hand ≤ students) × (state .reached < 65535) ⌝ }
+    requires { ⌜ (1 ≤ run .hand) × (run .hand ≤ students) × (state .reached < 65535) × (run .fares ≤ 32768 * 65535) ⌝ }
     requires { ⌜ ((w : ℕ) → 1 ≤ w → w ≤ workshops → SeatsAt (now case) (now seats) students w) ⌝ }
     requires { ⌜ 2 * (run .count + count (dueAt (marketIn (now case)) (resultsIn (now book)) (now seats) (run .hand) (suc (state .reached))) workshops) ≤ length (now visits) ⌝ }
     ensures { λ r. ⌜ r ≡ openTier (marketIn (now (case .entry))) (resultsIn (now (book .entry))) (now (visits .entry)) (now (seats .entry)) state run .turned ⌝ }
@@ -592,6 +604,7 @@ fn after_seating(case: &[u8], table: &[u64], run: Run, c: usize, x: usize) -> Ru
         count: run.count,
         student: 0,
         workshop: 0,
+        fares: run.fares,
     }
 }
 

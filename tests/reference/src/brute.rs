@@ -1,4 +1,4 @@
-//! Demands 2 and 3 checked over all full orders of a tiny case.
+//! Demands 2 and 3, and that nobody pays less, checked over all full orders of a tiny case.
 //!
 //! Everything here follows the definitions: every full order, every placement and every set
 //! of visits is tried. No part of the staged rule is used. A full order has strict ranks for
@@ -69,6 +69,20 @@ pub struct Effort {
     pub unsure_sets: usize,
     /// Those of them that do so only because some other pair may be never.
     pub unsure_by_never: usize,
+    /// Unsure sets that cost less than our list.
+    pub unsure_cheaper: usize,
+    /// Sure sets that cost more than our list.
+    pub sure_dearer: usize,
+    /// Sure sets other than our list that cost as much.
+    pub sure_as_dear: usize,
+}
+
+/// What the comparison with all other sets has shown.
+pub struct Least {
+    /// Whether every sure set with the placed pairs holds every listed visit.
+    pub visits: bool,
+    /// The least that such a set costs.
+    pub fares: u64,
 }
 
 /// What the results of a set of visits tell its holder.
@@ -139,34 +153,57 @@ impl World {
                 .all(|order| holder.verdict(order) == Verdict::Sure)
     }
 
-    /// Demand 3's comparison: every set that makes its holder sure and holds every placed
-    /// pair holds every listed visit.
-    pub fn list_is_least(
+    /// Demand 3's comparison: whether every set that makes its holder sure and holds every placed
+    /// pair holds every listed visit; and the least that such a set costs. `None` if the list or
+    /// the places are none.
+    pub fn least(
         &self,
         book: &[Record],
         places: &[u16],
         visits: &[(u16, u16)],
         effort: &mut Effort,
-    ) -> bool {
-        let (Some(list), Some(placed)) = (self.set_of(visits), self.placed_set(places)) else {
-            return false;
+    ) -> Option<Least> {
+        let list = self.set_of(visits)?;
+        let placed = self.placed_set(places)?;
+        let ours = self.fares(list);
+        let mut least = Least {
+            visits: true,
+            fares: u64::MAX,
         };
-        let mut good = true;
         for rest in subsets(self.all_pairs() & !placed) {
             let set = placed | rest;
+            let fares = self.fares(set);
             let mut holder = Holder::new(self, set);
             for order in self.fitting(book, set) {
                 let verdict = holder.verdict(order);
                 if verdict == Verdict::Sure {
                     effort.sure_sets += 1;
-                    good &= set & list == list;
+                    effort.sure_dearer += usize::from(fares > ours);
+                    effort.sure_as_dear += usize::from(fares == ours && set != list);
+                    least.visits &= set & list == list;
+                    least.fares = least.fares.min(fares);
                 } else {
                     effort.unsure_sets += 1;
+                    effort.unsure_cheaper += usize::from(fares < ours);
                     effort.unsure_by_never += usize::from(verdict == Verdict::UnsureByNever);
                 }
             }
         }
-        good
+        Some(least)
+    }
+
+    /// What a list of visits costs; `None` if it names a pair twice or one without a record.
+    pub fn fares_of(&self, visits: &[(u16, u16)]) -> Option<u64> {
+        Some(self.fares(self.set_of(visits)?))
+    }
+
+    /// The fares of a set, added over its pairs.
+    fn fares(&self, set: u32) -> u64 {
+        let pairs = self.case.pairs.iter().enumerate();
+        pairs
+            .filter(|(index, _)| set & (1 << index) != 0)
+            .map(|(_, pair)| u64::from(pair.fare))
+            .sum()
     }
 
     fn all_pairs(&self) -> u32 {

@@ -12,6 +12,7 @@ struct Report {
     first: u64,
     second: u64,
     visits: u64,
+    fares: u64,
 }
 
 const PLACED: u64 = 0;
@@ -74,20 +75,29 @@ pub fn call(case: &[u8], book: &[u8], loan: &Loan) -> Outcome {
     decode(report)
 }
 
-/// An unknown kind becomes a refusal that no input has.
+/// An unknown kind, or a value that should be 0, becomes a refusal that no input has.
 fn decode(report: Report) -> Outcome {
-    match report.kind {
-        PLACED => Outcome::Placed {
-            visits: report.visits as usize,
+    let Report {
+        kind,
+        first,
+        second,
+        visits,
+        fares,
+    } = report;
+    match kind {
+        PLACED if (first, second) == (0, 0) => Outcome::Placed {
+            visits: visits as usize,
+            fares,
         },
         NEXT => Outcome::Next {
-            student: report.first as u16,
-            workshop: report.second as u16,
-            visits: report.visits as usize,
+            student: first as u16,
+            workshop: second as u16,
+            visits: visits as usize,
+            fares,
         },
-        REFUSED => Outcome::Refused {
-            number: report.first as u16,
-            place: report.second as usize,
+        REFUSED if (visits, fares) == (0, 0) => Outcome::Refused {
+            number: first as u16,
+            place: second as usize,
         },
         other => Outcome::Refused {
             number: u16::MAX,

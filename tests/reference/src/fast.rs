@@ -54,6 +54,8 @@ pub struct Fast {
     workshop_count: usize,
     /// By student, then workshop.
     cells: Vec<Cell>,
+    /// By student, then workshop; where there is no pair, anything.
+    fares: Vec<u16>,
     /// By student, then group: the workshops she has there.
     members: Vec<u64>,
     /// By student: her marks for the workshops open to her.
@@ -70,6 +72,7 @@ impl Default for Fast {
             workshops: Vec::new(),
             workshop_count: 0,
             cells: Vec::new(),
+            fares: Vec::new(),
             members: Vec::new(),
             open: Vec::new(),
             seen: SeenMarks::default(),
@@ -102,18 +105,24 @@ impl Fast {
                 .collect()
         };
         match outcome {
-            Outcome::Placed { visits: count } => Answer::Placed {
+            Outcome::Placed {
+                visits: count,
+                fares,
+            } => Answer::Placed {
                 places: places[..self.students.len()].to_vec(),
                 visits: listed(count),
+                fares,
             },
             Outcome::Next {
                 student,
                 workshop,
                 visits: count,
+                fares,
             } => Answer::Next {
                 student,
                 workshop,
                 visits: listed(count),
+                fares,
             },
             Outcome::Refused { number, place } => Answer::Refused { number, place },
         }
@@ -227,6 +236,7 @@ impl Fast {
         let workshops = self.workshop_count;
         self.cells.clear();
         self.cells.resize(students * workshops, Cell::default());
+        self.fares.resize(students * workshops, 0);
         self.members.clear();
         self.members.resize(students * STUDENT_GROUPS, 0);
         let mut last = 0;
@@ -235,9 +245,11 @@ impl Fast {
             let [_, _, student_group, workshop_group] = fields.all();
             let (key, s, w) = fields.pair_after(last, students, workshops)?;
             last = key;
-            let cell = &mut self.cells[s * workshops + w];
+            let at = s * workshops + w;
+            let cell = &mut self.cells[at];
             cell.student_group = student_group;
             cell.workshop_group = workshop_group;
+            self.fares[at] = fields.fare();
             self.members[s * STUDENT_GROUPS + usize::from(student_group)] |= 1 << w;
         }
         Some(())
@@ -343,18 +355,23 @@ impl Fast {
         self.open
             .resize(self.students.len(), [CLOSED; MAX_WORKSHOPS]);
         self.sort_by_stage();
-        let mut count = 0;
+        let mut list = List {
+            visits,
+            count: 0,
+            fares: 0,
+        };
         for turn in 0..self.order.len() {
             let mut in_hand = Some(usize::from(self.order[turn]));
             while let Some(s) = in_hand {
-                match self.best_open(s, visits, &mut count) {
+                match self.best_open(s, &mut list) {
                     Ok(Some(w)) => in_hand = self.apply(s, w),
                     Ok(None) => in_hand = None,
                     Err(w) => {
                         return Outcome::Next {
                             student: s as u16 + 1,
                             workshop: w as u16 + 1,
-                            visits: count,
+                            visits: list.count,
+                            fares: list.fares,
                         }
                     }
                 }
@@ -363,7 +380,10 @@ impl Fast {
         for (place, student) in places.iter_mut().zip(&self.students) {
             *place = student.held;
         }
-        Outcome::Placed { visits: count }
+        Outcome::Placed {
+            visits: list.count,
+            fares: list.fares,
+        }
     }
 
     fn sort_by_stage(&mut self) {
@@ -385,12 +405,7 @@ impl Fast {
 
     /// Opens groups while nothing is open and gives the best open workshop, or `None` if
     /// none is the best. An unanswered visit is the error.
-    fn best_open(
-        &mut self,
-        s: usize,
-        visits: &mut [u16],
-        count: &mut usize,
-    ) -> Result<Option<usize>, usize> {
+    fn best_open(&mut self, s: usize, list: &mut List) -> Result<Option<usize>, usize> {
         loop {
             let row = &self.open[s];
             let best = row.iter().copied().fold(CLOSED, i16::max);
@@ -404,18 +419,13 @@ impl Fast {
             student.reached += 1;
             let group = usize::from(student.reached);
             let members = self.members[s * STUDENT_GROUPS + group];
-            self.visit_all(s, members, visits, count)?;
+            self.visit_all(s, members, list)?;
         }
     }
 
-    fn visit_all(
-        &mut self,
-        s: usize,
-        mut members: u64,
-        visits: &mut [u16],
-        count: &mut usize,
-    ) -> Result<(), usize> {
+    fn visit_all(&mut self, s: usize, mut members: u64, list: &mut List) -> Result<(), usize> {
         let row = &self.cells[s * self.workshop_count..][..self.workshop_count];
+        let fares = &self.fares[s * self.workshop_count..][..self.workshop_count];
         while members != 0 {
             let w = members.trailing_zeros() as usize;
             members &= members - 1;
@@ -427,9 +437,7 @@ impl Fast {
             if cell.student_mark == 0 {
                 return Err(w);
             }
-            visits[2 * *count] = s as u16 + 1;
-            visits[2 * *count + 1] = w as u16 + 1;
-            *count += 1;
+            list.add(s, w, fares[w]);
             let welcome = cell.workshop_group != workshop.line || cell.workshop_mark > 0;
             if welcome && cell.student_mark.min(cell.workshop_mark) > NEVER {
                 self.open[s][w] = cell.student_mark;
@@ -468,6 +476,23 @@ impl Fast {
             workshop.last_welcome = group_of(lowest);
         }
         dropped
+    }
+}
+
+/// The visits so far, in the lent buffer, and what they cost.
+struct List<'a> {
+    visits: &'a mut [u16],
+    count: usize,
+    fares: u64,
+}
+
+impl List<'_> {
+    #[inline(always)]
+    fn add(&mut self, s: usize, w: usize, fare: u16) {
+        self.visits[2 * self.count] = s as u16 + 1;
+        self.visits[2 * self.count + 1] = w as u16 + 1;
+        self.count += 1;
+        self.fares += u64::from(fare);
     }
 }
 
@@ -530,18 +555,23 @@ impl CaseFields {
         ]
     }
 
+    /// The fare of a pair.
+    fn fare(self) -> u16 {
+        (self.high >> 16) as u16
+    }
+
     /// The kind is known and every byte that should be zero is zero.
     pub(crate) fn well_formed(self) -> bool {
         match self.low as u16 {
-            1 | 3 => self.high >> 16 == 0,
+            1 => self.high >> 16 == 0,
             2 => self.high == 0,
-            _ => false,
+            _ => self.is_pair(),
         }
     }
 
     /// A well-formed record of kind 3.
     pub(crate) fn is_pair(self) -> bool {
-        (self.low as u16 == 3) & (self.high >> 16 == 0)
+        (self.low as u16 == 3) & (self.high >> 32 == 0)
     }
 
     /// A good pair that comes after the one with the key `last`: its own key, and its student and

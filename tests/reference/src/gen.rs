@@ -262,10 +262,75 @@ pub fn case(rng: &mut Rng, shape: &Shape) -> Case {
                 workshop: w as u16 + 1,
                 student_group: rng.pick(her_groups),
                 workshop_group,
+                fare: 0,
             });
         }
     }
+    draw_fares(rng, &mut case);
     case
+}
+
+/// A fare for each pair, all of one sort or of all sorts: none, small ones, the largest, those
+/// around the ends of bytes, numbers that stand elsewhere in the record, few fares, and any.
+pub fn draw_fares(rng: &mut Rng, case: &mut Case) {
+    const SORTS: usize = 7;
+    let common = rng.below(SORTS + 3);
+    for pair in &mut case.pairs {
+        let sort = if common < SORTS {
+            common
+        } else {
+            rng.below(SORTS)
+        };
+        let any = rng.word() as u16;
+        pair.fare = match sort {
+            0 => 0,
+            1 => rng.range(0, 9) as u16,
+            2 => u16::MAX,
+            3 => rng.pick(&[1, 255, 256, 257, 0x7fff, 0x8000, 0xff00]),
+            4 => rng.pick(&[pair.workshop, pair.student_group, pair.workshop_group]),
+            5 if rng.chance(85) => 0,
+            _ => any,
+        };
+    }
+}
+
+/// The run with these visits, whole, without the result of its first visit, and without that of a
+/// later one; each with fares at all pairs, small ones at the listed pairs, at the next visit, at
+/// all others, and at none.
+pub fn around_list(
+    rng: &mut Rng,
+    (case, book): &(Case, Vec<Record>),
+    visits: &[(u16, u16)],
+) -> Vec<(Case, Vec<Record>)> {
+    /// What a pair costs at most that is listed, or that is the next visit.
+    const MOST: [fn(bool, bool) -> u16; 5] = [
+        |_, _| u16::MAX,
+        |listed, _| if listed { 3 } else { 0 },
+        |_, next| if next { u16::MAX } else { 0 },
+        |listed, next| if listed || next { 0 } else { u16::MAX },
+        |_, _| 0,
+    ];
+    let mut runs = Vec::new();
+    let mut lengths = vec![0, visits.len()];
+    if visits.len() > 1 {
+        lengths.push(rng.range(1, visits.len() - 1));
+    }
+    for length in lengths {
+        let listed: HashSet<_> = visits[..length].iter().collect();
+        let next = visits.get(length).copied();
+        let mut book = book.clone();
+        book.retain(|record| Some((record.student, record.workshop)) != next);
+        for most in MOST {
+            let mut case = case.clone();
+            for pair in &mut case.pairs {
+                let key = (pair.student, pair.workshop);
+                let most = most(listed.contains(&key), Some(key) == next);
+                pair.fare = rng.range(usize::from(most > 0), usize::from(most)) as u16;
+            }
+            runs.push((case, book.clone()));
+        }
+    }
+    runs
 }
 
 /// Gives the groups each student uses.
@@ -545,7 +610,7 @@ pub fn small_input(rng: &mut Rng) -> Input {
 
 /// The case of source document 000's experiment: all pairs, everybody acceptable, each
 /// student with `d` groups, all workshops with the same `e` groups, seats for all. The lots are the
-/// numbers.
+/// numbers, the fares any.
 pub fn experiment(rng: &mut Rng, students: usize, workshops: usize, d: usize, e: usize) -> Case {
     let mut classes: Vec<u16> = (0..students)
         .map(|s| (s * e / students) as u16 + 1)
@@ -575,6 +640,7 @@ pub fn experiment(rng: &mut Rng, students: usize, workshops: usize, d: usize, e:
                 workshop: w as u16 + 1,
                 student_group: rng.range(1, d) as u16,
                 workshop_group: class,
+                fare: rng.word() as u16,
             });
         }
     }
@@ -589,9 +655,10 @@ type Damage = fn(&mut Rng, &mut Input);
 /// Damage of a file with records of a size.
 type FileDamage = fn(&mut Rng, &mut Vec<u8>, usize);
 
-const DAMAGES: [Damage; 13] = [
+const DAMAGES: [Damage; 14] = [
     case_field,
     case_field,
+    unnamed_byte,
     bad_lot,
     two_bad_lots,
     workshop_lot,
@@ -640,6 +707,13 @@ fn damage_file(rng: &mut Rng, input: &mut Input) {
 fn record_start(rng: &mut Rng, bytes: &[u8], size: usize) -> Option<usize> {
     let records = bytes.len() / size;
     (records > 0).then(|| rng.below(records) * size)
+}
+
+/// Where a random record of this kind starts, if there is one.
+fn record_of_kind(rng: &mut Rng, case: &[u8], kind: u8) -> Option<usize> {
+    let starts = (0..case.len() / CASE_RECORD).map(|record| record * CASE_RECORD);
+    let starts: Vec<usize> = starts.filter(|&at| case[at] == kind).collect();
+    (!starts.is_empty()).then(|| rng.pick(&starts))
 }
 
 fn set_field(bytes: &mut [u8], at: usize, value: u16) {
@@ -700,9 +774,26 @@ fn case_field(rng: &mut Rng, input: &mut Input) {
         0, 1, 2, 63, 64, 65, 66, 67, 511, 512, 513, 514, 32768, 65535,
     ];
     if let Some(start) = record_start(rng, &input.case, CASE_RECORD) {
-        let fields = if input.case[start] == 2 { 3 } else { 4 };
+        let fields = match input.case[start] {
+            2 => 3,
+            3 => 5,
+            _ => 4,
+        };
         let at = start + 2 * rng.range(1, fields);
         set_field(&mut input.case, at, rng.pick(&EDGES));
+    }
+}
+
+/// One or two bytes that should be zero are set: where a pair has its fare, just behind it, or in
+/// the last bytes.
+fn unnamed_byte(rng: &mut Rng, input: &mut Input) {
+    let kind = rng.pick(&[1, 2, 3]);
+    if let Some(start) = record_of_kind(rng, &input.case, kind) {
+        let first = if kind == 3 { 12 } else { 10 };
+        for _ in 0..rng.pick(&[1, 1, 2]) {
+            let at = start + rng.pick(&[first, first, first + 1, first + 1, 14, 15]);
+            input.case[at] = rng.pick(&[1, 2, 128, 255]);
+        }
     }
 }
 
@@ -747,12 +838,9 @@ fn two_bad_lots(rng: &mut Rng, input: &mut Input) {
 
 /// A workshop has something where a student has her lot.
 fn workshop_lot(rng: &mut Rng, input: &mut Input) {
-    let students = lot_places(&input.case).len();
-    let records = input.case.chunks_exact(CASE_RECORD).skip(students);
-    let workshops = records.take_while(|record| record[0] == 2).count();
-    if workshops > 0 {
-        let at = (students + rng.below(workshops)) * CASE_RECORD + 8;
-        set_field(&mut input.case, at, rng.pick(&[1, 2, 255, 256, 512, 513]));
+    if let Some(start) = record_of_kind(rng, &input.case, 2) {
+        let value = rng.pick(&[1, 2, 255, 256, 512, 513]);
+        set_field(&mut input.case, start + 8, value);
     }
 }
 
@@ -950,13 +1038,19 @@ pub fn oversized_inputs(rng: &mut Rng) -> Vec<Input> {
         many_students(65_536),
         many_students(65_537),
     ];
+    let mut far_student = many_students(65_537);
+    far_student.case[65_536 * CASE_RECORD + 10] = 1;
+    inputs.push(far_student);
     let pairs = crowded_pairs(1000, 70);
-    let mut late_fault = pairs.clone();
-    let last = late_fault.case.len() - CASE_RECORD;
-    late_fault.case[last + 15] = 1;
+    let last = pairs.case.len() - CASE_RECORD;
+    for byte in [12, 15] {
+        let mut late_fault = pairs.clone();
+        late_fault.case[last + byte] = 1;
+        inputs.push(late_fault);
+    }
     let mut late_order = pairs.clone();
     set_field(&mut late_order.case, last + 2, 1);
-    inputs.extend([pairs, late_fault, late_order]);
+    inputs.extend([pairs, late_order]);
 
     let largest = crowded_pairs(512, 64);
     inputs.extend(buffer_sweep(&largest));
@@ -995,7 +1089,7 @@ fn many_students(students: usize) -> Input {
     }
 }
 
-/// All pairs, every quota at 512, an empty book.
+/// All pairs, every quota at 512, every fare at 65,535, an empty book.
 fn crowded_pairs(students: usize, workshops: usize) -> Input {
     let student = |lot: u16| Student {
         stage: 1,
@@ -1020,6 +1114,7 @@ fn crowded_pairs(students: usize, workshops: usize) -> Input {
                 workshop: w,
                 student_group: 1,
                 workshop_group: 1,
+                fare: u16::MAX,
             });
         }
     }

@@ -11,9 +11,10 @@ use std::process::{Command, Stdio};
 const PROGRAM: &str = r#"
 lgs_report lgs_place(const uint8_t *, size_t, const uint8_t *, size_t, uint16_t *, size_t, uint16_t *, size_t,
                      uint16_t *, size_t, uint16_t *, size_t, lgs_student_state *, size_t);
-_Static_assert(sizeof(lgs_report) == 32, "report");
+_Static_assert(sizeof(lgs_report) == 40, "report");
 _Static_assert(offsetof(lgs_report, first) == 8 && offsetof(lgs_report, second) == 16, "values");
 _Static_assert(offsetof(lgs_report, kind) == 0 && offsetof(lgs_report, visits) == 24, "kind and count");
+_Static_assert(offsetof(lgs_report, fares) == 32 && sizeof(((lgs_report *)0)->fares) == 8, "total");
 _Static_assert(LGS_PLACED == 0 && LGS_NEXT == 1 && LGS_REFUSED == 2, "kinds");
 "#;
 

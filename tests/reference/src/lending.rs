@@ -165,21 +165,36 @@ pub fn honest(case: &[u8], book: &[u8], loan: &Loan) -> Outcome {
     }
 }
 
-/// Something an otherwise honest engine does wrong at the end: it changes one byte.
+/// Something an otherwise honest engine does wrong at the end.
 pub struct Flaw {
     pub name: &'static str,
-    /// Which byte, where this answer allows the flaw.
-    byte: fn(&Loan, &Outcome) -> Option<*mut u8>,
+    fault: Fault,
+}
+
+enum Fault {
+    /// It changes one byte: which one, where this answer allows the flaw.
+    Byte(fn(&Loan, &Outcome) -> Option<*mut u8>),
+    /// It returns another total.
+    Total(fn(u64) -> u64),
 }
 
 impl Flaw {
     /// A well-behaved engine but for this flaw.
     pub fn spoil(&self, case: &[u8], book: &[u8], loan: &Loan) -> Outcome {
-        let outcome = honest(case, book, loan);
-        if let Some(byte) = (self.byte)(loan, &outcome) {
-            // SAFETY: each flaw names a byte of a lent buffer, or of the guards around it, which
-            // are part of the same allocation.
-            unsafe { *byte ^= 1 };
+        let mut outcome = honest(case, book, loan);
+        match self.fault {
+            Fault::Byte(chosen) => {
+                if let Some(byte) = chosen(loan, &outcome) {
+                    // SAFETY: each flaw names a byte of a lent buffer, or of the guards around it,
+                    // which are part of the same allocation.
+                    unsafe { *byte ^= 1 };
+                }
+            }
+            Fault::Total(change) => {
+                if let Outcome::Placed { fares, .. } | Outcome::Next { fares, .. } = &mut outcome {
+                    *fares = change(*fares);
+                }
+            }
         }
         outcome
     }
@@ -203,17 +218,26 @@ fn of_first_card(loan: &Loan, byte: usize) -> Option<*mut u8> {
 
 fn used_words(outcome: &Outcome) -> usize {
     match outcome {
-        Outcome::Placed { visits } | Outcome::Next { visits, .. } => 2 * visits,
+        Outcome::Placed { visits, .. } | Outcome::Next { visits, .. } => 2 * visits,
         Outcome::Refused { .. } => 0,
     }
 }
 
 const fn flaw(name: &'static str, byte: fn(&Loan, &Outcome) -> Option<*mut u8>) -> Flaw {
-    Flaw { name, byte }
+    let fault = Fault::Byte(byte);
+    Flaw { name, fault }
+}
+
+const fn total(name: &'static str, change: fn(u64) -> u64) -> Flaw {
+    let fault = Fault::Total(change);
+    Flaw { name, fault }
 }
 
 /// Every flaw must be found by the check.
-pub const FLAWS: [Flaw; 17] = [
+pub const FLAWS: [Flaw; 20] = [
+    total("the total one more", |fares| fares + 1),
+    total("no total", |_| 0),
+    total("a bit above the total's 32", |fares| fares | 1 << 32),
     flaw("a seat left", |loan, _| {
         entry(loan.seats, loan.lent.seats, 0)
     }),

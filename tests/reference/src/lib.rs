@@ -1,6 +1,7 @@
 //! Reference for the placing engine, written from the papers alone.
 
 pub mod brute;
+pub mod fares;
 pub mod fast;
 pub mod folder;
 pub mod gen;

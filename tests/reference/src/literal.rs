@@ -80,7 +80,7 @@ pub fn first_misformed(records: &[&[u8]]) -> Option<usize> {
         let named_end = match record[0] {
             1 => 10,
             2 => 8,
-            3 => 10,
+            3 => 12,
             _ => return true,
         };
         record[1] != 0 || record[named_end..].iter().any(|&byte| byte != 0)
@@ -172,6 +172,7 @@ pub fn decode_case(records: &[&[u8]]) -> Case {
                 workshop: field(record, 2),
                 student_group: field(record, 3),
                 workshop_group: field(record, 4),
+                fare: field(record, 5),
             }),
         }
     }
@@ -309,14 +310,22 @@ pub fn run_with_events(case: &Case, book: &[Record]) -> (Answer, Vec<Event>) {
         Err(Unanswered { student, workshop }) => Answer::Next {
             student: student as u16,
             workshop: workshop as u16,
+            fares: fares_of(case, &run.visits),
             visits: run.visits,
         },
         Ok(()) => Answer::Placed {
             places: run.places(),
+            fares: fares_of(case, &run.visits),
             visits: run.visits,
         },
     };
     (answer, run.events)
+}
+
+/// The sum of the fares of exactly the listed pairs, read from the case.
+pub fn fares_of(case: &Case, visits: &[(u16, u16)]) -> u64 {
+    let fares = visits.iter().map(|&pair| case.fare(pair));
+    fares.map(u64::from).sum()
 }
 
 /// Stages in rising number, students inside one in rising number.

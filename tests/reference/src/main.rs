@@ -3,7 +3,8 @@
 //! `--quick` runs fewer cases; `--seed N` chooses other random ones; `--only WORD` runs the parts
 //! with this word in their name.
 
-use reference::brute::{Effort, World};
+use reference::brute::{Effort, Least, World};
+use reference::fares::{self, Runs};
 use reference::fast::Fast;
 use reference::gen::{self, Rng, Shape};
 use reference::lending::{self, Call, Loan};
@@ -120,22 +121,25 @@ impl Comparison {
     }
 }
 
-/// The kinds of never and of lots.
+/// The kinds of never, of lots and of fares.
 #[derive(Default)]
 struct Kinds {
     never: never::Kinds,
     lots: lots::Kinds,
+    fares: fares::Kinds,
 }
 
 impl Kinds {
     fn count(&mut self, case: &Case, book: &[Record], answer: &Answer, events: &[Event]) {
         self.never.count(case, book, answer.visits());
         self.lots.count(case, book, answer, events);
+        self.fares.count(case, book, answer);
     }
 
-    fn check(&self, tally: &mut Tally, runs: &str) {
-        self.never.check(tally, runs);
-        self.lots.check(tally, runs);
+    fn check(&self, tally: &mut Tally, what: &str, runs: Runs) {
+        self.never.check(tally, what);
+        self.lots.check(tally, what);
+        self.fares.check(tally, what, runs);
     }
 }
 
@@ -185,6 +189,7 @@ fn parts(options: &Options) -> Vec<Part<'_>> {
         part("mutants", mutants_told_apart),
         part("visit by visit", visit_by_visit),
         part("lots put into the marks", lots_put_into_marks),
+        part("fares tell the list", fares_tell_the_list),
         part("byte sweeps", byte_sweeps),
         part("stages, whole circle", stages_whole_circle),
         part("stages, byte sweeps", |tally, options| {
@@ -239,17 +244,26 @@ fn proved_cases(tally: &mut Tally, options: &Options) {
     let table = proved::table();
     let never = proved::of_never();
     let lots = proved::of_lots();
+    let fares = proved::of_fares();
     tally.check(table.len() == 15, || "the table has 15 cases".to_string());
     tally.check(never.len() == 26, || "never has 26 rows".to_string());
     tally.check(lots.len() == 67, || "lots have 67 rows".to_string());
-    for proved in table.iter().chain(&never).chain(&lots) {
+    tally.check(fares.len() == 71, || "fares have 71 rows".to_string());
+    for proved in table.iter().chain(&never).chain(&lots).chain(&fares) {
         let answer = comparison.check(tally, &proved.input);
         tally.check(proved.expected.holds(&answer), || {
             format!("{}: {answer:?}", proved.name)
         });
     }
+    for proved in &table {
+        let total = literal::answer(&proved.input).fares();
+        tally.check(matches!(total, Some(0) | None), || {
+            format!("{} costs {total:?}", proved.name)
+        });
+    }
     rows_failed(tally, "never", &never, &mutants::about_never());
     rows_failed(tally, "lots", &lots, &mutants::about_lots());
+    rows_failed(tally, "fares", &fares, &mutants::about_fares());
     let (case, book) = proved::example();
     let text = literal::answer(&case.input(&book)).text();
     let lines = [
@@ -261,6 +275,7 @@ fn proved_cases(tally: &mut Tally, options: &Options) {
         "visit 1 2",
         "visit 2 2",
         "visit 3 2",
+        "fares 0",
     ];
     tally.check(text.lines().eq(lines), || text);
 }
@@ -281,7 +296,7 @@ fn small_cases(tally: &mut Tally, options: &Options) {
     let mut comparison = Comparison::new(options.rng(101));
     let mut kinds = Kinds::default();
     let (mut placed, mut next) = (0, 0);
-    for _ in 0..options.count(200_000) {
+    for _ in 0..options.count(180_000) {
         let shape = Shape::small(&mut rng);
         let drawn = gen::case_and_book(&mut rng, &shape);
         match comparison.check_counting(tally, &drawn, &mut kinds) {
@@ -292,29 +307,36 @@ fn small_cases(tally: &mut Tally, options: &Options) {
     }
     tally.note(&format!("{placed} placed, {next} with a next visit"));
     tally.check(placed > 100 && next > 100, || "one kind is rare".into());
-    kinds.check(tally, "runs");
+    kinds.check(tally, "runs", Runs::Small);
 }
 
 fn middle_cases(tally: &mut Tally, options: &Options) {
     let mut rng = options.rng(10);
     let mut comparison = Comparison::new(options.rng(110));
     let mut kinds = Kinds::default();
-    for _ in 0..options.count(8000) {
+    for number in 0..options.count(8000) {
         let shape = Shape::middle(&mut rng);
         let drawn = gen::case_and_book(&mut rng, &shape);
-        comparison.check_counting(tally, &drawn, &mut kinds);
+        let answer = comparison.check_counting(tally, &drawn, &mut kinds);
+        if number % 40 == 0 {
+            for drawn in gen::around_list(&mut rng, &drawn, answer.visits()) {
+                comparison.check_counting(tally, &drawn, &mut kinds);
+            }
+        }
     }
-    kinds.check(tally, "runs");
+    kinds.check(tally, "runs", Runs::Small);
 }
 
 fn large_cases(tally: &mut Tally, options: &Options) {
     let mut rng = options.rng(2);
     let mut comparison = Comparison::new(options.rng(102));
     let mut kinds = Kinds::default();
-    let mut visits = 0;
+    let (mut visits, mut dearest) = (0, 0);
     let mut check = |drawn: &(Case, Vec<Record>)| {
         let answer = comparison.check_counting(tally, drawn, &mut kinds);
         visits += answer.visits().len();
+        dearest = dearest.max(answer.fares().unwrap_or(0));
+        answer
     };
     let shapes = Shape::large(&mut rng);
     let step = shapes.len() / options.count(shapes.len());
@@ -335,11 +357,21 @@ fn large_cases(tally: &mut Tally, options: &Options) {
         let case = &mut drawn.0;
         case.students.iter_mut().for_each(|s| s.line = d as u16);
         case.workshops.iter_mut().for_each(|w| w.line = e as u16);
-        check(&drawn);
+        case.pairs.iter_mut().for_each(|pair| pair.fare = u16::MAX);
+        let answer = check(&drawn);
+        if (d, e) == (4, 8) {
+            for drawn in gen::around_list(&mut rng, &drawn, answer.visits()) {
+                check(&drawn);
+            }
+        }
     }
-    tally.note(&format!("{visits} visits"));
-    kinds.check(tally, "runs");
+    tally.note(&format!("{visits} visits, dearest total {dearest}"));
+    tally.check(dearest == LARGEST_TOTAL, || "no largest total".to_string());
+    kinds.check(tally, "runs", Runs::Large);
 }
+
+/// All pairs of 512 students and 64 workshops, each at 65,535.
+const LARGEST_TOTAL: u64 = 512 * 64 * 65_535;
 
 fn byte_sweeps(tally: &mut Tally, options: &Options) {
     let mut rng = options.rng(3);
@@ -348,6 +380,8 @@ fn byte_sweeps(tally: &mut Tally, options: &Options) {
     let mut bases = vec![case.input(&book)];
     bases.extend(proved::of_never().into_iter().map(|row| row.input));
     bases.extend(proved::of_lots().into_iter().map(|row| row.input));
+    let of_fares = proved::of_fares().into_iter().step_by(4);
+    bases.extend(of_fares.map(|row| row.input));
     for _ in 0..options.count(100) {
         bases.push(gen::small_input(&mut rng));
     }
@@ -365,7 +399,8 @@ fn damaged_input(tally: &mut Tally, options: &Options) {
     let mut later_record = [false; 14];
     let mut ties = Ties::default();
     let mut of_lots = lots::Refusals::default();
-    for _ in 0..options.count(400_000) {
+    let mut of_fares = fares::Refusals::default();
+    for _ in 0..options.count(360_000) {
         let input = gen::damaged_input(&mut rng);
         let (number, place) = match comparison.check(tally, &input) {
             Answer::Refused { number, place } => (usize::from(number), place),
@@ -376,6 +411,7 @@ fn damaged_input(tally: &mut Tally, options: &Options) {
             ties.count(&case, &book, place);
         }
         of_lots.count(&input, number as u16, place);
+        of_fares.count(&input.case, number as u16, place);
         seen[number] += 1;
         later_record[number] |= place > 0;
     }
@@ -395,6 +431,7 @@ fn damaged_input(tally: &mut Tally, options: &Options) {
     }
     ties.check(tally);
     of_lots.check(tally);
+    of_fares.check(tally);
 }
 
 fn oversized_input(tally: &mut Tally, options: &Options) {
@@ -421,7 +458,7 @@ fn visit_by_visit(tally: &mut Tally, options: &Options) {
         let shape = Shape::middle(&mut rng);
         drive(tally, &mut comparison, &mut rng, &shape, &mut kinds);
     }
-    kinds.check(tally, "runs");
+    kinds.check(tally, "finished runs", Runs::Finished);
 }
 
 fn drive(
@@ -434,20 +471,26 @@ fn drive(
     let case = gen::case(rng, shape);
     let hidden = gen::shaped_book(rng, &case, shape);
     let mut book: Vec<Record> = Vec::new();
+    let mut paid = 0;
     loop {
         let answer = comparison.check(tally, &case.input(&book));
         let asked: Vec<(u16, u16)> = book.iter().map(|r| (r.student, r.workshop)).collect();
         tally.check(answer.visits() == asked, || {
             format!("listed visits are not those asked for: {answer:?}")
         });
+        tally.check(answer.fares() == Some(paid), || {
+            format!("{paid} paid so far: {answer:?}")
+        });
         match answer {
             Answer::Next {
                 student, workshop, ..
             } => {
-                let result = hidden
-                    .iter()
-                    .find(|r| (r.student, r.workshop) == (student, workshop));
-                book.push(*result.expect("only pairs are asked for"));
+                // The book without gaps has the order of the pairs.
+                let asked = |r: &Record| (r.student, r.workshop) == (student, workshop);
+                let at = hidden.iter().position(asked);
+                let at = at.expect("only pairs are asked for");
+                book.push(hidden[at]);
+                paid += u64::from(case.pairs[at].fare);
             }
             last => {
                 let whole = comparison.check_counting(tally, &(case, hidden), kinds);
@@ -482,6 +525,31 @@ fn lots_put_into_marks(tally: &mut Tally, options: &Options) {
     tally.check(other_answers > 0, || "no lot counts".to_string());
 }
 
+/// Fares of one bit each tell which pairs were added up, and change nothing but the total.
+fn fares_tell_the_list(tally: &mut Tally, options: &Options) {
+    const BITS: usize = 16;
+    let mut rng = options.rng(13);
+    let mut comparison = Comparison::new(options.rng(113));
+    for _ in 0..options.count(10_000) {
+        let shape = Shape::small(&mut rng);
+        let (mut case, book) = gen::case_and_book(&mut rng, &shape);
+        let answer = comparison.check(tally, &case.input(&book));
+        for start in (0..case.pairs.len()).step_by(BITS) {
+            let mut listed = 0;
+            for (at, pair) in case.pairs.iter_mut().enumerate() {
+                let told = (start..start + BITS).contains(&at);
+                pair.fare = if told { 1 << (at - start) } else { 0 };
+                if answer.visits().contains(&(pair.student, pair.workshop)) {
+                    listed |= u64::from(pair.fare);
+                }
+            }
+            let got = comparison.check(tally, &case.input(&book));
+            let expected = answer.clone().costing(listed);
+            tally.check(got == expected, || format!("{got:?}\nnot {expected:?}"));
+        }
+    }
+}
+
 /// Demands 2 and 3 on tiny cases, and that wrong answers break them.
 fn all_strict_orders(tally: &mut Tally, options: &Options) {
     let mut rng = options.rng(7);
@@ -489,12 +557,17 @@ fn all_strict_orders(tally: &mut Tally, options: &Options) {
     let mut effort = Effort::default();
     let (mut met, mut met_agreeing) = (Kinds::default(), Kinds::default());
     let (mut finished, mut agreeing, mut orders) = (0, 0, 0);
-    let mut without_record = 0;
+    let (mut without_record, mut cheaper) = (0, 0);
     while finished < options.count(6000).max(1500) {
         let shape = Shape::tiny(&mut rng);
         let (case, book) = gen::case_and_book(&mut rng, &shape);
         let (answer, events) = comparison.check_with_events(tally, &case.input(&book));
-        let Answer::Placed { places, visits } = &answer else {
+        let Answer::Placed {
+            places,
+            visits,
+            fares,
+        } = &answer
+        else {
             continue;
         };
         let Some(world) = World::new(&case) else {
@@ -508,12 +581,17 @@ fn all_strict_orders(tally: &mut Tally, options: &Options) {
             world: &world,
             case: &case,
             book: &book,
+            places,
+            visits,
+            fares: *fares,
         };
-        trial.demand_two(tally, places, visits);
+        trial.demand_two(tally);
         if case.stages_agree() {
             agreeing += 1;
             met_agreeing.count(&case, &book, &answer, &events);
-            trial.demand_three(tally, places, visits, &mut effort);
+            trial.demand_three(tally, &mut effort);
+        } else if finished - agreeing <= options.count(500).max(100) {
+            cheaper += usize::from(trial.somebody_pays_less());
         }
     }
     tally.note(&format!(
@@ -522,25 +600,47 @@ fn all_strict_orders(tally: &mut Tally, options: &Options) {
     tally.note(&format!(
         "{without_record} runs with a pair that has no record and may be never"
     ));
+    tell_effort(tally, &effort);
+    tally.check(agreeing * 2 > finished, || "few stages agree".to_string());
+    tally.check(without_record > 0 && effort.unsure_by_never > 0, || {
+        "no pair that may be never counts".to_string()
+    });
+    tally.note(&format!(
+        "{cheaper} runs without agreeing stages in which a sure holder pays less"
+    ));
+    tally.check(cheaper > 0, || "stages need not agree".to_string());
+    met.check(tally, "finished runs", Runs::Finished);
+    let agreeing = "finished runs with agreeing stages";
+    met_agreeing.check(tally, agreeing, Runs::Finished);
+}
+
+/// Tells which sets were compared with our lists; every kind must have been met.
+fn tell_effort(tally: &mut Tally, effort: &Effort) {
     tally.note(&format!(
         "sets of visits with the placed pairs: {} sure, {} not sure, {} of these only because a \
          pair that was not met may be never",
         effort.sure_sets, effort.unsure_sets, effort.unsure_by_never
     ));
-    tally.check(agreeing * 2 > finished, || "few stages agree".to_string());
     tally.check(effort.unsure_sets > 0, || "all sets are sure".to_string());
-    tally.check(without_record > 0 && effort.unsure_by_never > 0, || {
-        "no pair that may be never counts".to_string()
-    });
-    met.check(tally, "finished runs");
-    met_agreeing.check(tally, "finished runs with agreeing stages");
+    let kinds = [
+        (effort.sure_dearer, "sure, and dearer than our list"),
+        (effort.sure_as_dear, "sure, and as dear as our list"),
+        (effort.unsure_cheaper, "cheaper than our list, and not sure"),
+    ];
+    for (count, name) in kinds {
+        tally.note(&format!("{count:6} sets {name}"));
+        tally.check(count > 0, || format!("no sets {name}"));
+    }
 }
 
-/// One tiny case with everything that could be true of it.
+/// One tiny case with everything that could be true of it, and its answer.
 struct Trial<'a> {
     world: &'a World,
     case: &'a Case,
     book: &'a [Record],
+    places: &'a [u16],
+    visits: &'a [(u16, u16)],
+    fares: u64,
 }
 
 impl Trial<'_> {
@@ -548,43 +648,63 @@ impl Trial<'_> {
         format!("{:?}\nbook {:?}", self.case, self.book)
     }
 
-    fn demand_two(&self, tally: &mut Tally, places: &[u16], visits: &[(u16, u16)]) {
-        let good = self.world.demand_two(self.book, places, visits);
+    fn demand_two(&self, tally: &mut Tally) {
+        let (world, places, visits) = (self.world, self.places, self.visits);
+        let good = world.demand_two(self.book, places, visits);
         tally.check(good, || format!("demand 2: {}", self.describe()));
-        let sufficient = self.world.list_suffices(self.book, places, visits);
+        let sufficient = world.list_suffices(self.book, places, visits);
         tally.check(sufficient, || format!("own list: {}", self.describe()));
+        let own = world.fares_of(visits);
+        tally.check(own == Some(self.fares), || {
+            format!("own fares {own:?}, not {}: {}", self.fares, self.describe())
+        });
         for student in 0..places.len() {
             let mut other = places.to_vec();
             other[student] = if other[student] == 0 { 1 } else { 0 };
-            let caught = !self.world.demand_two(self.book, &other, visits);
+            let caught = !world.demand_two(self.book, &other, visits);
             tally.check(caught, || format!("wrong places pass: {}", self.describe()));
         }
     }
 
-    fn demand_three(
-        &self,
-        tally: &mut Tally,
-        places: &[u16],
-        visits: &[(u16, u16)],
-        effort: &mut Effort,
-    ) {
-        let least = self.world.list_is_least(self.book, places, visits, effort);
-        tally.check(least, || format!("demand 3: {}", self.describe()));
-        for left_out in 0..visits.len() {
-            let mut fewer = visits.to_vec();
+    /// What the sets of visits with the placed pairs show of a list.
+    fn least(&self, list: &[(u16, u16)], effort: &mut Effort) -> Least {
+        let least = self.world.least(self.book, self.places, list, effort);
+        least.expect("the list names pairs, none twice")
+    }
+
+    /// Somebody who is sure, and has visited all placed pairs, pays less.
+    fn somebody_pays_less(&self) -> bool {
+        self.least(self.visits, &mut Effort::default()).fares < self.fares
+    }
+
+    fn demand_three(&self, tally: &mut Tally, effort: &mut Effort) {
+        let least = self.least(self.visits, effort);
+        tally.check(least.visits, || format!("demand 3: {}", self.describe()));
+        // Our list is such a set.
+        tally.check(least.fares == self.fares, || {
+            format!("{} is the least: {}", least.fares, self.describe())
+        });
+        for left_out in 0..self.visits.len() {
+            let mut fewer = self.visits.to_vec();
             fewer.remove(left_out);
-            let caught = !self.world.list_suffices(self.book, places, &fewer);
+            let caught = !self.world.list_suffices(self.book, self.places, &fewer);
             tally.check(caught, || format!("short list passes: {}", self.describe()));
         }
         let pairs = self.case.pairs.iter();
         let unvisited = pairs
             .map(|pair| (pair.student, pair.workshop))
-            .find(|pair| !visits.contains(pair));
+            .find(|pair| !self.visits.contains(pair));
         if let Some(extra) = unvisited {
-            let more = [visits, &[extra]].concat();
-            let ignored = &mut Effort::default();
-            let caught = !self.world.list_is_least(self.book, places, &more, ignored);
-            tally.check(caught, || format!("long list passes: {}", self.describe()));
+            let more = [self.visits, &[extra]].concat();
+            let least = self.least(&more, &mut Effort::default());
+            tally.check(!least.visits, || {
+                format!("long list passes: {}", self.describe())
+            });
+            let dear = self.world.fares_of(&more) > Some(least.fares);
+            let costs = self.world.fares_of(&[extra]) > Some(0);
+            tally.check(dear == costs, || {
+                format!("dear list passes: {}", self.describe())
+            });
         }
     }
 }
@@ -619,7 +739,12 @@ fn stages_whole_circle(tally: &mut Tally, options: &Options) {
         let case = literal::read_case(&input.case).expect("only stages were changed");
         tally.check(case.stages_agree(), || format!("{least:?} {case:?}"));
         let answer = comparison.check(tally, &input);
-        let Answer::Placed { places, visits } = answer else {
+        let Answer::Placed {
+            places,
+            visits,
+            fares,
+        } = answer
+        else {
             tally.check(false, || format!("a full book: {answer:?}"));
             continue;
         };
@@ -628,16 +753,19 @@ fn stages_whole_circle(tally: &mut Tally, options: &Options) {
             world: &world,
             case: &case,
             book: &book,
+            places: &places,
+            visits: &visits,
+            fares,
         };
-        trial.demand_two(tally, &places, &visits);
-        trial.demand_three(tally, &places, &visits, &mut effort);
+        trial.demand_two(tally);
+        trial.demand_three(tally, &mut effort);
     }
     tally.note(&format!(
         "{finished} finished runs, {mended} of them with stages that did not agree before; \
          {without} cases without stages"
     ));
     tally.check(mended > 0 && without > 0, || "one kind is rare".into());
-    tally.check(effort.unsure_sets > 0, || "all sets are sure".to_string());
+    tell_effort(tally, &effort);
 }
 
 /// Each of these slips gives a placement that breaks demand 2 or demand 3.
@@ -665,23 +793,24 @@ fn breaks_a_demand(rng: &mut Rng, slip: &Mutant) -> bool {
     if answer == literal::answer(&input) {
         return false;
     }
-    let (Answer::Placed { places, visits }, Some(world)) = (answer, World::new(&case)) else {
+    let (Answer::Placed { places, visits, .. }, Some(world)) = (answer, World::new(&case)) else {
         return false;
     };
-    let effort = &mut Effort::default();
+    let least = || world.least(&book, &places, &visits, &mut Effort::default());
     !world.demand_two(&book, &places, &visits)
-        || case.stages_agree() && !world.list_is_least(&book, &places, &visits, effort)
+        || case.stages_agree() && !least().is_some_and(|least| least.visits)
 }
 
 fn mutants_told_apart(tally: &mut Tally, options: &Options) {
     let mut rng = options.rng(8);
-    let inputs: Vec<Input> = (0..options.count(20_000).max(5000))
+    let inputs: Vec<Input> = (0..options.count(18_000).max(8000))
         .map(|_| match rng.chance(50) {
             true => gen::small_input(&mut rng),
             false => gen::damaged_input(&mut rng),
         })
         .collect();
     told_apart(tally, &inputs, &mutants::all());
+    told_apart(tally, &inputs[..5000], &mutants::about_fares());
 
     let mut inputs = gen::oversized_inputs(&mut rng);
     let shapes = Shape::large(&mut rng);

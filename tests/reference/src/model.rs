@@ -40,6 +40,8 @@ pub struct Pair {
     pub student_group: u16,
     /// The workshop's group for the student.
     pub workshop_group: u16,
+    /// What a visit costs, in pence.
+    pub fare: u16,
 }
 
 /// One result in the book.
@@ -77,11 +79,15 @@ pub enum Answer {
     Placed {
         places: Vec<u16>,
         visits: Vec<(u16, u16)>,
+        /// What the listed visits cost.
+        fares: u64,
     },
     Next {
         student: u16,
         workshop: u16,
         visits: Vec<(u16, u16)>,
+        /// What the listed visits cost; the next visit is not among them.
+        fares: u64,
     },
     Refused {
         number: u16,
@@ -94,11 +100,13 @@ pub enum Answer {
 pub enum Outcome {
     Placed {
         visits: usize,
+        fares: u64,
     },
     Next {
         student: u16,
         workshop: u16,
         visits: usize,
+        fares: u64,
     },
     Refused {
         number: u16,
@@ -152,6 +160,13 @@ impl Case {
         }
     }
 
+    /// The fare of two who have a pair.
+    pub fn fare(&self, pair: (u16, u16)) -> u16 {
+        let key = |pair: &Pair| (pair.student, pair.workshop);
+        let at = self.pairs.binary_search_by_key(&pair, key);
+        self.pairs[at.expect("they have a pair")].fare
+    }
+
     /// Whether the stages agree with every workshop's groups.
     pub fn stages_agree(&self) -> bool {
         self.pairs.iter().all(|a| {
@@ -171,12 +186,13 @@ impl Case {
 }
 
 impl Pair {
-    fn fields(&self) -> [u16; 4] {
+    fn fields(&self) -> [u16; 5] {
         [
             self.student,
             self.workshop,
             self.student_group,
             self.workshop_group,
+            self.fare,
         ]
     }
 }
@@ -209,19 +225,24 @@ impl Answer {
     pub fn text(&self) -> String {
         let mut text = String::new();
         match self {
-            Answer::Placed { places, visits } => {
+            Answer::Placed {
+                places,
+                visits,
+                fares,
+            } => {
                 for (index, workshop) in places.iter().enumerate() {
                     let _ = writeln!(text, "place {} {workshop}", index + 1);
                 }
-                push_visits(&mut text, visits);
+                push_visits(&mut text, visits, *fares);
             }
             Answer::Next {
                 student,
                 workshop,
                 visits,
+                fares,
             } => {
                 let _ = writeln!(text, "next {student} {workshop}");
-                push_visits(&mut text, visits);
+                push_visits(&mut text, visits, *fares);
             }
             Answer::Refused { number, place } => {
                 let _ = writeln!(text, "refused {number} {place}");
@@ -232,17 +253,22 @@ impl Answer {
 
     pub fn outcome(&self) -> Outcome {
         match *self {
-            Answer::Placed { ref visits, .. } => Outcome::Placed {
+            Answer::Placed {
+                ref visits, fares, ..
+            } => Outcome::Placed {
                 visits: visits.len(),
+                fares,
             },
             Answer::Next {
                 student,
                 workshop,
                 ref visits,
+                fares,
             } => Outcome::Next {
                 student,
                 workshop,
                 visits: visits.len(),
+                fares,
             },
             Answer::Refused { number, place } => Outcome::Refused { number, place },
         }
@@ -254,6 +280,22 @@ impl Answer {
             Answer::Placed { visits, .. } | Answer::Next { visits, .. } => visits,
             Answer::Refused { .. } => &[],
         }
+    }
+
+    /// What the listed visits cost; a refusal has no total.
+    pub fn fares(&self) -> Option<u64> {
+        match *self {
+            Answer::Placed { fares, .. } | Answer::Next { fares, .. } => Some(fares),
+            Answer::Refused { .. } => None,
+        }
+    }
+
+    /// The same answer with another total, if it has one.
+    pub fn costing(mut self, total: u64) -> Answer {
+        if let Answer::Placed { fares, .. } | Answer::Next { fares, .. } = &mut self {
+            *fares = total;
+        }
+        self
     }
 }
 
@@ -292,11 +334,12 @@ pub fn book_bytes(book: &[Record]) -> Vec<u8> {
     bytes
 }
 
-fn push_visits(text: &mut String, visits: &[(u16, u16)]) {
+fn push_visits(text: &mut String, visits: &[(u16, u16)], fares: u64) {
     let _ = writeln!(text, "visits {}", visits.len());
     for (student, workshop) in visits {
         let _ = writeln!(text, "visit {student} {workshop}");
     }
+    let _ = writeln!(text, "fares {fares}");
 }
 
 fn hex(bytes: &[u8]) -> String {

@@ -5,6 +5,7 @@ use crate::model::*;
 use crate::proved;
 use std::cmp::Ordering;
 use std::collections::HashSet;
+use std::ops::Range;
 
 pub struct Mutant {
     pub name: &'static str,
@@ -57,11 +58,13 @@ pub fn controls() -> Vec<Mutant> {
         on_ties("no slip in cause 11", |given| {
             (given.by_student && given.mark != NEVER).then_some((given.group, given.mark))
         }),
-        on_lots("no slip in the lots", |_| ()),
+        on_bytes("no slip in the bytes", |_| ()),
+        on_total("no slip in the total", |run| run.sum(|_| true)),
+        on_fare("no slip in the fares", |pair| pair.fare),
     ]
 }
 
-/// Slips that small cases show.
+/// Slips that small cases show; those around fares, which are more often seen, are apart.
 pub fn all() -> Vec<Mutant> {
     let mut mutants = rules(|_| true);
     mutants.extend(bad_engines());
@@ -82,6 +85,14 @@ pub fn about_never() -> Vec<Mutant> {
 pub fn about_lots() -> Vec<Mutant> {
     let mut mutants = rules(Slip::about_lots);
     mutants.extend(refusals_of_lots());
+    mutants
+}
+
+/// The slips around fares.
+pub fn about_fares() -> Vec<Mutant> {
+    let mut mutants = slips_of_totals();
+    mutants.extend(SLIPS_OF_READING.map(|(name, fare)| on_fare(name, fare)));
+    mutants.extend(SLIPS_OF_FARES.map(|(name, change)| on_bytes(name, change)));
     mutants
 }
 
@@ -235,6 +246,8 @@ pub fn of_size() -> Vec<Mutant> {
             }
             Err(_) => literal::answer(input),
         }),
+        on_total("total in 24 bits", |run| run.total & 0xff_ffff),
+        on_total("total in a 32-bit float", |run| run.total as f32 as u64),
         on_placed("student numbers in a byte", |_, (places, visits)| {
             let visits = visits.into_iter().map(|(s, w)| (s & 255, w));
             (places, visits.collect())
@@ -252,7 +265,7 @@ pub fn of_size() -> Vec<Mutant> {
         on_refused("record numbers in 16 bits", |_, number, place| {
             (number, place & 0xffff)
         }),
-        on_lots("lots used again by 256 students", |case| {
+        on_bytes("lots used again by 256 students", |case| {
             mend_repeats(case, |_, at| at >= 256)
         }),
     ]
@@ -332,10 +345,7 @@ fn refusals_of_never() -> Vec<Mutant> {
 }
 
 fn refusals_of_lots() -> Vec<Mutant> {
-    let mut mutants: Vec<Mutant> = SLIPS_OF_LOTS
-        .iter()
-        .map(|&(name, change)| on_lots(name, change))
-        .collect();
+    let mut mutants = Vec::from(SLIPS_OF_LOTS.map(|(name, change)| on_bytes(name, change)));
     mutants.extend([
         on_ties("a workshop's equal marks are refused", |given| {
             (given.mark != NEVER).then_some((given.group, given.mark))
@@ -415,10 +425,18 @@ type Placing = (Vec<u16>, Vec<(u16, u16)>);
 /// The right answer with its placement changed.
 fn on_placed(name: &'static str, change: fn(&Case, Placing) -> Placing) -> Mutant {
     mutant(name, move |input| match literal::answer(input) {
-        Answer::Placed { places, visits } => {
+        Answer::Placed {
+            places,
+            visits,
+            fares,
+        } => {
             let (case, _) = literal::read(input).expect("it was placed");
             let (places, visits) = change(&case, (places, visits));
-            Answer::Placed { places, visits }
+            Answer::Placed {
+                places,
+                visits,
+                fares,
+            }
         }
         other => other,
     })
@@ -516,6 +534,7 @@ fn next_before_running(input: &Input) -> Answer {
             student: pair.student,
             workshop: pair.workshop,
             visits: Vec::new(),
+            fares: 0,
         },
         None => literal::run(&case, &book),
     }
@@ -580,13 +599,225 @@ fn without_equal_marks(input: &Input) -> Input {
     input
 }
 
-// ---- Lots with a slip ----
+// ---- Fares with a slip ----
+
+/// A run that gave an answer with a total.
+struct Paid {
+    case: Case,
+    book: Vec<Record>,
+    answer: Answer,
+    total: u64,
+}
+
+impl Paid {
+    /// The fares of the listed pairs, one by one.
+    fn fares(&self) -> impl Iterator<Item = u16> + '_ {
+        let listed = self.answer.visits().iter();
+        listed.map(|&pair| self.case.fare(pair))
+    }
+
+    /// The fares of the listed pairs for which this holds.
+    fn sum(&self, counts: impl Fn((u16, u16)) -> bool) -> u64 {
+        let listed = self.answer.visits().iter().copied();
+        let counted: Vec<(u16, u16)> = listed.filter(|&pair| counts(pair)).collect();
+        literal::fares_of(&self.case, &counted)
+    }
+
+    fn next(&self) -> Option<(u16, u16)> {
+        match self.answer {
+            Answer::Next {
+                student, workshop, ..
+            } => Some((student, workshop)),
+            _ => None,
+        }
+    }
+
+    /// Whether the pair is placed; a stopped run has no places yet.
+    fn is_placed(&self, (student, workshop): (u16, u16)) -> bool {
+        match &self.answer {
+            Answer::Placed { places, .. } => places[usize::from(student) - 1] == workshop,
+            _ => false,
+        }
+    }
+
+    /// Whether the visit of this pair ended in never.
+    fn is_never(&self, pair: (u16, u16)) -> bool {
+        self.book.iter().any(|record| {
+            (record.student, record.workshop) == pair
+                && [record.student_mark, record.workshop_mark].contains(&NEVER)
+        })
+    }
+}
+
+/// The right answer with another total.
+fn on_total(name: &'static str, total: fn(&Paid) -> u64) -> Mutant {
+    mutant(name, move |input| {
+        let answer = literal::answer(input);
+        let (Ok((case, book)), Some(right)) = (literal::read(input), answer.fares()) else {
+            return answer;
+        };
+        let paid = Paid {
+            case,
+            book,
+            answer: answer.clone(),
+            total: right,
+        };
+        answer.costing(total(&paid))
+    })
+}
+
+/// The right answer if each fare were read so.
+fn on_fare(name: &'static str, fare: fn(&Pair) -> u16) -> Mutant {
+    mutant(name, move |input| match literal::read(input) {
+        Ok((mut case, book)) => {
+            for pair in &mut case.pairs {
+                pair.fare = fare(pair);
+            }
+            literal::run(&case, &book)
+        }
+        Err(_) => literal::answer(input),
+    })
+}
+
+fn slips_of_totals() -> Vec<Mutant> {
+    vec![
+        on_total("the first fare left out", |run| {
+            run.total - run.fares().next().map_or(0, u64::from)
+        }),
+        on_total("the last fare left out", |run| {
+            run.total - run.fares().last().map_or(0, u64::from)
+        }),
+        on_total("the first fare twice", |run| {
+            run.total + run.fares().next().map_or(0, u64::from)
+        }),
+        on_total("the next visit's fare counted", |run| {
+            let next = run.next().map(|pair| run.case.fare(pair));
+            run.total + next.map_or(0, u64::from)
+        }),
+        on_total("no total with a next visit", |run| {
+            run.next().map_or(run.total, |_| 0)
+        }),
+        on_total("no total with a placement", |run| {
+            run.next().map_or(0, |_| run.total)
+        }),
+        on_total("total of all pairs", |run| {
+            let fares = run.case.pairs.iter().map(|pair| u64::from(pair.fare));
+            fares.sum()
+        }),
+        on_total("total of the book's pairs", |run| {
+            let pairs = run.book.iter();
+            let pairs: Vec<_> = pairs.map(|r| (r.student, r.workshop)).collect();
+            literal::fares_of(&run.case, &pairs)
+        }),
+        on_total("total of the first pairs of the case", |run| {
+            let pairs = run.case.pairs.iter().take(run.answer.visits().len());
+            pairs.map(|pair| u64::from(pair.fare)).sum()
+        }),
+        on_total("only placed pairs counted", |run| {
+            run.sum(|pair| run.is_placed(pair))
+        }),
+        on_total("placed pairs not counted", |run| {
+            run.sum(|pair| !run.is_placed(pair))
+        }),
+        on_total("visits that ended in never not counted", |run| {
+            run.sum(|pair| !run.is_never(pair))
+        }),
+        on_total("equal fares counted once", |run| {
+            let different: HashSet<u16> = run.fares().collect();
+            different.into_iter().map(u64::from).sum()
+        }),
+        on_total("the dearest fare only", |run| {
+            run.fares().max().map_or(0, u64::from)
+        }),
+        on_total("total in 16 bits", |run| run.total & 0xffff),
+        on_total("total of 65,535 at most", |run| run.total.min(65_535)),
+        on_total("signed fares", |run| {
+            let fares = run.fares().map(|fare| i64::from(fare as i16));
+            fares.sum::<i64>() as u64
+        }),
+        on_total("visits for fares", |run| run.answer.visits().len() as u64),
+    ]
+}
+
+type Reading = fn(&Pair) -> u16;
+
+/// Fares read from other bytes.
+const SLIPS_OF_READING: [(&str, Reading); 9] = [
+    ("fare from bytes 6 and 7", |pair| pair.student_group),
+    ("fare from bytes 8 and 9", |pair| pair.workshop_group),
+    ("fare from bytes 9 and 10", |pair| {
+        pair.workshop_group >> 8 | pair.fare << 8
+    }),
+    ("fare from bytes 11 and 12", |pair| pair.fare >> 8),
+    ("fare from bytes 12 and 13", |_| 0),
+    ("fare from byte 10 only", |pair| pair.fare & 0xff),
+    ("fare from byte 11 only", |pair| pair.fare & 0xff00),
+    ("fare with the high byte first", |pair| {
+        pair.fare.swap_bytes()
+    }),
+    ("fare in 15 bits", |pair| pair.fare & 0x7fff),
+];
+
+/// What number 2 tests around the fares; slips of the engine and of the stages alike.
+pub(crate) const SLIPS_OF_FARES: [(&str, ByteSlip); 7] = [
+    ("2 tests bytes 10 and 11 of a pair", |case| {
+        spoil(case, |record| record[0] == 3 && record[10..12] != [0, 0])
+    }),
+    ("2 tests byte 10 of a pair", |case| {
+        spoil(case, |record| record[0] == 3 && record[10] != 0)
+    }),
+    ("2 tests byte 11 of a pair", |case| {
+        spoil(case, |record| record[0] == 3 && record[11] != 0)
+    }),
+    ("2 passes over bytes 10 and 11 of a student", |case| {
+        clear(case, 1, 10..12)
+    }),
+    ("2 passes over bytes 10 and 11 of a workshop", |case| {
+        clear(case, 2, 10..12)
+    }),
+    ("2 passes over bytes 12 and 13 of a pair", |case| {
+        clear(case, 3, 12..14)
+    }),
+    ("2 passes over bytes 14 and 15 of a pair", |case| {
+        clear(case, 3, 14..16)
+    }),
+];
+
+// ---- Bytes read with a slip ----
 
 /// A slip that is as good as reading other bytes.
-pub(crate) type LotSlip = fn(&mut [u8]);
+pub(crate) type ByteSlip = fn(&mut [u8]);
+
+fn on_bytes(name: &'static str, change: ByteSlip) -> Mutant {
+    mutant(name, move |input| {
+        let mut input = input.clone();
+        change(&mut input.case);
+        literal::answer(&input)
+    })
+}
+
+/// The records of which this holds get a byte that number 2 refuses.
+fn spoil(case: &mut [u8], bad: fn(&[u8]) -> bool) {
+    for record in case.chunks_exact_mut(CASE_RECORD) {
+        if bad(record) {
+            record[15] = 1;
+        }
+    }
+}
+
+/// Bytes of the records of one kind become zero.
+fn clear(case: &mut [u8], kind: u8, bytes: Range<usize>) {
+    for record in case.chunks_exact_mut(CASE_RECORD) {
+        if record[0] == kind {
+            record[bytes.clone()].fill(0);
+        }
+    }
+}
+
+// ---- Lots with a slip ----
 
 /// Slips of the engine and of the stages alike.
-pub(crate) const SLIPS_OF_LOTS: [(&str, LotSlip); 12] = [
+pub(crate) const SLIPS_OF_LOTS: [(&str, ByteSlip); 12] = [
     ("lot 512 is refused", |case| {
         each_lot(case, |lot, _| if lot == 512 { 513 } else { lot })
     }),
@@ -618,28 +849,12 @@ pub(crate) const SLIPS_OF_LOTS: [(&str, LotSlip); 12] = [
         mend_repeats(case, |lots, at| lots[at - 1] == lots[at])
     }),
     ("2 tests bytes 8 and 9 of a student", |case| {
-        for record in case.chunks_exact_mut(CASE_RECORD) {
-            if record[0] == 1 && record[8..10] != [0, 0] {
-                record[15] = 1;
-            }
-        }
+        spoil(case, |record| record[0] == 1 && record[8..10] != [0, 0])
     }),
     ("2 passes over bytes 8 and 9 of a workshop", |case| {
-        for record in case.chunks_exact_mut(CASE_RECORD) {
-            if record[0] == 2 {
-                record[8..10].fill(0);
-            }
-        }
+        clear(case, 2, 8..10)
     }),
 ];
-
-fn on_lots(name: &'static str, change: LotSlip) -> Mutant {
-    mutant(name, move |input| {
-        let mut input = input.clone();
-        change(&mut input.case);
-        literal::answer(&input)
-    })
-}
 
 /// The lots of the records of kind 1.
 fn lots_of(case: &[u8]) -> Vec<u16> {
@@ -824,6 +1039,7 @@ impl<'a> Sloppy<'a> {
                     return Answer::Next {
                         student: s as u16 + 1,
                         workshop: w as u16 + 1,
+                        fares: literal::fares_of(self.case, &self.visits),
                         visits: self.visits,
                     }
                 }
@@ -837,6 +1053,7 @@ impl<'a> Sloppy<'a> {
         }
         Answer::Placed {
             places,
+            fares: literal::fares_of(self.case, &self.visits),
             visits: self.visits,
         }
     }

@@ -110,6 +110,7 @@ pub fn run(tally: &mut Tally, program: &Path, seed: u64, random_cases: usize) {
     let mut rows = proved::table();
     rows.extend(proved::of_never());
     rows.extend(proved::of_lots());
+    rows.extend(proved::of_fares());
     for proved in rows {
         bench.expect_answer(tally, proved.name, &proved.input);
     }
@@ -160,7 +161,7 @@ fn run_folders(tally: &mut Tally) -> Vec<PathBuf> {
     let runs = fs::read_dir(Path::new(TOP).join("tests/runs")).expect("stored runs");
     let mut folders: Vec<PathBuf> = runs.flatten().map(|entry| entry.path()).collect();
     folders.sort();
-    tally.check(folders.len() >= 10, || "stored runs are gone".to_string());
+    tally.check(folders.len() >= 12, || "stored runs are gone".to_string());
     folders
 }
 
@@ -295,6 +296,11 @@ fn sizes(tally: &mut Tally, bench: &Bench) {
         ..with_case_of(MAX_FILE)
     };
     bench.expect_answer(tally, "both files of the longest length", &both);
+    let mut dear = with_case_of(MAX_FILE);
+    let records = dear.case.chunks_exact_mut(CASE_RECORD);
+    let pairs = records.filter(|record| record[0] == 3);
+    pairs.for_each(|pair| pair[10..12].fill(255));
+    bench.expect_answer(tally, "the longest case, every fare 65535", &dear);
     let mut late = with_book_of(MAX_FILE);
     late.book[MAX_FILE - BOOK_RECORD] = 9;
     bench.expect_answer(tally, "fault at the end of the longest book", &late);

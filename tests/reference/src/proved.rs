@@ -1,5 +1,5 @@
-//! The table of proved cases, with the answers the specification states, and rows for never and for
-//! lots, with answers worked out by hand.
+//! The table of proved cases, with the answers the specification states, and rows for never, for
+//! lots and for fares, with answers worked out by hand.
 
 use crate::model::*;
 
@@ -26,7 +26,7 @@ impl Expected {
         match (self, answer) {
             (Expected::Exactly(expected), answer) => expected == answer,
             (Expected::Places(expected), Answer::Placed { places, .. }) => expected == places,
-            (Expected::PlacesAndCount(expected, count), Answer::Placed { places, visits }) => {
+            (Expected::PlacesAndCount(expected, count), Answer::Placed { places, visits, .. }) => {
                 expected == places && *count == visits.len()
             }
             (
@@ -36,6 +36,14 @@ impl Expected {
                 },
             ) => (s, w) == (student, workshop),
             _ => false,
+        }
+    }
+
+    /// The same with this total, where the whole answer is stated.
+    fn costing(self, total: u64) -> Expected {
+        match self {
+            Expected::Exactly(answer) => Expected::Exactly(answer.costing(total)),
+            other => other,
         }
     }
 }
@@ -63,6 +71,7 @@ pub fn example() -> (Case, Vec<Record>) {
                 workshop,
                 student_group,
                 workshop_group,
+                fare: 0,
             })
             .to_vec(),
     };
@@ -86,6 +95,7 @@ fn placed(places: [u16; 3], visits: &[(u16, u16)]) -> Expected {
     Expected::Exactly(Answer::Placed {
         places: places.to_vec(),
         visits: visits.to_vec(),
+        fares: 0,
     })
 }
 
@@ -94,6 +104,7 @@ fn next((student, workshop): (u16, u16), visits: &[(u16, u16)]) -> Expected {
         student,
         workshop,
         visits: visits.to_vec(),
+        fares: 0,
     })
 }
 
@@ -793,5 +804,280 @@ fn of_students_equal_marks() -> Vec<Proved> {
                 book[5].student_mark = 4;
             },
         ),
+    ]
+}
+
+/// Rows for fares.
+pub fn of_fares() -> Vec<Proved> {
+    let mut rows = of_finished_totals();
+    rows.extend(of_bytes_of_fares());
+    rows.extend(of_stopped_totals());
+    rows.extend(of_other_lists());
+    rows.extend(of_bytes_that_stay_zero());
+    rows.extend(of_fares_and_other_causes());
+    rows
+}
+
+/// A fare for each pair: one bit, so that the total tells which of them were added up.
+const BITS: [u16; 6] = [1, 2, 4, 8, 16, 32];
+/// The total of the example's visits with these fares.
+const VISITS_IN_BITS: u64 = 1 + 2 + 8 + 32;
+
+/// The example with these fares and another change.
+fn with_fares(
+    name: &'static str,
+    fares: [u16; 6],
+    expected: Expected,
+    change: impl FnOnce(&mut Case, &mut Vec<Record>),
+) -> Proved {
+    changed(name, expected, |case, book| {
+        for (pair, fare) in case.pairs.iter_mut().zip(fares) {
+            pair.fare = fare;
+        }
+        change(case, book);
+    })
+}
+
+/// The example lists pairs 0, 1, 3 and 5 of the case, and not 2 and 4, which are (2,1) and (3,1).
+fn of_finished_totals() -> Vec<Proved> {
+    let row =
+        |name, fares, total| with_fares(name, fares, answer_of_example().costing(total), |_, _| ());
+    vec![
+        row("no fares", [0; 6], 0),
+        row("one bit for each pair", BITS, VISITS_IN_BITS),
+        row("other fares", [1, 20, 300, 4000, 5, 60000], 64021),
+        row("the first visit's fare", [7, 0, 0, 0, 0, 0], 7),
+        row("the second visit's fare", [0, 7, 0, 0, 0, 0], 7),
+        row("the third visit's fare", [0, 0, 0, 7, 0, 0], 7),
+        row("the last visit's fare", [0, 0, 0, 0, 0, 7], 7),
+        row("fares of others only", [0, 0, 7, 0, 65535, 0], 0),
+        row("one fare for all", [7; 6], 28),
+        row("65535 for all", [65535; 6], 262140),
+        row(
+            "65535 at the listed pairs",
+            [65535, 65535, 0, 65535, 0, 65535],
+            262140,
+        ),
+        row("65535 at the first", [65535, 0, 0, 0, 0, 0], 65535),
+        row("65535 and 1", [65535, 1, 0, 0, 0, 0], 65536),
+        row("twice 32768", [32768, 0, 0, 0, 0, 32768], 65536),
+        row("four times 16384", [16384; 6], 65536),
+    ]
+}
+
+/// The low byte stands first, in byte 10, and no other bytes count.
+fn of_bytes_of_fares() -> Vec<Proved> {
+    let row =
+        |name, fares, total| with_fares(name, fares, answer_of_example().costing(total), |_, _| ());
+    let byte = |name, byte: usize, value: u8, total: u64| {
+        changed_input(name, answer_of_example().costing(total), |input| {
+            for pair in 5..11 {
+                input.case[pair * 16 + byte] = value;
+            }
+        })
+    };
+    vec![
+        byte("byte 10 of all pairs", 10, 1, 4),
+        byte("byte 11 of all pairs", 11, 1, 4 * 256),
+        byte("byte 10 of all pairs at 255", 10, 255, 4 * 255),
+        byte("byte 11 of all pairs at 255", 11, 255, 4 * 65280),
+        row("255 and 256", [255, 256, 0, 0, 0, 0], 511),
+        row("the workshops' groups", [1, 1, 2, 2, 2, 2], 6),
+        row("the students' groups", [1, 1, 1, 1, 1, 2], 5),
+        changed_input(
+            "byte 10 of the first pair",
+            answer_of_example().costing(1),
+            |input| input.case[5 * 16 + 10] = 1,
+        ),
+        changed_input(
+            "byte 11 of the last pair",
+            answer_of_example().costing(256),
+            |input| input.case[10 * 16 + 11] = 1,
+        ),
+    ]
+}
+
+/// The next visit is not paid yet, whatever the book has of later ones.
+fn of_stopped_totals() -> Vec<Proved> {
+    let stopped = |name, fares, kept: usize, total| {
+        let pair = VISITS[kept];
+        let expected = next(pair, &VISITS[..kept]).costing(total);
+        with_fares(name, fares, expected, |_, book| book.truncate(kept))
+    };
+    vec![
+        stopped("stopped at once", BITS, 0, 0),
+        stopped("stopped at once, 65535 for all", [65535; 6], 0, 0),
+        stopped("stopped at (1,2)", BITS, 1, 1),
+        stopped("stopped at (2,2)", BITS, 2, 3),
+        stopped("stopped at (3,2)", BITS, 3, 11),
+        stopped(
+            "a fare at the next visit only",
+            [0, 0, 0, 65535, 0, 0],
+            2,
+            0,
+        ),
+        stopped("no fare at the next visit", [300, 40, 9, 0, 9, 9], 2, 340),
+        stopped("stopped with 65535 for all", [65535; 6], 3, 196605),
+        with_fares(
+            "a later record is there already",
+            BITS,
+            next((2, 2), &VISITS[..2]).costing(3),
+            |_, book| {
+                book.remove(2);
+            },
+        ),
+        with_fares(
+            "the first record is missing",
+            BITS,
+            next((1, 1), &[]),
+            |_, book| {
+                book.remove(0);
+            },
+        ),
+    ]
+}
+
+/// Other visits than those of the example.
+fn of_other_lists() -> Vec<Proved> {
+    let in_bits =
+        |name, places, visits: &[(u16, u16)], total, change: fn(&mut Case, &mut Vec<Record>)| {
+            with_fares(name, BITS, placed(places, visits).costing(total), change)
+        };
+    vec![
+        in_bits(
+            "no place for 3",
+            [1, 2, 0],
+            &VISITS,
+            VISITS_IN_BITS,
+            |_, book| book[2].workshop_mark = 7,
+        ),
+        in_bits("one visit", [2, 0, 0], &[(1, 2)], 2, |case, _| {
+            case.workshops[0].quota = 0
+        }),
+        in_bits("no pairs", [0, 0, 0], &[], 0, |case, book| {
+            case.pairs.clear();
+            book.clear();
+        }),
+        in_bits("no seats", [0, 0, 0], &[], 0, |case, _| {
+            case.workshops.iter_mut().for_each(|w| w.quota = 0)
+        }),
+        in_bits(
+            "a record that no visit asks for",
+            [1, 0, 2],
+            &VISITS,
+            VISITS_IN_BITS,
+            |_, book| add_workshop_one(book),
+        ),
+        in_bits(
+            "two visits end in never",
+            [1, 0, 0],
+            &VISITS,
+            VISITS_IN_BITS,
+            |_, book| {
+                book[2].workshop_mark = -1000;
+                book[3].student_mark = -1000;
+            },
+        ),
+        in_bits(
+            "the first visit ends in never",
+            [2, 0, 1],
+            &[(1, 1), (1, 2), (2, 1), (3, 1)],
+            1 + 2 + 4 + 16,
+            |_, book| {
+                book[0].student_mark = -1000;
+                add_workshop_one(book);
+            },
+        ),
+        with_fares(
+            "stopped after a never",
+            BITS,
+            next((2, 1), &[(1, 1), (1, 2)]).costing(3),
+            |_, book| book[0].workshop_mark = -1000,
+        ),
+        in_bits(
+            "all pairs are visited",
+            [1, 1, 2],
+            &[(1, 1), (1, 2), (2, 1), (2, 2), (3, 1), (3, 2)],
+            63,
+            |case, book| {
+                case.workshops[0].quota = 2;
+                add_workshop_one(book);
+                book[5].workshop_mark = -1000;
+            },
+        ),
+    ]
+}
+
+/// Number 2 tests bytes 10 and 11 of students and workshops, and 12 to 15 of all records.
+fn of_bytes_that_stay_zero() -> Vec<Proved> {
+    let row = |name, place: usize, byte: usize, value: u8| {
+        changed_input(name, refused(2, place), |input| {
+            input.case[place * 16 + byte] = value
+        })
+    };
+    let with_fare = |name, place: usize, byte: usize| {
+        with_bytes(name, BITS, refused(2, place), |input| {
+            input.case[place * 16 + byte] = 1
+        })
+    };
+    vec![
+        row("byte 10 of student 1", 0, 10, 1),
+        row("byte 11 of student 1", 0, 11, 1),
+        row("byte 11 of student 3", 2, 11, 128),
+        row("byte 12 of student 2", 1, 12, 1),
+        row("byte 10 of workshop 1", 3, 10, 1),
+        row("byte 11 of workshop 2", 4, 11, 255),
+        row("byte 12 of workshop 2", 4, 12, 1),
+        row("byte 12 of the first pair", 5, 12, 1),
+        row("byte 13 of a pair", 7, 13, 1),
+        row("byte 14 of a pair", 8, 14, 1),
+        row("byte 15 of the last pair", 10, 15, 1),
+        row("byte 1 of a pair", 6, 1, 1),
+        with_fare("fares, and byte 12 of the last pair", 10, 12),
+        with_fare("fares, and byte 13 of the first pair", 5, 13),
+        with_fare("fares, and byte 10 of a workshop", 4, 10),
+        with_fare("fares, and byte 11 of a student", 2, 11),
+    ]
+}
+
+/// The example with these fares after a change of its bytes or buffers.
+fn with_bytes(
+    name: &'static str,
+    fares: [u16; 6],
+    expected: Expected,
+    change: impl FnOnce(&mut Input),
+) -> Proved {
+    let mut row = with_fares(name, fares, expected, |_, _| ());
+    change(&mut row.input);
+    row
+}
+
+/// Fares stand beside every other cause, in an earlier record and in the same one.
+fn of_fares_and_other_causes() -> Vec<Proved> {
+    let row = |name, number, place, change: fn(&mut Input)| {
+        with_bytes(name, [65535; 6], refused(number, place), change)
+    };
+    vec![
+        row("fares and 1", 1, 0, |input| input.case.push(0)),
+        row("fares and 2 by the kind", 2, 8, |input| {
+            input.case[8 * 16] = 4
+        }),
+        row("fares and 3", 3, 9, |input| input.case[9 * 16 + 2] = 1),
+        row("fares and 4", 4, 0, |input| {
+            let mut workshops = Vec::new();
+            (3..=65).for_each(|number| push_case_record(&mut workshops, 2, &[number, 1, 1]));
+            input.case.splice(5 * 16..5 * 16, workshops);
+        }),
+        row("fares and 5", 5, 10, |input| input.case[10 * 16 + 6] = 66),
+        row("fares and 13", 13, 0, |input| input.case[8] = 0),
+        row("fares and 6", 6, 0, |input| input.lent.visits = 11),
+        row("fares and 7", 7, 0, |input| input.book.push(0)),
+        row("fares and 8", 8, 3, |input| input.book[3 * 8] = 4),
+        row("fares and 9", 9, 2, |input| input.book[2 * 8 + 6] = 0),
+        row("fares and 10", 10, 4, |input| {
+            let first = input.book[..8].to_vec();
+            input.book.extend(first);
+        }),
+        row("fares and 11", 11, 1, |input| input.book[8 + 4] = 5),
     ]
 }

@@ -9,8 +9,14 @@ use Rattle.answering.proofs.numbers.Lts as lts
 enum-known-answer : tie.Need-enum-known-answer
 enum-known-answer c = search needs
 
+cast-t12 : tie.Need-cast-t12
+cast-t12 c = search needs
+
 enum-known-answer-2 : tie.Need-enum-known-answer-2
 enum-known-answer-2 c = search needs
+
+cast-t16 : tie.Need-cast-t16
+cast-t16 c = search needs
 
 enum-known-answer-3 : tie.Need-enum-known-answer-3
 enum-known-answer-3 c = search needs
@@ -32,7 +38,9 @@ numbers-spec =
     tie.close
     (tie.spec
     enum-known-answer
+    cast-t12
     enum-known-answer-2
+    cast-t16
     enum-known-answer-3
     returns
     returns-2

@@ -4,7 +4,7 @@ use native.Mathlib.Omega.{arith}
 use lib.ListN.{length}
 use Rattle.api.specs.Text.{textOf}
 use Rattle.printing.proofs.Laws.{put-then, put-within}
-use Rattle.printing.proofs.Lengths.{FirstLine, text-length, put-both}
+use Rattle.printing.proofs.Lengths.{Numbers, text-length, put-both}
 use borrow.Author.Needs.{needs}
 use Rattle.printing.proofs.put_answer.Statement.{statement}
 use Rattle.printing.proofs.put_answer.Tie as tie
@@ -52,9 +52,9 @@ slice-aggregate-put-line2-2 c = search needs
 put-line2-requires-2 : tie.Need-put-line2-requires-2
 put-line2-requires-2 c κs = search needs
 
--- the text's length, where the first line is short
+-- the text's length, by what is known of the answer's numbers
 short : (c : tie.After-slice-known) → (let a = c .before .before .before .args in
-    FirstLine (a .answer)
+    Numbers (a .answer)
     → length (textOf (a .answer) (a .n) (a .places .now) (a .visits .now)) ≤ 33 * length (a .places .now) + 9 * length (a .visits .now) + 100)
 short c f =
     let a = c .before .before .before .args in
@@ -73,7 +73,7 @@ returns c =
     let known = c .before .before .before .before .before .before .before .before .before in
     let e = known .answer .given .1 in
     let put = put-then (omega arith) (c .before .before .before .before .before .before .put-places .ensures) (c .before .before .put-visits .ensures) in
-    put-both (rw e put) (short (known .before .before) (rw e tt))
+    put-both (rw e put) (short (known .before .before) (rw e (omega arith)))
 
 same-length-2 : tie.Need-same-length-2
 same-length-2 c = search needs
@@ -85,7 +85,7 @@ returns-2 c =
     let e = known .answer2 .given .1 in
     let first = c .before .before .before .before .before .before .put-line2 .ensures in
     let put = put-then (omega arith) (first .0) (c .before .before .put-visits2 .ensures) in
-    put-both (rw e put) (short (known .before .before) (rw e (first .1)))
+    put-both (rw e put) (short (known .before .before) (rw e (first .1, omega arith)))
 
 same-length-3 : tie.Need-same-length-3
 same-length-3 c = search needs

@@ -1,4 +1,4 @@
--- `printing::put_visits` meets its contract: the line with the count, and then the lines of the interviews.
+-- `printing::put_visits` meets its contract: the line with the count, the lines of the interviews, and the line with the fares.
 use Rattle.printing.proofs.Laws.{put-then}
 use Rattle.printing.proofs.Lines.{visits-text}
 use borrow.Author.Needs.{needs}
@@ -18,15 +18,23 @@ put-line1-requires c κs = search needs
 put-visit-lines-requires : tie.Need-put-visit-lines-requires
 put-visit-lines-requires c κs = search needs
 
+slice-aggregate-put-line1-2 : tie.Need-slice-aggregate-put-line1-2
+slice-aggregate-put-line1-2 c = search needs
+
+put-line1-requires-2 : tie.Need-put-line1-requires-2
+put-line1-requires-2 c κs = search needs
+
 same-length : tie.Need-same-length
 same-length c = search needs
 
 returns : tie.Need-returns
 returns c =
-    let after-count = c .before .before .before .before .before .before in
+    let after-lines = c .before .before .before .before .before .before .before in
+    let after-count = after-lines .before .before .before .before in
     let start = after-count .before .before .before .before .before in
-    let both = put-then (start .pre .0) (after-count .put-line1 .ensures) (c .before .before .put-visit-lines .ensures) in
-    rw (visits-text (start .args .visits .now) (start .args .count)) at both
+    let listed = put-then (start .pre .0) (after-count .put-line1 .ensures) (after-lines .put-visit-lines .ensures) in
+    let all = put-then (start .pre .0) listed (c .before .before .put-line12 .ensures) in
+    rw (visits-text (start .args .visits .now) (start .args .count) (start .args .fares)) at all
 
 pub put-visits-spec : {M : Type 1} → statement M
 put-visits-spec =
@@ -35,5 +43,7 @@ put-visits-spec =
     slice-aggregate-put-line1
     put-line1-requires
     put-visit-lines-requires
+    slice-aggregate-put-line1-2
+    put-line1-requires-2
     same-length
     returns)

@@ -22,14 +22,14 @@ third-at-requires c κs = search needs
 fourth-at-requires : tie.Need-fourth-at-requires
 fourth-at-requires c κs = search needs
 
+fifth-at-requires : tie.Need-fifth-at-requires
+fifth-at-requires c κs = search needs
+
 field-at-requires : tie.Need-field-at-requires
 field-at-requires c κs = search needs
 
 field-at-requires-2 : tie.Need-field-at-requires-2
 field-at-requires-2 c κs = search needs
-
-field-at-requires-3 : tie.Need-field-at-requires-3
-field-at-requires-3 c κs = search needs
 
 returns : tie.Need-returns
 unfolding rowAt
@@ -45,7 +45,7 @@ row-at-spec =
     second-at-requires
     third-at-requires
     fourth-at-requires
+    fifth-at-requires
     field-at-requires
     field-at-requires-2
-    field-at-requires-3
     returns)

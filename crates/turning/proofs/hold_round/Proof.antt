@@ -14,18 +14,18 @@ use Rattle.model.specs.Turn.{dueAt}
 use Rattle.model.specs.Ready.{Booked}
 use Rattle.lookup.specs.Clean.{PairAt, EntryAt}
 use Rattle.lookup.proofs.Laws.{entry-known, met-by, unmet-by}
-use Rattle.turning.proofs.Due.{tier-pair, tier-due, tier-at}
-use Rattle.turning.proofs.Rounds.{round-length, round-skip, round-room, round-held, round-missing, round-end}
+use Rattle.turning.proofs.Due.{tier-pair, tier-due, tier-at, fare-at}
+use Rattle.turning.proofs.Rounds.{round-cheap, round-length, round-skip, round-room, round-held, round-missing, round-end}
 use Rattle.turning.proofs.Listing.{Going, Coming, going-start, going-few, going-end, coming-within, coming-as, going-on}
 use Rattle.turning.proofs.hold_round.Statement.{statement}
 use Rattle.turning.proofs.hold_round.Tie as tie
 
 abbrev Inv-loop : tie.InvT-loop
-Inv-loop case book index table visits₀ seats students workshops s tier set held pairs n count₀ openings₀ k₀ visits count openings k =
-    Going case (resultsIn book) seats s tier set held workshops n pairs visits₀ visits count openings k
+Inv-loop case book index table visits₀ seats students workshops s tier set held pairs n count₀ openings₀ fares₀ k₀ visits count openings fares k =
+    Going case (resultsIn book) seats s tier set held workshops n pairs visits₀ visits count openings fares k
 
 abbrev μ-loop : tie.MeasureT-loop
-μ-loop case book index table visits₀ seats students workshops s tier set held pairs n count₀ openings₀ k₀ visits count openings k = n - k
+μ-loop case book index table visits₀ seats students workshops s tier set held pairs n count₀ openings₀ fares₀ k₀ visits count openings fares k = n - k
 
 -- the function's entry, what has been listed and the loop's head, from inside the loop
 abbrev entry : tie.In-loop Inv-loop μ-loop → tie.Start Inv-loop μ-loop
@@ -39,7 +39,7 @@ Comes c w =
     let a = entry c .args in
     let here = c .before .loop in
     Coming (a .case .now) (resultsIn (a .book .now)) (a .seats .now) (a .s) (a .tier) (a .set) (a .held) (a .workshops) (a .visits .now)
-    (here .visits) (here .count) (here .openings) (here .k) w (getD (pairs-of c) (here .k) 0)
+    (here .visits) (here .count) (here .openings) (here .fares) (here .k) w (getD (pairs-of c) (here .k) 0)
 
 few : (c : tie.In-loop Inv-loop μ-loop) → c .before .loop .k < 64
 few c =
@@ -48,7 +48,7 @@ few c =
     omega (
       arith,
       going-few (a .case .now) (resultsIn (a .book .now)) (a .seats .now) (a .s) (a .tier) (a .set) (a .held) (a .workshops)
-          (c .before .before .before .list-tier .result) (pairs-of c) (a .visits .now) (here .visits) (here .count) (here .openings)
+          (c .before .before .before .list-tier .result) (pairs-of c) (a .visits .now) (here .visits) (here .count) (here .openings) (here .fares)
           (here .k) (here .inv),
       entry c .pre .0 .manyWorkshops,
     )
@@ -59,7 +59,7 @@ within c =
     let a = entry c .args in
     let here = c .before .loop in
     coming-within (a .case .now) (resultsIn (a .book .now)) (a .seats .now) (a .s) (a .tier) (a .set) (a .held) (a .workshops)
-    (c .before .before .before .list-tier .result) (pairs-of c) (a .visits .now) (here .visits) (here .count) (here .openings)
+    (c .before .before .before .list-tier .result) (pairs-of c) (a .visits .now) (here .visits) (here .count) (here .openings) (here .fares)
     (here .k) (here .inv) (omega arith) (entry c .pre .0 .pair (a .s))
 
 comes : (c : tie.After-second-at Inv-loop μ-loop) → Comes (c .before) (c .second-at .result)
@@ -68,7 +68,7 @@ comes c =
     let a = entry d .args in
     let here = d .before .loop in
     coming-as (a .case .now) (resultsIn (a .book .now)) (a .seats .now) (a .s) (a .tier) (a .set) (a .held) (a .workshops)
-    (d .before .before .before .list-tier .result) (pairs-of d) (a .visits .now) (here .visits) (here .count) (here .openings)
+    (d .before .before .before .list-tier .result) (pairs-of d) (a .visits .now) (here .visits) (here .count) (here .openings) (here .fares)
     (here .k) (here .inv) (omega arith) (entry d .pre .0 .pair (a .s)) (c .second-at .result) (c .second-at .ensures)
 
 pair-at : (c : tie.After-second-at Inv-loop μ-loop) → (let a = entry (c .before) .args in
@@ -131,7 +131,8 @@ room c =
     let here = d .before .before .loop in
     let x = comes d in
     round-room (marketIn (a .case .now)) (resultsIn (a .book .now)) (a .seats .now) (a .s) (a .tier) (a .set) (a .held) (a .visits .now)
-    (here .visits) (here .count) (here .openings) (x .at) (a .workshops) (x .so) (start .pre .1 .1 .1) (x .below) (d .second-at .result) (x .number)
+    (here .visits) (here .count) (here .openings) (here .fares) (x .at) (a .workshops) (x .so) (start .pre .1 .1 .1) (x .below)
+    (d .second-at .result) (x .number)
     (due c)
 
 slice-aggregate-list-tier : tie.Need-slice-aggregate-list-tier Inv-loop μ-loop
@@ -202,11 +203,12 @@ loop-again c =
     let e = tier-due (marketIn (a .case .now)) (resultsIn (a .book .now)) (a .seats .now) (a .s) (a .tier) (d .second-at .result) (x .tier) true
     (sym (shut (c .before)) ∙ c .if1 .taken) in
     let r = round-skip (marketIn (a .case .now)) (resultsIn (a .book .now)) (a .seats .now) (a .s) (a .tier) (a .set) (a .held) (a .visits .now)
-    (here .visits) (here .count) (here .openings) (x .at) (a .workshops) (x .so) (start .pre .1 .1 .1) (x .below) (d .second-at .result) (x .number)
+    (here .visits) (here .count) (here .openings) (here .fares) (x .at) (a .workshops) (x .so) (start .pre .1 .1 .1) (x .below)
+    (d .second-at .result) (x .number)
     e in
     going-on (a .case .now) (resultsIn (a .book .now)) (a .seats .now) (a .s) (a .tier) (a .set) (a .held) (a .workshops)
     (d .before .before .before .before .list-tier .result) (pairs-of (d .before)) (a .visits .now) (here .visits)
-    (here .count) (here .openings) (here .k) (here .inv) (d .second-at .result) _ _ _ _ x r
+    (here .count) (here .openings) (here .fares) (here .k) (here .inv) (d .second-at .result) _ _ _ _ _ x r
 
 add-entry-of : tie.Need-add-entry-of Inv-loop μ-loop
 add-entry-of c = omega (
@@ -227,7 +229,7 @@ same-length c =
     let a = entry d .args in
     let here = d .before .loop in
     round-length (marketIn (a .case .now)) (resultsIn (a .book .now)) (a .seats .now) (a .s) (a .tier) (a .set) (a .held) (a .visits .now)
-    (here .visits) (here .count) (here .openings) (here .inv .done) (a .workshops) (here .inv .so) (entry d .pre .1 .1 .1) (here .inv .within)
+    (here .visits) (here .count) (here .openings) (here .fares) (here .inv .done) (a .workshops) (here .inv .so) (entry d .pre .1 .1 .1) (here .inv .within)
 
 returns : tie.Need-returns Inv-loop μ-loop
 returns c =
@@ -239,7 +241,8 @@ returns c =
     let q = unmet-by (start .pre .0) (a .s) (d .second-at .result) (pair-at d .0) _ (c .before .entry-of .result) (x .pair)
     (c .before .entry-of .ensures) (c .if2 .taken) in
     let r = round-missing (marketIn (a .case .now)) (resultsIn (a .book .now)) (a .seats .now) (a .s) (a .tier) (a .set) (a .held) (a .visits .now)
-    (here .visits) (here .count) (here .openings) (x .at) (a .workshops) (x .so) (start .pre .1 .1 .1) (x .below) (d .second-at .result) (x .number)
+    (here .visits) (here .count) (here .openings) (here .fares) (x .at) (a .workshops) (x .so) (start .pre .1 .1 .1) (x .below)
+    (d .second-at .result) (x .number)
     (due (c .before .before)) q in
     (r .0, r .1)
 
@@ -273,42 +276,63 @@ opened-requires c κs =
     let e = entered (c .before .before .before .before) in
     ((omega (arith, b), entry (d .before) .pre .0 .workshop (d .second-at .result) (b .0) (b .1)), (within (d .before), omega (arith, e), omega (arith, e)))
 
-add-count : tie.Need-add-count Inv-loop μ-loop
-add-count c =
-    let d = c .before .before .before .before .before .before .before .before .before .before .before .before .before in
+fare-of-requires : tie.Need-fare-of-requires Inv-loop μ-loop
+fare-of-requires c κs = within (c .before .before .before .before .before .before .before .before .before .before .before .before .before)
+
+cast-fares : tie.Need-cast-fares Inv-loop μ-loop
+cast-fares c = omega arith
+
+add-fares : tie.Need-add-fares Inv-loop μ-loop
+add-fares c =
+    let d = c .before .before .before .before .before .before .before .before .before .before .before .before .before .before in
     let a = entry d .args in
     let here = d .before .loop in
     omega (
       arith,
-      room (c .before .before .before .before .before .before .before),
+      here .inv .so .paid,
+      round-cheap (marketIn (a .case .now)) (resultsIn (a .book .now)) (a .seats .now) (a .s) (a .tier) (a .set)
+          (λ v. entry d .pre .0 .fare (v .0) (v .1)) (here .inv .done) (omega (arith, here .inv .within, entry d .pre .0 .manyWorkshops)),
+    )
+
+add-count : tie.Need-add-count Inv-loop μ-loop
+add-count c =
+    let d = c .before .before .before .before .before .before .before .before .before .before .before .before .before .before in
+    let a = entry d .args in
+    let here = d .before .loop in
+    omega (
+      arith,
+      room (c .before .before .before .before .before .before .before .before),
       round-length (marketIn (a .case .now)) (resultsIn (a .book .now))
-          (a .seats .now) (a .s) (a .tier) (a .set) (a .held) (a .visits .now) (here .visits) (here .count) (here .openings) (here .inv .done)
+          (a .seats .now) (a .s) (a .tier) (a .set) (a .held) (a .visits .now) (here .visits) (here .count) (here .openings) (here .fares) (here .inv .done)
           (a .workshops) (here .inv .so) (entry d .pre .1 .1 .1) (here .inv .within),
       entry d .good,
     )
 
 add-k-2 : tie.Need-add-k-2 Inv-loop μ-loop
-add-k-2 c = omega (arith, few (c .before .before .before .before .before .before .before .before .before .before .before .before .before))
+add-k-2 c = omega (arith, few (c .before .before .before .before .before .before .before .before .before .before .before .before .before .before))
 
 loop-less-2 : tie.Need-loop-less-2 Inv-loop μ-loop
 loop-less-2 c = omega arith
 
 loop-again-2 : tie.Need-loop-again-2 Inv-loop μ-loop
 loop-again-2 c =
-    let d = c .before .before .before .before .before .before .before .before .before .before .before .before in
+    let d = c .before .before .before .before .before .before .before .before .before .before .before .before .before in
     let start = entry (d .before) in
     let a = start .args in
     let here = d .before .before .loop in
     let x = comes d in
     let t = tier-at (a .case .now) (a .s) (d .second-at .result) _ _ (pair-at d .1) (x .pair) refl in
-    let o = c .opened .ensures (a .s) t (entered (c .before .before .before .before .before)) in
+    let o = c .before .opened .ensures (a .s) t (entered (c .before .before .before .before .before .before)) in
     let r = round-held (marketIn (a .case .now)) (resultsIn (a .book .now)) (a .seats .now) (a .s) (a .tier) (a .set) (a .held) (a .visits .now)
-    (here .visits) (here .count) (here .openings) (x .at) (a .workshops) (x .so) (start .pre .1 .1 .1) (x .below) (d .second-at .result) (x .number)
-    (due (c .before .before .before .before .before .before .before)) (booked (c .before .before .before .before .before) .met) in
+    (here .visits) (here .count) (here .openings) (here .fares) (x .at) (a .workshops) (x .so) (start .pre .1 .1 .1) (x .below)
+    (d .second-at .result) (x .number)
+    (due (c .before .before .before .before .before .before .before .before)) (booked (c .before .before .before .before .before .before) .met)
+    (c .fare-of .result)
+    (fare-at (a .case .now) (a .s) (d .second-at .result) _ (c .fare-of .result) (pair-at d .1) (x .pair) (c .fare-of .ensures)) in
     going-on (a .case .now) (resultsIn (a .book .now)) (a .seats .now) (a .s) (a .tier) (a .set) (a .held) (a .workshops)
     (d .before .before .before .before .list-tier .result) (pairs-of (d .before)) (a .visits .now) (here .visits)
-    (here .count) (here .openings) (here .k) (here .inv) (d .second-at .result) _ _ _ _ x
-    (rw (c .before .before .before .put-interview .ensures, o) r)
+    (here .count) (here .openings) (here .fares) (here .k) (here .inv) (d .second-at .result) _ _ _ _ _ x
+    (rw (c .before .before .before .before .put-interview .ensures, o) r)
 
 same-length-2 : tie.Need-same-length-2 Inv-loop μ-loop
 same-length-2 c =
@@ -316,7 +340,7 @@ same-length-2 c =
     let start = c .before .before .before .before .before .before .before .before .before .before .before in
     let a = start .args in
     round-length (marketIn (a .case .now)) (resultsIn (a .book .now)) (a .seats .now) (a .s) (a .tier) (a .set) (a .held) (a .visits .now)
-    (here .visits) (here .count) (here .openings) (here .inv .done) (a .workshops) (here .inv .so) (start .pre .1 .1 .1) (here .inv .within)
+    (here .visits) (here .count) (here .openings) (here .fares) (here .inv .done) (a .workshops) (here .inv .so) (start .pre .1 .1 .1) (here .inv .within)
 
 returns-2 : tie.Need-returns-2 Inv-loop μ-loop
 returns-2 c =
@@ -324,10 +348,10 @@ returns-2 c =
     let l = c .before .before .before .list-tier in
     let a = c .before .before .before .before .before .before .before .before .before .before .before .args in
     let g = going-end (a .case .now) (resultsIn (a .book .now)) (a .seats .now) (a .s) (a .tier) (a .set) (a .held) (a .workshops) (l .result)
-    (l .last .1 .1 .1 .1 .0) (a .visits .now) (here .visits) (here .count) (here .openings) (here .k) (here .inv)
+    (l .last .1 .1 .1 .1 .0) (a .visits .now) (here .visits) (here .count) (here .openings) (here .fares) (here .k) (here .inv)
     (omega arith) in
     let r = round-end (marketIn (a .case .now)) (resultsIn (a .book .now)) (a .seats .now) (a .s) (a .tier) (a .set) (a .held) (a .visits .now)
-    (here .visits) (here .count) (here .openings) (a .workshops) (a .workshops) g refl in
+    (here .visits) (here .count) (here .openings) (here .fares) (a .workshops) (a .workshops) g refl in
     (r .0, r .1)
 
 pub hold-round-spec : {M : Type 1} → statement M
@@ -359,6 +383,9 @@ hold-round-spec =
     cast-put-interview-2
     put-interview-requires
     opened-requires
+    fare-of-requires
+    cast-fares
+    add-fares
     add-count
     add-k-2
     loop-less-2

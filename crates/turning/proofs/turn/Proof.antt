@@ -84,7 +84,7 @@ open-tier-requires c κs =
     let n = and-right (eqb (c .before .before .before .count .result) 0) _ (c .before .before .if1 .taken) in (
       start .pre .0,
       (
-        (omega arith, omega (arith, start .pre .0, r), may-open r (t .result) (t .ensures) (o .result) (o .ensures) (omega arith) n),
+        (omega arith, omega (arith, start .pre .0, r), may-open r (t .result) (t .ensures) (o .result) (o .ensures) (omega arith) n, r .paid),
         (seats-at (start .pre .0) (a .seats .now) (ready-seats r), room-to r (t .result) (t .ensures) (a .workshops) (start .pre .0 .workshops)),
       ),
     )

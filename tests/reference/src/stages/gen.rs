@@ -143,10 +143,12 @@ fn of_rows(rng: &mut Rng, students: usize, numbers: &[u16], rows: &[Workplace]) 
                 workshop,
                 student_group: rng.range(1, usize::from(MAX_STUDENT_GROUP)) as u16,
                 workshop_group,
+                fare: 0,
             });
         }
     }
     case.pairs.sort_by_key(|pair| (pair.student, pair.workshop));
+    gen::draw_fares(rng, &mut case);
     case
 }
 
@@ -311,13 +313,14 @@ pub fn large(rng: &mut Rng, random: usize) -> Vec<Case> {
     cases
 }
 
-/// Other stages and other lots in the case, anywhere in their range.
-pub fn other_stages_and_lots(rng: &mut Rng, case: &Case) -> Case {
+/// Other stages, lots and fares in the case, anywhere in their range.
+pub fn other_unused(rng: &mut Rng, case: &Case) -> Case {
     let mut other = case.clone();
     for student in &mut other.students {
         student.stage = rng.range(1, usize::from(MAX_STAGE)) as u16;
     }
     gen::draw_lots(rng, &mut other);
+    gen::draw_fares(rng, &mut other);
     other
 }
 
@@ -381,7 +384,11 @@ pub fn with_cause(rng: &mut Rng, case: &Case, cause: u16) -> Vec<u8> {
                 0 => bytes[at] = rng.pick(&[0, 4, 255]),
                 1 => bytes[at + 1] = 1,
                 _ => {
-                    let first = if bytes[at] == 2 { 8 } else { 10 };
+                    let first = match bytes[at] {
+                        1 => 10,
+                        2 => 8,
+                        _ => 12,
+                    };
                     bytes[at + rng.range(first, 15)] = rng.pick(&[1, 128]);
                 }
             }

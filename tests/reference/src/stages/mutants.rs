@@ -3,7 +3,7 @@
 use super::{answer, least, least_along, rows_of_groups, rows_where, Answer, Request, NO_STAGES};
 use crate::literal;
 use crate::model::*;
-use crate::mutants::{earlier_lot, lots_before, number_lots, SLIPS_OF_LOTS};
+use crate::mutants::{earlier_lot, lots_before, number_lots, SLIPS_OF_FARES, SLIPS_OF_LOTS};
 
 pub struct Mutant {
     pub name: &'static str,
@@ -25,7 +25,7 @@ pub fn all() -> Vec<Mutant> {
     let mut mutants = slips_of_counting();
     mutants.extend(slips_of_numbers());
     mutants.extend(slips_of_refusal());
-    mutants.extend(slips_of_lots());
+    mutants.extend(slips_of_lots_and_fares());
     mutants
 }
 
@@ -289,8 +289,9 @@ fn slips_of_refusal() -> Vec<Mutant> {
     ]
 }
 
-fn slips_of_lots() -> Vec<Mutant> {
-    let misread = SLIPS_OF_LOTS.iter().map(|&(name, change)| {
+fn slips_of_lots_and_fares() -> Vec<Mutant> {
+    let slips = SLIPS_OF_LOTS.iter().chain(&SLIPS_OF_FARES);
+    let misread = slips.map(|&(name, change)| {
         mutant(name, move |request| {
             let mut request = request.clone();
             change(&mut request.case);

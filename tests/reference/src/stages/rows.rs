@@ -30,6 +30,7 @@ fn case(students: usize, workshops: &[(u16, u16)], pairs: &[(u16, u16, u16)]) ->
                 workshop,
                 student_group: 1,
                 workshop_group,
+                fare: 0,
             })
             .collect(),
     }
@@ -212,6 +213,14 @@ pub fn rows() -> Vec<HandRow> {
         bytes[3 * 16 + 9] = 1
     });
     changed("2: byte 10 of a student", 2, 1, |bytes| bytes[16 + 10] = 1);
+    changed("2: byte 11 of a workshop", 2, 2, |bytes| {
+        bytes[2 * 16 + 11] = 1
+    });
+    changed("2: byte 12 of a pair", 2, 5, |bytes| bytes[5 * 16 + 12] = 1);
+    changed("2: byte 15 of a pair, a fare before it", 2, 7, |bytes| {
+        bytes[4 * 16 + 10] = 1;
+        bytes[7 * 16 + 15] = 1;
+    });
     changed("3 before 13", 3, 3, |bytes| {
         bytes[8] = 0;
         bytes[3 * 16 + 2] = 1;
@@ -240,6 +249,11 @@ pub fn rows() -> Vec<HandRow> {
         rows.push(stages(name, &case, &[1, 2, 2]));
     }
     rows.extend(of_lots(&k));
+    for (name, fare) in [("K with fares of 1", 1), ("K with fares of 65,280", 65_280)] {
+        let mut case = k.clone();
+        case.pairs.iter_mut().for_each(|pair| pair.fare = fare);
+        rows.push(stages(name, &case, &[1, 2, 2]));
+    }
     for (name, stage) in [("K with stage 0", 0), ("K with stage 513", 513)] {
         let mut case = k.clone();
         case.students[2].stage = stage;

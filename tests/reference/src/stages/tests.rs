@@ -7,9 +7,9 @@ use super::mutants::{self, Mutant};
 use super::rows::{self, HandRow};
 use super::{answer, brute, gen, Answer, Request, NO_STAGES};
 use crate::gen::{self as engine_gen, Rng};
-use crate::lots::Faults;
 use crate::model::*;
 use crate::tally::Tally;
+use crate::{fares, lots};
 
 /// Compares the fast one, and the real part if it is linked, with the plain one.
 pub struct Comparison {
@@ -49,7 +49,7 @@ impl Comparison {
         }
     }
 
-    /// A good case with buffers of several lengths and with other stages and lots in it.
+    /// A good case with buffers of several lengths and with other stages, lots and fares in it.
     fn check_case(&mut self, tally: &mut Tally, case: &Case, rng: &mut Rng) -> Option<Vec<u16>> {
         let mut request = Request::of(case);
         let n = request.room;
@@ -60,7 +60,7 @@ impl Comparison {
         tally.check(short == with_room.is_refused(6), || {
             format!("room {}: {with_room:?}", request.room)
         });
-        let other = Request::of(&gen::other_stages_and_lots(rng, case));
+        let other = Request::of(&gen::other_unused(rng, case));
         self.compare(tally, &other, &expected);
         match expected {
             Answer::Stages(stages) => Some(stages),
@@ -180,20 +180,24 @@ pub fn damaged_cases(tally: &mut Tally, mut rng: Rng, own: Rng, count: usize) {
     let mut comparison = Comparison::new(own);
     let mut seen = [0; 14];
     let mut later_record = [false; 14];
-    let mut faults = Faults::default();
+    let mut of_lots = lots::Faults::default();
+    let mut of_fares = fares::Faults::default();
     for _ in 0..count {
         let request = gen::damaged(&mut rng);
         let (number, place) = match comparison.check(tally, &request) {
             Answer::Refused { number, place } => (usize::from(number), place),
             Answer::Stages(_) => (0, 0),
         };
-        if number == 13 {
-            faults.count(&request.case, place);
+        match number {
+            2 => of_fares.count(&request.case, place),
+            13 => of_lots.count(&request.case, place),
+            _ => (),
         }
         seen[number] += 1;
         later_record[number] |= place > 0;
     }
-    faults.check(tally);
+    of_lots.check(tally);
+    of_fares.check(tally);
     tally.note(&format!(
         "good cases {}, refusals 1 to 6 {:?}, 12 and 13 {:?}",
         seen[0],
