@@ -1,22 +1,25 @@
 -- Example K has agreeing stages, and a finished run that lists more than the placed pairs: demand 3 speaks of it, and is no matter of course.
 -- The stages agree by a test over the pairs of its records, and the test is computed.
-use Prim.Native.Nat.{ℕ, _<_}
-use mathlib.Core.Path.{_≡_, refl, ap}
+use Prim.Native.Nat.{ℕ, _≤_, _<_}
+use mathlib.Core.Path.{_≡_, refl, sym, ap, _∙_}
 use mathlib.Core.Logic.{inr, ⊎-elim}
 use mathlib.Core.Bool.{Bool, true, false, not, _&&_, _||_}
 use mathlib.Core.List.{List, [], _∷_, flatMap}
 use native.Mathlib.Omega.{arith}
 use lib.Dec.{eqb, ltb}
-use borrow.Author.Tests.{lt-ltb, le-ltb, eq-eqb, ne-eqb}
+use lib.ListN.{length, getD, List·getD-eq-default}
+use borrow.Author.Tests.{lt-ltb, le-ltb, eqb-true, eq-eqb, ne-eqb, not-false}
 use Rattle.base.specs.Lists.{any, tabulate, tally, find}
 use Rattle.base.specs.Words.{word, signed}
+use Rattle.base.specs.Below.{anyBelow}
+use Rattle.base.proofs.Below.{any-fails}
 use Rattle.base.proofs.Tests.{bool-cases, never, or-false, or-left, or-right, and-make, less?, eq?}
 use Rattle.lgs.specs.Market.{Market, ConsistentStages, Rivals, workshopOutside}
 use Rattle.lgs.specs.Rule.{interviewed}
 use Rattle.lgs.specs.Promises.{matchingOf}
 use Rattle.format.specs.Layout.{Row, isPair, ofKind, rowAt, rows, marketOf, entryAt, entries, resultsOf}
 use Rattle.format.specs.Engine.{placed, engine}
-use Rattle.format.specs.Promises.{Example, Preferred}
+use Rattle.format.specs.Promises.{Example, Preferred, OtherFares, ofFare}
 use Rattle.format.specs.Encoding.{words, rowBytes, caseBytes}
 use Rattle.format.specs.Table.{caseOf, studentsK, workshopsK, pairsK, caseWith, K, bookK, visitsK, answerK, neverK, answerNeverK, exact}
 use Rattle.format.specs.Table.{bookOf, bookWith, tiedK, answerTiedK, faresK, tensK, answerPaidK, TablesHold}
@@ -151,6 +154,30 @@ unfolding marketOf resultsOf rows rowAt entries entryAt word signed any find tal
 preferred-k =
     record { pair = refl; pair′ = refl; met = refl; met′ = refl; tier = refl; above = inr (refl, omega arith) }
 
+-- K with fares is K but for these: no other byte differs
+differs : ℕ → Bool
+differs k = not (ofFare K k) && not (eqb (getD tensK k 0) (getD K k 0))
+
+none-differs : anyBelow differs 176 ≡ false
+unfolding anyBelow differs K tensK faresK caseWith caseOf flatMap caseBytes rowBytes words studentsK workshopsK pairsK
+none-differs = refl
+
+both-long : (length K ≡ 176) × (length tensK ≡ 176)
+unfolding K tensK faresK caseWith caseOf flatMap caseBytes rowBytes words studentsK workshopsK pairsK
+both-long = (refl, refl)
+
+other-k : OtherFares K tensK
+unfolding differs
+other-k =
+    record {
+      long = both-long .1 ∙ sym (both-long .0);
+      bytes = λ k e.
+          ⊎-elim
+          (λ (l : k < 176). eqb-true _ _ (not-false (eqb (getD tensK k 0) (getD K k 0)) (rw e at (any-fails differs 176 none-differs k l))))
+          (λ (l : 176 ≤ k). List·getD-eq-default tensK 0 (omega (arith, both-long .1)) ∙ sym (List·getD-eq-default K 0 (omega (arith, both-long .0))))
+          (less? k 176);
+    }
+
 -- ---- the tables of proved cases
 pub tables-hold : TablesHold
 tables-hold =
@@ -160,5 +187,6 @@ tables-hold =
       agreeingNever = example-never-k;
       agreeingLots = example-tied-k;
       agreeingFares = example-fares-k;
+      otherwisePaid = other-k;
       parted = preferred-k;
     }

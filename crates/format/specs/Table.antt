@@ -13,7 +13,7 @@ use Rattle.format.specs.Refusals.{Room, badCounts}
 use Rattle.format.specs.Engine.{placed, next, refused, engine, Outcome}
 use Rattle.format.specs.Buffers.{placesAfter, visitsAfter, scratchAfter, values}
 use Rattle.format.specs.Printed.{ascii, printed, unread}
-use Rattle.format.specs.Promises.{Example, Preferred}
+use Rattle.format.specs.Promises.{Example, Preferred, OtherFares}
 use Rattle.format.specs.Stages.{StagesOutcome, staged, unstaged, workOut, stagesAfter, stagesValues, restaged}
 
 -- ---- bytes from fields
@@ -659,11 +659,13 @@ pub record Computed : Type 0 where
   pub stages : stagesGiven stagesTable ≡ stagesExpected stagesTable
   pub stagesBuffers : stagesLeft ≡ stagesLeftExpected
 
--- and K is a run with agreeing stages, also where two of the listed visits ended in never, where a lot decides (workshop 2 has 2 before 3), and with fares
+-- and K is a run with agreeing stages, also where two of the listed visits ended in never, where a lot decides (workshop 2 has 2 before 3), and with fares, which
+-- are all that K has not
 pub record TablesHold : Type 0 where
   pub computed : Computed
   pub agreeing : Example K bookK exact
   pub agreeingNever : Example K neverK exact
   pub agreeingLots : Example K tiedK exact
   pub agreeingFares : Example tensK bookK exact
+  pub otherwisePaid : OtherFares K tensK
   pub parted : Preferred K tiedK 2 2 3

@@ -61,7 +61,7 @@ module _ (M : Market) (B : Results) where
       → ((s w : ℕ) → interviewed vs s w ≡ true → Vs s w ≡ true) × (length vs ≤ pairsIn M Vs)
 
   -- "Nobody who is sure, and has visited all placed pairs, pays less" (document 02, Paper 4): every such set, with results from any full order that fits the
-  -- groups and the book, costs at least these fares. (That it can cost no more is `paid` with `itself`.)
+  -- groups and the book, costs at least these fares. Our list is such a set, and costs just these (`itself`, `paid`).
   abbrev pub Cheapest : List ℕ → ℕ → Type 0
   Cheapest places fares =
       (O : Profile)
