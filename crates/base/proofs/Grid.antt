@@ -113,6 +113,11 @@ total-at f (suc n) a l u =
     others b zero less = refl
     others b (suc k) less = rw (ne-eqb b (suc k) (λ e. omega arith)) (omega (arith, others b k (omega arith)))
 
+-- of two tests at most one passes
+pub cond-either : (a b : Bool) (k : ℕ) → (a ≡ true → b ≡ false) → cond (a || b) k 0 ≡ cond a k 0 + cond b k 0
+cond-either true b k h = rw (h refl) (omega arith)
+cond-either false b k h = omega arith
+
 module _ (n m : ℕ) (f : ℕ → ℕ → ℕ) where
   -- f added over the pairs of the set
   abbrev pub over : (ℕ → ℕ → Bool) → ℕ
@@ -139,15 +144,11 @@ module _ (n m : ℕ) (f : ℕ → ℕ → ℕ) where
             omega (
               arith,
               total-same (λ w. cond (U s w || W s w) (f s w) 0) (λ w. cond (U s w) (f s w) 0 + cond (W s w) (f s w) 0) m
-                  (λ w. each (U s w) (W s w) (f s w) (apart s w)),
+                  (λ w. cond-either (U s w) (W s w) (f s w) (apart s w)),
               total-both (λ w. cond (U s w) (f s w) 0) (λ w. cond (W s w) (f s w) 0) m,
             )),
         total-both (λ s. total (λ w. cond (U s w) (f s w) 0) m) (λ s. total (λ w. cond (W s w) (f s w) 0) m) n,
       )
-    where
-      each : (a b : Bool) (k : ℕ) → (a ≡ true → b ≡ false) → cond (a || b) k 0 ≡ cond a k 0 + cond b k 0
-      each true b k h = rw (h refl) (omega arith)
-      each false b k h = omega arith
 
   -- the set without pairs, and that of one pair
   pub over-none : over (λ s w. false) ≡ 0

@@ -13,11 +13,14 @@ use Rattle.base.specs.Words.{word}
 use Rattle.base.proofs.Tests.{bool-cases, and-left, and-right, and-make, is-false}
 use Rattle.base.proofs.Counting.{count-le, total-within}
 use Rattle.base.proofs.Below.{find-none}
-use Rattle.base.proofs.Sums.{sum-zero, sum-both, sum-within, sum-only}
+use Rattle.base.proofs.Grid.{cond-either}
+use Rattle.base.proofs.Sums.{sum-zero, sum-both, sum-only}
 use Rattle.lgs.specs.Market.{Market}
 use Rattle.lgs.specs.Rule.{Interview, interviewed}
 use Rattle.lgs.specs.Fares.{faresOf}
 use Rattle.lgs.specs.Promises.{NoRepeats, Listed, pairsIn}
+use Rattle.lgs.proofs.Fares.{fares-within}
+use Rattle.lgs.proofs.Once.{interviewed-head, interviewed-later, head-apart}
 use Rattle.lgs.proofs.Promises.{listed-length}
 use Rattle.format.specs.Layout.{Row, rowAt, rowCount, rows, noRow, ofKind, isPair, marketOf}
 use Rattle.format.specs.Refusals.{Room, badCounts}
@@ -72,23 +75,16 @@ module _ (case : List ℕ) (c : Clean case (rowCount case)) where
   listed-read (v ∷ vs) d pair =
       omega (
         arith,
-        listed-read vs (d .1) (λ s w e. pair s w (later s w (eqb (v .0) s && eqb (v .1) w) e)),
-        one-read (v .0) (v .1) (pair (v .0) (v .1) (rw (eq-eqb (v .0) (v .0) refl, eq-eqb (v .1) (v .1) refl))),
+        listed-read vs (d .1) (λ s w e. pair s w (interviewed-later v vs s w e)),
+        one-read (v .0) (v .1) (pair (v .0) (v .1) (interviewed-head v vs)),
         sum-both (fareIf (λ s w. (eqb (v .0) s && eqb (v .1) w) || interviewed vs s w)) (fareIf (λ s w. eqb (v .0) s && eqb (v .1) w))
-            (fareIf (interviewed vs)) (λ r. each (ofKind 3 r) (eqb (v .0) (r .first) && eqb (v .1) (r .second)) _ (r .fifth) (apart (r .first) (r .second)))
+            (fareIf (interviewed vs))
+            (λ r. each (ofKind 3 r) (eqb (v .0) (r .first) && eqb (v .1) (r .second)) _ (r .fifth) (head-apart v vs d (r .first) (r .second)))
             (rows case),
       )
     where
-      later : (s w : ℕ) (a : Bool) → interviewed vs s w ≡ true → (a || interviewed vs s w) ≡ true
-      later s w true e = refl
-      later s w false e = e
-
-      apart : (s w : ℕ) → (eqb (v .0) s && eqb (v .1) w) ≡ true → interviewed vs s w ≡ false
-      apart s w q = rw (← eqb-true (v .0) s (and-left (eqb (v .0) s) _ q), ← eqb-true (v .1) w (and-right (eqb (v .0) s) _ q)) (d .0)
-
       each : (k a b : Bool) (x : ℕ) → (a ≡ true → b ≡ false) → cond (k && (a || b)) x 0 ≡ cond (k && a) x 0 + cond (k && b) x 0
-      each true true b x h = rw (h refl) (omega arith)
-      each true false b x h = omega arith
+      each true a b x h = cond-either a b x h
       each false a b x h = refl
 
 -- ---- how many pairs there can be
@@ -120,11 +116,10 @@ module _ (case book : List ℕ) (room : Room) where
     total-read = listed-read case (clean case book (passed case book room valid)) vs (L .once) (L .pair)
 
     total-fits : ((k : ℕ) → getD case k 0 < 256) → faresOf (marketIn case) vs ≤ 32768 * 65535
-    unfolding faresOf
     total-fits bytes =
         omega (
           arith,
-          sum-within (λ (v : Interview). marketIn case .fare (v .0) (v .1)) 65535 (λ v. fare-small case bytes (v .0) (v .1)) vs,
+          fares-within (marketIn case) (fare-small case bytes) vs,
           listed-length (marketIn case) (wf case book room valid) (resultsIn book) vs L,
           pairs-few (marketIn case) (counts .0 .1) (counts .1 .1),
         )

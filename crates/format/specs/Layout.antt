@@ -56,8 +56,8 @@ noRow =
 abbrev pub ofKind : ℕ → Row → Bool
 ofKind k r = eqb (r .kind) k
 
--- "bytes not named are zero": byte 1 and the fields that a record of its kind does not name. Of a pair's fare "number 2 no longer tests them" (document 02,
--- Paper 4), nor of a student's lot (Paper 3).
+-- "bytes not named are zero": byte 1 and the fields that a record of its kind does not name. "Number 2 no longer tests" a
+-- student's lot nor a pair's fare (document 02, Papers 3 and 4).
 unfoldable pub unnamed : Row → List ℕ
 unnamed r =
     cond (ofKind 2 r)

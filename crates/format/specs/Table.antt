@@ -659,8 +659,8 @@ pub record Computed : Type 0 where
   pub stages : stagesGiven stagesTable ≡ stagesExpected stagesTable
   pub stagesBuffers : stagesLeft ≡ stagesLeftExpected
 
--- and K is a run with agreeing stages, also where two of the listed visits ended in never, where a lot decides (workshop 2 has 2 before 3), and with fares, which
--- are all that K has not
+-- and K is a run with agreeing stages, also where two of the listed visits ended in never, where a lot decides (workshop 2 has 2 before 3), and with fares;
+-- K with fares differs from K in nothing else
 pub record TablesHold : Type 0 where
   pub computed : Computed
   pub agreeing : Example K bookK exact

@@ -17,6 +17,7 @@ pub mod Keeps
 pub mod Finished
 pub mod Needed
 pub mod Minimal
+pub mod Fares
 pub mod Once
 pub mod Stopped
 pub mod Exists

@@ -32,13 +32,17 @@ pub interviews-distinct : (s : ℕ) (ws : List ℕ) → NoDup ws → NoRepeats (
 interviews-distinct s [] d = tt
 interviews-distinct s (w ∷ ws) d = (is-false _ (λ e. d .0 (interviewed-of s ws s w e .1)), interviews-distinct s ws (d .1))
 
-interviewed-head : (v : Interview) (vs : List Interview) → interviewed (v ∷ vs) (v .0) (v .1) ≡ true
+pub interviewed-head : (v : Interview) (vs : List Interview) → interviewed (v ∷ vs) (v .0) (v .1) ≡ true
 unfolding interviewed any
 interviewed-head v vs = or-left (eqb (v .0) (v .0) && eqb (v .1) (v .1)) _ (and-make (eq-eqb (v .0) (v .0) refl) (eq-eqb (v .1) (v .1) refl))
 
-interviewed-later : (v : Interview) (vs : List Interview) (s w : ℕ) → interviewed vs s w ≡ true → interviewed (v ∷ vs) s w ≡ true
+pub interviewed-later : (v : Interview) (vs : List Interview) (s w : ℕ) → interviewed vs s w ≡ true → interviewed (v ∷ vs) s w ≡ true
 unfolding interviewed any
 interviewed-later v vs s w e = or-right (eqb (v .0) s && eqb (v .1) w) _ e
+
+-- the first interview is none of the others
+pub head-apart : (v : Interview) (vs : List Interview) → NoRepeats (v ∷ vs) → (s w : ℕ) → (eqb (v .0) s && eqb (v .1) w) ≡ true → interviewed vs s w ≡ false
+head-apart v vs d s w q = rw (← eqb-true (v .0) s (and-left (eqb (v .0) s) _ q), ← eqb-true (v .1) w (and-right (eqb (v .0) s) _ q)) (d .0)
 
 pub append-distinct : (vs us : List Interview) → NoRepeats vs → NoRepeats us
     → ((s w : ℕ) → interviewed vs s w ≡ true → interviewed us s w ≡ true → ⊥) → NoRepeats (vs ++ us)
@@ -78,13 +82,10 @@ list-over n m f (v ∷ vs) d inside =
     let r : ((1 ≤ v .0) × (v .0 ≤ n)) × ((1 ≤ v .1) × (v .1 ≤ m)) = inside (v .0) (v .1) (interviewed-head v vs) in
     omega (
       arith,
-      over-either n m f (λ s w. eqb (v .0) s && eqb (v .1) w) (interviewed vs) (λ s w q. same s w q),
+      over-either n m f (λ s w. eqb (v .0) s && eqb (v .1) w) (interviewed vs) (head-apart v vs d),
       over-one n m f (v .0) (v .1) (r .0 .0) (r .0 .1) (r .1 .0) (r .1 .1),
       list-over n m f vs (d .1) (λ s w e. inside s w (interviewed-later v vs s w e)),
     )
-  where
-    same : (s w : ℕ) → (eqb (v .0) s && eqb (v .1) w) ≡ true → interviewed vs s w ≡ false
-    same s w q = rw (← eqb-true (v .0) s (and-left (eqb (v .0) s) _ q), ← eqb-true (v .1) w (and-right (eqb (v .0) s) _ q)) (d .0)
 
 one-each : (vs : List Interview) → cost (λ s w. 1) vs ≡ length vs
 unfolding sumOf

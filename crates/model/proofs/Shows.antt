@@ -8,7 +8,7 @@ use native.Mathlib.Omega.{arith}
 use lib.Dec.{eqb}
 use lib.ListN.{length, getD, take, drop, replicate, length-append, length-drop, length-replicate, getD-replicate}
 use lib.Seq.{take-at, drop-append-add, drop-drop}
-use Rattle.base.specs.Lists.{count, upto, keep, sumOf}
+use Rattle.base.specs.Lists.{count, upto, keep}
 use Rattle.base.specs.Bits.{member}
 use Rattle.lgs.specs.Market.{Market, Results, seatsOf, allSeats}
 use Rattle.lgs.specs.Rule.{Interview}
@@ -23,7 +23,7 @@ use Rattle.model.specs.Turn.{toldState, putAt, dueAt, beginRun}
 use Rattle.api.specs.Answered.{zeroState}
 use Rattle.model.specs.Ready.{Booked, InOrder, Ready}
 use Rattle.base.proofs.Digits.{keep-same, keep-count, bit-zero}
-use Rattle.base.proofs.Sums.{sum-within}
+use Rattle.lgs.proofs.Fares.{fares-none, fares-within}
 use Rattle.model.proofs.Seats.{seat-in}
 use Rattle.model.proofs.Loop.{Safe}
 use Rattle.model.proofs.Stages.{Waits, over, holds, waits-first}
@@ -110,7 +110,7 @@ module _ (M : Market) (B : Results) (old : List ℕ) where
   beginning n k = record { visits = old; seats = zeros n; states = replicate k zeroState; run = beginRun M B }
 
   pub shows-begin : (n k : ℕ) → allSeats M ≤ n → M .students ≤ k → Shows M old (begin M B) (beginning n k)
-  unfolding begin beginRun flat faresOf sumOf
+  unfolding begin beginRun flat
   shows-begin n k seats states =
       record {
         stored = stored-none M n seats;
@@ -119,7 +119,7 @@ module _ (M : Market) (B : Results) (old : List ℕ) where
         small = λ s l u. rw (at s l u) (omega arith);
         visits = refl;
         count = refl;
-        fares = refl;
+        fares = sym (fares-none M);
         waits = waits-first (M .stage) (M .students);
         lost = refl;
         dropper = omega arith;
@@ -158,7 +158,6 @@ module _ (M : Market) (B : Results) (old : List ℕ) where
       -- all that the code of a turn needs
       pub shows-ready : 2 * pairsIn M (M .paired) ≤ length old → Payable M
           → Ready M B (x .visits) (x .seats) (stateAt (x .states) (x .run .hand)) (x .run)
-      unfolding faresOf
       shows-ready room P =
           record {
             hand = in-range;
@@ -174,7 +173,7 @@ module _ (M : Market) (B : Results) (old : List ℕ) where
             paid = omega (
               arith,
               W .fares,
-              sum-within (λ (v : Interview). M .fare (v .0) (v .1)) 65535 (λ v. P .small (v .0) (v .1)) (m .interviews),
+              fares-within M (P .small) (m .interviews),
               S .room (x .run .hand) rest wait,
               P .few,
             );

@@ -15,7 +15,7 @@ use borrow.Author.Tests.{eqb-true, eqb-false, eq-eqb, ne-eqb, not-true}
 use Rattle.base.specs.Lists.{upto, keep, update, consIf}
 use Rattle.base.specs.Bits.{member, members}
 use Rattle.lgs.specs.Market.{Market, Results, studentOutside, seatsOf}
-use Rattle.lgs.specs.Rule.{Interview, best}
+use Rattle.lgs.specs.Rule.{best}
 use Rattle.lgs.specs.Fares.{faresOf}
 use Rattle.format.specs.Buffers.{flat, withHead}
 use Rattle.api.specs.declared.StudentState.{StudentState}
@@ -24,7 +24,7 @@ use Rattle.model.specs.Store.{part, putPart, pushPadded}
 use Rattle.model.specs.Turn.{Left, putAt, toldState, RoundSoFar, roundTo, favouriteIn, afterRound, afterSeating, openTier, applyTo, turnOf}
 use Rattle.api.specs.Answered.{zeroState}
 use Rattle.base.proofs.Tests.{is-false, and-left, and-right, eq?}
-use Rattle.base.proofs.Sums.{sum-append}
+use Rattle.lgs.proofs.Fares.{fares-append}
 use Rattle.base.proofs.Members.{consIf-in, in-front, keep-in, update-at, update-off}
 use Rattle.model.proofs.Seats.{push-fits}
 use Rattle.model.proofs.Tied.{top-pick}
@@ -182,8 +182,7 @@ module _ (M : Market) (B : Results) (old : List ℕ) (fits : M .workshops ≤ 64
   more-count = omega (arith, W .count, length-append (m .interviews) (o .interviews))
 
   more-fares : x .run .fares + faresOf M (o .interviews) ≡ faresOf M (m .interviews ++ o .interviews)
-  unfolding faresOf
-  more-fares = omega (arith, W .fares, sum-append (λ (v : Interview). M .fare (v .0) (v .1)) (m .interviews) (o .interviews))
+  more-fares = omega (arith, W .fares, fares-append M (m .interviews) (o .interviews))
 
   by-missing : (b : Bool) → eqb (o .missing) 0 ≡ b
       → Follows M old (after (openTier M B (x .visits) (x .seats) state (x .run)))

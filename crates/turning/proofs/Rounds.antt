@@ -8,10 +8,10 @@ use native.Mathlib.Omega.{arith}
 use lib.Dec.{eqb}
 use lib.ListN.{length, length-append}
 use borrow.Author.Tests.{eq-eqb, ne-eqb}
-use Rattle.base.specs.Lists.{one, count, sumOf}
+use Rattle.base.specs.Lists.{one, count}
 use Rattle.base.proofs.Tests.{bool-cases, less?}
 use Rattle.base.proofs.Counting.{count-le}
-use Rattle.base.proofs.Sums.{sum-append, sum-within}
+use Rattle.lgs.proofs.Fares.{fares-none, fares-more, fares-within}
 use Rattle.lgs.specs.Market.{Market, Results}
 use Rattle.lgs.specs.Rule.{Interview, unopened}
 use Rattle.lgs.specs.Fares.{faresOf}
@@ -62,12 +62,11 @@ module _ (M : Market) (B : Results) (seats : List ℕ) (s t set : ℕ) where
   few (suc k) = omega (arith, step-length k, few k)
 
   -- with fares of 16 bits, those of 64 workshops at most cost so much at most
-  pub round-cheap : ((v : Interview) → M .fare (v .0) (v .1) ≤ 65535) → (k : ℕ) → k ≤ 64 → faresOf M (soFar k .interviews) ≤ 64 * 65535
-  unfolding faresOf
+  pub round-cheap : ((s w : ℕ) → M .fare s w ≤ 65535) → (k : ℕ) → k ≤ 64 → faresOf M (soFar k .interviews) ≤ 64 * 65535
   round-cheap small k l =
       omega (
         arith,
-        sum-within (λ (v : Interview). M .fare (v .0) (v .1)) 65535 small (soFar k .interviews),
+        fares-within M small (soFar k .interviews),
         few k,
         count-le (dueAt M B seats s t) k,
       )
@@ -114,8 +113,8 @@ Answers M r visits held o old = (r ≡ roundOf M held o) × (visits ≡ putAt (2
 
 module _ (M : Market) (B : Results) (seats : List ℕ) (s t set held : ℕ) (old : List ℕ) where
   pub round-start : Rounding M B seats s t set held old old held set 0 0
-  unfolding roundTo flat faresOf sumOf
-  round-start = record { all = omega arith; sets = refl; paid = refl; on = refl; written = sym (put-none old (2 * held)) }
+  unfolding roundTo flat
+  round-start = record { all = omega arith; sets = refl; paid = sym (fares-none M); on = refl; written = sym (put-none old (2 * held)) }
 
   module _ (visits : List ℕ) (total openings fares k n : ℕ) (r : Rounding M B seats s t set held old visits total openings fares k) where
     -- the round is over
@@ -161,7 +160,6 @@ module _ (M : Market) (B : Results) (seats : List ℕ) (s t set held : ℕ) (old
           pub round-held : B .met s w ≡ true → (fare : ℕ) → fare ≡ M .fare s w
               → Rounding M B seats s t set held old (putAt (2 * total) (s ∷ w ∷ []) visits) (total + 1)
               (cond (unopened M B s w) openings (withMember openings w)) (fares + fare) w
-          unfolding faresOf sumOf
           round-held m fare f =
               let vs : List Interview = roundTo M B seats s t set k .interviews in
               let q : roundTo M B seats s t set w
@@ -174,7 +172,7 @@ module _ (M : Market) (B : Results) (seats : List ℕ) (s t set held : ℕ) (old
               record {
                 all = rw q (omega (arith, r .all, length-append vs ((s, w) ∷ [])));
                 sets = rw (q, r .sets);
-                paid = rw q (omega (arith, f, r .paid, sum-append (λ (v : Interview). M .fare (v .0) (v .1)) vs ((s, w) ∷ [])));
+                paid = rw q (omega (arith, f, r .paid, fares-more M vs s w));
                 on = rw q;
                 written = rw q more;
               }

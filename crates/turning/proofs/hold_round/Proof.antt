@@ -291,7 +291,7 @@ add-fares c =
       arith,
       here .inv .so .paid,
       round-cheap (marketIn (a .case .now)) (resultsIn (a .book .now)) (a .seats .now) (a .s) (a .tier) (a .set)
-          (λ v. entry d .pre .0 .fare (v .0) (v .1)) (here .inv .done) (omega (arith, here .inv .within, entry d .pre .0 .manyWorkshops)),
+          (entry d .pre .0 .fare) (here .inv .done) (omega (arith, here .inv .within, entry d .pre .0 .manyWorkshops)),
     )
 
 add-count : tie.Need-add-count Inv-loop μ-loop

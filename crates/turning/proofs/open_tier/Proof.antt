@@ -32,7 +32,7 @@ after-round-requires c κs =
       start .pre .1 .0 .3,
       ap (λ (o : Round). o .fares) (c .before .before .hold-round .ensures .0),
       round-cheap (marketIn (a .case .now)) (resultsIn (a .book .now)) (a .seats .now) (a .run .hand) (a .state .reached + 1) (a .state .openings)
-          (λ v. k .fare (v .0) (v .1)) (a .workshops) (k .manyWorkshops),
+          (k .fare) (a .workshops) (k .manyWorkshops),
     )
 
 cast-reached : tie.Need-cast-reached
