@@ -1,3 +1,4 @@
+pub mod Shift
 pub mod Sorted
 pub mod Positions
 pub mod Lots

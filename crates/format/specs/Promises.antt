@@ -10,6 +10,7 @@ use lib.ListN.{length, getD, take}
 use lib.Dec.{eqb}
 use Rattle.base.specs.Lists.{upto, any, sumOf}
 use Rattle.base.specs.Words.{word}
+use Rattle.base.specs.Bits.{bit, shifted}
 use Rattle.lgs.specs.Market.{ConsistentStages}
 use Rattle.lgs.specs.Profiles.{Profile, StrictProfile, RespectsTiers, Fits, StudentOptimal}
 use Rattle.lgs.specs.Rule.{Interview, interviewed, State, below, going, stopped, finished, lazyGaleShapley}
@@ -244,6 +245,16 @@ pub record FaresExactly : Type 0 where
       → untold (engine case′ book room) ≡ untold (engine case book room)
   -- it fits 32 bits
   pub fits : (case book : List ℕ) (room : Room) → Bytes case → faresTold (engine case book room) ≤ 32768 * 65535
+
+-- ---- The number of the book's records (document 02, Paper 5).
+
+-- "the shift is proved to give the length divided by 8, rounded down, for every length": for every number, whatever a slice can have
+pub record ShiftCounts : Type 0 where
+  -- the shift: digit i of what it gives is digit i + 3 of the length, and the lowest three are gone
+  pub digits : (len i : ℕ) → bit (shifted len 3) i ≡ bit len (i + 3)
+  pub quotient : (len : ℕ) → shifted len 3 ≡ len / 8
+  -- "rounded down"
+  pub down : (len : ℕ) → (8 * shifted len 3 ≤ len) × (len < 8 * shifted len 3 + 8)
 
 -- ---- That these say something.
 

@@ -36,7 +36,7 @@ fn check_book(
     ensures { λ _. ⌜ now (index .exit) ≡ indexAfter (bookRefusal (now (case .entry)) (now (book .entry))) (now (case .entry)) (now (book .entry)) (length (now (index .entry))) ⌝ }
 {
     let n = records::entry_count(book.len());
-    if book.len() % 8 != 0 {
+    if book.len() & 7 != 0 {
         return refused(7, 0);
     }
     let from = students + workshops;

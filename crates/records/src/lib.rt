@@ -6,6 +6,7 @@ ghost use lib.ListN.{length, replicate};
 ghost use lib.Dec.{ltb, eqb};
 ghost use Rattle.base.specs.Lists.{one};
 ghost use Rattle.base.specs.Words.{word, signed, biased};
+ghost use Rattle.base.specs.Bits.{shifted};
 ghost use Rattle.format.specs.Layout.{rowAt, entryAt, rowCount, entryCount, outsideScore, saysNever};
 ghost use Rattle.format.specs.Refusals.{badScore};
 ghost use Rattle.records.specs.Records.{rowOf, entryOf};
@@ -116,11 +117,11 @@ pub fn row_count(len: usize) -> usize
     len / 16
 }
 
-// How many whole records a book of this length has.
+// How many whole records a book of this length has, by a shift.
 pub fn entry_count(len: usize) -> usize
-    ensures { λ r. ⌜ r ≡ len / 8 ⌝ }
+    ensures { λ r. ⌜ (r ≡ shifted len 3) × (r ≡ len / 8) ⌝ }
 {
-    len / 8
+    len >> 3
 }
 
 // Bytes 2 k and 2 k + 1 of record i of the case.

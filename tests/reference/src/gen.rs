@@ -970,7 +970,8 @@ fn book_equal_mark(rng: &mut Rng, input: &mut Input) {
     }
 }
 
-/// The input cut to every shorter length, and with every byte of every record changed.
+/// The input cut to every shorter length, with up to two records more in the book, byte by byte, and
+/// with every byte of every record changed.
 pub fn sweep(input: &Input) -> Vec<Input> {
     let mut inputs = Vec::new();
     let cut = |length: usize, part: Bytes| {
@@ -980,6 +981,11 @@ pub fn sweep(input: &Input) -> Vec<Input> {
     };
     inputs.extend((0..input.case.len()).map(|length| cut(length, case_part)));
     inputs.extend((0..input.book.len()).map(|length| cut(length, book_part)));
+    inputs.extend((1..=2 * BOOK_RECORD).map(|more| {
+        let mut longer = input.clone();
+        longer.book.resize(input.book.len() + more, 0);
+        longer
+    }));
     for at in 0..input.case.len() {
         change_every_way(&mut inputs, input, at, case_part);
     }

@@ -61,6 +61,7 @@ pub fn controls() -> Vec<Mutant> {
         on_bytes("no slip in the bytes", |_| ()),
         on_total("no slip in the total", |run| run.sum(|_| true)),
         on_fare("no slip in the fares", |pair| pair.fare),
+        on_length("no slip in the length", |length| length),
     ]
 }
 
@@ -69,6 +70,7 @@ pub fn all() -> Vec<Mutant> {
     let mut mutants = rules(|_| true);
     mutants.extend(bad_engines());
     mutants.extend(slips_of_refusal());
+    mutants.extend(slips_of_length());
     mutants.extend(refusals_of_never());
     mutants.extend(refusals_of_lots());
     mutants
@@ -268,6 +270,7 @@ pub fn of_size() -> Vec<Mutant> {
         on_bytes("lots used again by 256 students", |case| {
             mend_repeats(case, |_, at| at >= 256)
         }),
+        on_length("the book's length in 16 bits", |length| length & 0xffff),
     ]
 }
 
@@ -327,6 +330,33 @@ fn slips_of_refusal() -> Vec<Mutant> {
         on_ties("forgets equal marks", |_| None),
         on_ties("equal marks across groups", |given| {
             (given.by_student && given.mark != NEVER).then_some((0, given.mark))
+        }),
+    ]
+}
+
+/// Slips in the number of the book's records.
+fn slips_of_length() -> Vec<Mutant> {
+    vec![
+        on_length("counts half of the book's records", |length| {
+            if length % BOOK_RECORD == 0 {
+                length / (2 * BOOK_RECORD) * BOOK_RECORD
+            } else {
+                length
+            }
+        }),
+        on_length("counts the book's records twice", |length| 2 * length),
+        on_length("counts a part of a record as one", |length| {
+            length.next_multiple_of(BOOK_RECORD)
+        }),
+        on_length("passes over a part of a record", |length| {
+            length - length % BOOK_RECORD
+        }),
+        on_length("passes over half a record", |length| {
+            if length % BOOK_RECORD == BOOK_RECORD / 2 {
+                length - BOOK_RECORD / 2
+            } else {
+                length
+            }
         }),
     ]
 }
@@ -450,6 +480,15 @@ fn on_refused(name: &'static str, change: fn(&Input, u16, usize) -> (u16, usize)
             Answer::Refused { number, place }
         }
         other => other,
+    })
+}
+
+/// The answer if the book were cut to this length, or longer by bytes that are zero.
+fn on_length(name: &'static str, change: fn(usize) -> usize) -> Mutant {
+    mutant(name, move |input| {
+        let mut input = input.clone();
+        input.book.resize(change(input.book.len()), 0);
+        literal::answer(&input)
     })
 }
 

@@ -15,7 +15,7 @@ scan-on-requires c κs =
       prepared = start .pre .0;
       room = start .pre .1 .0;
       scanned = scan-start (start .pre .0 .clean) (start .pre .1 .0) refl (start .pre .1 .1) _ refl
-          (c .before .entry-count .ensures);
+          (c .before .entry-count .ensures .1);
     }
 
 same-length : tie.Need-same-length

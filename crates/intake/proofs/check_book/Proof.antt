@@ -1,9 +1,10 @@
 -- `intake::check_book` meets its contract. Each return by what the causes before it found.
-use Prim.Native.Nat.{_+_, _%_}
+use Prim.Native.Nat.{ℕ, _+_, _%_}
 use mathlib.Core.Path.{_≡_, _∙_, sym, ap}
 use mathlib.Core.Option.{none}
 use native.Mathlib.Omega.{arith}
 use lib.ListN.{length, replicate}
+use lib.Bits.{bitAnd, and-mask}
 use Rattle.base.specs.Search.{firstBad}
 use Rattle.base.proofs.Search.{some-by, none-by}
 use Rattle.format.specs.Layout.{rows, entries, entryCount}
@@ -16,6 +17,10 @@ use Rattle.ties.specs.Ties.{Indexed}
 use borrow.Author.Needs.{needs}
 use Rattle.intake.proofs.check_book.Statement.{statement}
 use Rattle.intake.proofs.check_book.Tie as tie
+
+-- the lowest three binary digits are the remainder by 8
+low-three : (n : ℕ) → bitAnd n 7 ≡ n % 8
+low-three n = and-mask n 3
 
 abbrev entry : tie.Else2 → tie.Start
 entry d = d .before .before .before .before .before .before .before .before .before .before .before
@@ -30,13 +35,17 @@ prepared start =
       from = omega (arith, start .pre .0 .students, start .pre .0 .workshops);
     }
 
+-- the book has whole records
+whole : (d : tie.Else2) → length (entry d .args .book .now) % 8 ≡ 0
+whole d = sym (low-three _) ∙ d .before .before .before .before .before .if1 .left
+
 -- causes 8 to 10 find nothing when the fill goes through
 fine : (d : tie.Else2) → firstBad (badAny (rows (entry d .args .case .now)) (entries (entry d .args .book .now))) (entryCount (entry d .args .book .now)) ≡ none
 fine d =
     let a = entry d .args in
     let fill = d .before .before .before .fill in
     none-by (badAny (rows (a .case .now)) (entries (a .book .now))) (entryCount (a .book .now)) (fill .result) (fill .ensures .0)
-    (omega (arith, d .if2 .left, d .before .before .before .before .before .before .entry-count .ensures))
+    (omega (arith, d .if2 .left, d .before .before .before .before .before .before .entry-count .ensures .1))
 
 -- the index when it is filled
 as-long : (d : tie.Else2) → length (d .before .before .before .fill .last .1 .1 .1 .1 .0) ≡ length (entry d .args .index .now)
@@ -76,7 +85,7 @@ returns c =
     let start = c .before .before .before .before .before .before .before in
     let a = start .args in
     refused-with (a .case .now) (a .book .now) _ 7 0 _ _ _
-    (book-7 (a .case .now) (a .book .now) (whole-some (length (a .book .now) % 8) (c .before .if1 .taken))) (c .refused .ensures) (start .pre .1 .1 .2)
+    (book-7 (a .case .now) (a .book .now) (whole-some (length (a .book .now) % 8) (λ q. c .before .if1 .taken (low-three _ ∙ q)))) (c .refused .ensures) (start .pre .1 .1 .2)
 
 add-from : tie.Need-add-from
 add-from c =
@@ -95,8 +104,8 @@ book-fault-requires c κs =
     let a = start .args in
     let fill = c .before .before .before .before .fill in
     let found = some-by (badAny (rows (a .case .now)) (entries (a .book .now))) (entryCount (a .book .now)) (fill .result) (fill .ensures .0)
-    (omega (arith, c .before .if2 .taken, c .before .before .before .before .before .before .before .entry-count .ensures)) in
-    (prepared start, ((c .before .before .before .before .before .before .if1 .left, omega (arith, start .pre .1 .1, fill .kept .1 .1 .1 .1 .0)), found))
+    (omega (arith, c .before .if2 .taken, c .before .before .before .before .before .before .before .entry-count .ensures .1)) in
+    (prepared start, ((sym (low-three _) ∙ c .before .before .before .before .before .before .if1 .left, omega (arith, start .pre .1 .1, fill .kept .1 .1 .1 .1 .0)), found))
 
 same-length : tie.Need-same-length
 same-length c = search needs
@@ -128,8 +137,8 @@ returns-3 c =
     let a = entry d .args in
     let tie = c .before .before .before .before .before .before .first-tie in
     let found = some-by (badTie (rows (a .case .now)) (entries (a .book .now))) (entryCount (a .book .now)) (tie .result) (tie .ensures)
-    (omega (arith, c .before .before .before .before .before .if3 .taken, d .before .before .before .before .before .before .entry-count .ensures)) in
-    let o = book-11 (a .case .now) (a .book .now) (whole-none _ (d .before .before .before .before .before .if1 .left))
+    (omega (arith, c .before .before .before .before .before .if3 .taken, d .before .before .before .before .before .before .entry-count .ensures .1)) in
+    let o = book-11 (a .case .now) (a .book .now) (whole-none _ (whole d))
     (all-paired (a .case .now) (a .book .now) (fine d)) (all-scored (a .case .now) (a .book .now) (fine d))
     (all-fresh (a .case .now) (a .book .now) (fine d)) (tie .result) found in
     refused-with (a .case .now) (a .book .now) _ 11 (tie .result) _ _ _ o (c .refused2 .ensures)
@@ -145,8 +154,8 @@ returns-4 c =
     let a = start .args in
     let tie = c .before .first-tie in
     let none-tie = none-by (badTie (rows (a .case .now)) (entries (a .book .now))) (entryCount (a .book .now)) (tie .result) (tie .ensures)
-    (omega (arith, c .if3 .left, d .before .before .before .before .before .before .entry-count .ensures)) in
-    let o = book-clean (a .case .now) (a .book .now) (whole-none _ (d .before .before .before .before .before .if1 .left))
+    (omega (arith, c .if3 .left, d .before .before .before .before .before .before .entry-count .ensures .1)) in
+    let o = book-clean (a .case .now) (a .book .now) (whole-none _ (whole d))
     (all-paired (a .case .now) (a .book .now) (fine d)) (all-scored (a .case .now) (a .book .now) (fine d))
     (all-fresh (a .case .now) (a .book .now) (fine d)) none-tie in (
       sym (clean-as (a .case .now) _ (a .students) (a .workshops) (a .pairs) o (start .pre .0 .students) (start .pre .0 .workshops)

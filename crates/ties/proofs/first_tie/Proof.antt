@@ -34,7 +34,7 @@ loop-holds : tie.Need-loop-holds Inv-loop μ-loop
 loop-holds c =
     let start = c .before .before .before .before .before in
     let a = start .args in
-    let e : c .entry-count .result ≡ entryCount (a .book .now) = c .entry-count .ensures in (
+    let e : c .entry-count .result ≡ entryCount (a .book .now) = c .entry-count .ensures .1 in (
       omega arith,
       rw e (students-start (a .case .now) (a .book .now) (a .index .now) (a .students + a .workshops) (start .pre .0) (entryCount (a .book .now))),
     )
