@@ -248,7 +248,7 @@ pub record FaresExactly : Type 0 where
 
 -- ---- The number of the book's records (document 02, Paper 5).
 
--- "the shift is proved to give the length divided by 8, rounded down, for every length": for every number, whatever a slice can have
+-- "the shift is proved to give the length divided by 8, rounded down, for every length": of any number, so of every length that a slice can have
 pub record ShiftCounts : Type 0 where
   -- the shift: digit i of what it gives is digit i + 3 of the length, and the lowest three are gone
   pub digits : (len i : ℕ) → bit (shifted len 3) i ≡ bit len (i + 3)

@@ -183,6 +183,9 @@ ownTable =
     ∷ sample (oneEach (numbered 1 1 1) (f3 1 513 1) []) [] (refused 5 1)
     ∷ sample (oneEach (numbered 1 1 1) (f3 1 1 1) (f4 1 1 66 1 ∷ [])) [] (refused 5 2)
     ∷ sample (oneEach (numbered 1 1 1) (f3 1 1 1) []) (1 ∷ []) (refused 7 0)
+    -- half a record of the book, and one with all but a byte of another: no count is rounded
+    ∷ sample K (take 4 bookK) (refused 7 0)
+    ∷ sample K (take 15 bookK) (refused 7 0)
     ∷ sample (oneEach (numbered 1 1 1) (f3 1 1 1) []) (bookOf (f4 1 1 1 1 ∷ [])) (refused 8 0)
     ∷ sample K (bookOf (f4 1 1 5 3 ∷ f4 1 2 2 0 ∷ [])) (refused 9 1)
     ∷ sample K (bookOf (f4 1 1 5 3 ∷ f4 1 1 4 2 ∷ [])) (refused 10 1)

@@ -117,7 +117,7 @@ pub fn row_count(len: usize) -> usize
     len / 16
 }
 
-// How many whole records a book of this length has, by a shift.
+// How many whole records a book of this length has, by a shift (`ShiftCounts`).
 pub fn entry_count(len: usize) -> usize
     ensures { λ r. ⌜ (r ≡ shifted len 3) × (r ≡ len / 8) ⌝ }
 {
