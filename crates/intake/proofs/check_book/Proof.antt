@@ -84,8 +84,9 @@ returns : tie.Need-returns
 returns c =
     let start = c .before .before .before .before .before .before .before in
     let a = start .args in
+    let part : length (a .book .now) % 8 ≡ 0 → ⊥ = λ q. c .before .if1 .taken (low-three _ ∙ q) in
     refused-with (a .case .now) (a .book .now) _ 7 0 _ _ _
-    (book-7 (a .case .now) (a .book .now) (whole-some (length (a .book .now) % 8) (λ q. c .before .if1 .taken (low-three _ ∙ q)))) (c .refused .ensures) (start .pre .1 .1 .2)
+    (book-7 (a .case .now) (a .book .now) (whole-some (length (a .book .now) % 8) part)) (c .refused .ensures) (start .pre .1 .1 .2)
 
 add-from : tie.Need-add-from
 add-from c =
@@ -105,7 +106,8 @@ book-fault-requires c κs =
     let fill = c .before .before .before .before .fill in
     let found = some-by (badAny (rows (a .case .now)) (entries (a .book .now))) (entryCount (a .book .now)) (fill .result) (fill .ensures .0)
     (omega (arith, c .before .if2 .taken, c .before .before .before .before .before .before .before .entry-count .ensures .1)) in
-    (prepared start, ((sym (low-three _) ∙ c .before .before .before .before .before .before .if1 .left, omega (arith, start .pre .1 .1, fill .kept .1 .1 .1 .1 .0)), found))
+    let even = sym (low-three (length (a .book .now))) ∙ c .before .before .before .before .before .before .if1 .left in
+    (prepared start, ((even, omega (arith, start .pre .1 .1, fill .kept .1 .1 .1 .1 .0)), found))
 
 same-length : tie.Need-same-length
 same-length c = search needs
