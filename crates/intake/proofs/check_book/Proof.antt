@@ -106,8 +106,8 @@ book-fault-requires c κs =
     let fill = c .before .before .before .before .fill in
     let found = some-by (badAny (rows (a .case .now)) (entries (a .book .now))) (entryCount (a .book .now)) (fill .result) (fill .ensures .0)
     (omega (arith, c .before .if2 .taken, c .before .before .before .before .before .before .before .entry-count .ensures .1)) in
-    let even = sym (low-three (length (a .book .now))) ∙ c .before .before .before .before .before .before .if1 .left in
-    (prepared start, ((even, omega (arith, start .pre .1 .1, fill .kept .1 .1 .1 .1 .0)), found))
+    let multiple = sym (low-three (length (a .book .now))) ∙ c .before .before .before .before .before .before .if1 .left in
+    (prepared start, ((multiple, omega (arith, start .pre .1 .1, fill .kept .1 .1 .1 .1 .0)), found))
 
 same-length : tie.Need-same-length
 same-length c = search needs
