@@ -7,7 +7,8 @@
     python3 desk.py           checks the four files and says whom to send where next, or who goes where, and what the visits cost
 
 It works in the current folder. It only reads the four files, but for the lots, which `desk.py lots` writes, and the stages, which `desk.py stages`
-writes. From the files it makes case.dat and book.dat, which `place` reads.
+writes. Several may work in one folder at the same time: an answer is of the four files as they were at one moment, `place` and `stages` read what is
+made for them in a folder of each run's own, and only one run at a time writes.
 The program is the one that --place or the variable PLACE names; else the one beside desk.py; else the one on the PATH. So is `stages`, with --stages
 or the variable STAGES.
 Exit status: 0 for an answer, 1 where something is to be corrected, 2 for a wrong command.
@@ -18,6 +19,8 @@ import bisect
 import contextlib
 import csv
 import difflib
+import fcntl
+import getpass
 import io
 import os
 import re
@@ -28,6 +31,7 @@ import struct
 import subprocess
 import sys
 import tempfile
+import time
 import unicodedata
 from dataclasses import dataclass, field
 
@@ -75,6 +79,8 @@ COLUMNS = {
 }
 MOST = {STUDENTS: 512, WORKSHOPS: 64}
 MOST_CASE_RECORDS = 4096    # case.dat has at most 65,536 bytes
+# Seconds: how long a run waits for others in the same folder, with which pauses, and for how long after a change a table may be half written still.
+MOMENT, PAUSE, AT_REST = 3.0, 0.05, 0.05
 
 # What `desk.py new` writes: example K of document 01, with fares. The lots are drawn.
 EXAMPLE = {
@@ -146,19 +152,43 @@ def clean(text):
     return " ".join(unicodedata.normalize("NFC", text).split())
 
 
-def read_bytes(file):
+@dataclass
+class Reading:
+    """What was read of a file: its bytes, what changes whenever they do, and how many seconds ago that was, by a clock that may be another computer's."""
+    data: bytes
+    state: tuple
+    age: float = field(compare=False)
+
+
+def read_file(file):
     try:
         with open(file, "rb") as f:
-            return f.read()
+            there = os.fstat(f.fileno())
+            state = there.st_dev, there.st_ino, there.st_size, there.st_mtime_ns, there.st_ctime_ns
+            return Reading(f.read(), state, abs(time.time() - there.st_ctime))
     except FileNotFoundError:
         raise Stop(f'{file} is not in this folder ({os.getcwd()}). "python3 desk.py new" writes an example to start from.')
     except OSError as e:
         raise Stop(f"{file} cannot be read: {e.strerror}.")
 
 
-def read_text(file):
+def read_tables(files):
+    """The bytes of these files as they were at one moment: each is read, then each once more, and nothing has changed. Where something has, or did so
+    just before and may be half written, all of them are read again."""
+    end = time.monotonic() + MOMENT
+    while True:
+        first, second = ({file: read_file(file) for file in files} for _ in range(2))
+        changed = [file for file in files if first[file] != second[file] or first[file].age < AT_REST]
+        if not changed:
+            return {file: reading.data for file, reading in first.items()}
+        if time.monotonic() > end:
+            raise Stop(f"{' and '.join(changed)} changed again and again while desk.py was reading. Nothing was written.\n"
+                       "Type the command again when nobody is saving a table in this folder.")
+        time.sleep(PAUSE)
+
+
+def text_of(file, data):
     """The text of a file as spreadsheets write it."""
-    data = read_bytes(file)
     try:
         return data.decode("utf-8-sig")
     except UnicodeDecodeError as e:
@@ -177,9 +207,9 @@ def split_rows(text):
     return csv.reader(io.StringIO(text, newline=""), delimiter=delimiter_of(text), strict=True)
 
 
-def read_cells(file):
+def read_cells(file, data):
     """All rows as lists of cells, with their row numbers; rows without any text are left out."""
-    lines = split_rows(read_text(file))
+    lines = split_rows(text_of(file, data))
     rows, at = [], 0
     while True:
         at += 1
@@ -222,9 +252,9 @@ def headings_of(file):
     return ", ".join(column.heading + (" (may be left out)" if is_optional(column) else "") for column in COLUMNS[file])
 
 
-def read_rows(file, problems, may_miss=()):
+def read_rows(file, tables, problems, may_miss=()):
     """The rows below the headings, each with the text of our columns that are there."""
-    rows = read_cells(file)
+    rows = read_cells(file, tables[file])
     places, width = read_headings(file, rows, may_miss)
     result = []
     for at, cells in rows[1:]:
@@ -366,10 +396,10 @@ class Year:
         return self.workshops[number - 1].cells["workshop"]
 
 
-def read_people(problems, may_be_empty):
+def read_people(tables, problems, may_be_empty):
     people, names = {}, {}
     for file in (STUDENTS, WORKSHOPS):
-        people[file] = read_rows(file, problems)
+        people[file] = read_rows(file, tables, problems)
         names[file] = check_people(file, people[file], problems)
         check_numbers(file, people[file], problems, may_be_empty)
     check_lots(people[STUDENTS], problems)
@@ -377,16 +407,16 @@ def read_people(problems, may_be_empty):
     return people[STUDENTS], people[WORKSHOPS], names
 
 
-def read_pairs(names, problems):
-    rows = read_rows(PAIRS, problems)
+def read_pairs(tables, names, problems):
+    rows = read_rows(PAIRS, tables, problems)
     pairs = check_couples(PAIRS, rows, names, problems)
     check_numbers(PAIRS, rows, problems)
     problems.stop_if_any()
     return pairs
 
 
-def read_visits(names, pairs, problems):
-    rows = read_rows(VISITS, problems)
+def read_visits(tables, names, pairs, problems):
+    rows = read_rows(VISITS, tables, problems)
     visits = check_couples(VISITS, rows, names, problems)
     for couple, row in visits.items():
         if couple not in pairs:
@@ -402,12 +432,12 @@ def read_visits(names, pairs, problems):
     return held, planned
 
 
-def read_year(for_stages=False):
-    """The year. For the stages the visits are not read, and a stage that is missing is None."""
+def read_year(tables, for_stages=False):
+    """The year. For the stages the visits are not needed, and a stage that is missing is None."""
     problems = Problems()
-    students, workshops, names = read_people(problems, "stage" if for_stages else "")
-    by_couple = read_pairs(names, problems)
-    visits, planned = ([], {}) if for_stages else read_visits(names, by_couple, problems)
+    students, workshops, names = read_people(tables, problems, "stage" if for_stages else "")
+    by_couple = read_pairs(tables, names, problems)
+    visits, planned = ([], {}) if for_stages else read_visits(tables, names, by_couple, problems)
     pairs = sorted(by_couple.values(), key=lambda row: numbers_of(row, PAIRS, names)[:2])
     records = len(students) + len(workshops) + len(pairs)
     if records > MOST_CASE_RECORDS:
@@ -416,7 +446,7 @@ def read_year(for_stages=False):
     return Year(students, workshops, pairs, visits, planned, names)
 
 
-# ---------------------------------------------------------------- case.dat and book.dat
+# ---------------------------------------------------------------- what `place` and `stages` read
 
 
 def numbers_of(row, file, names):
@@ -438,8 +468,88 @@ def book_bytes(year):
     return b"".join(struct.pack("<HHhh", *numbers_of(row, VISITS, year.names)) for row in year.visits)
 
 
-def write_files(contents):
-    """Writes all files beside their places first, so that none is ever half written. Where a name is a link, the file behind it is written."""
+# ---------------------------------------------------------------- writing, one run at a time
+
+
+@contextlib.contextmanager
+def one_at_a_time(command):
+    """Of all runs that write students.csv only one at a time is in here; a second one waits a moment, and then says who is.
+    The operating system locks a file beside the table, and frees it when the run ends, in whatever way: a file that was left there stops nobody."""
+    folder, name = os.path.split(os.path.realpath(STUDENTS))
+    path = os.path.join(folder, f".{name}.lock")
+    lock = take_lock(path)
+    if not lock:
+        yield
+        return
+    with lock:
+        sign_lock(lock, command)
+        try:
+            yield
+        finally:
+            if is_at(path, lock):
+                os.remove(path)
+
+
+def take_lock(path):
+    """The locked file; None where nothing can be written beside the table, and so nothing is to be locked."""
+    end = time.monotonic() + MOMENT
+    while True:
+        lock = open_lock(path)
+        if not lock or is_taken(path, lock):
+            return lock
+        with lock:
+            holder = "".join(sign for sign in lock.read(400).decode("utf-8", "replace") if sign.isprintable())
+        if time.monotonic() > end:
+            raise Stop(f"{STUDENTS} is in use: {holder or 'another desk.py'}.\nNothing was written. Type the command again when that has ended.")
+        time.sleep(PAUSE)
+
+
+def open_lock(path):
+    """Whoever may write in the folder may lock, too: so everybody has rights to this file."""
+    before = os.umask(0)
+    try:
+        return open(os.open(path, os.O_RDWR | os.O_CREAT | os.O_NOFOLLOW, 0o666), "r+b", buffering=0)
+    except OSError as e:
+        if os.access(os.path.dirname(path), os.W_OK):
+            raise Stop(f"{path} cannot be locked: {e.strerror}. Nothing was written.")
+        return None
+    finally:
+        os.umask(before)
+
+
+def is_taken(path, lock):
+    """Whether this run has the lock now. A file that was removed after it was opened locks nothing."""
+    try:
+        fcntl.flock(lock, fcntl.LOCK_EX | fcntl.LOCK_NB)
+    except BlockingIOError:
+        return False
+    except OSError as e:
+        raise Stop(f"{path} cannot be locked: {e.strerror}. Nothing was written.")
+    return is_at(path, lock)
+
+
+def is_at(path, lock):
+    try:
+        return os.path.samestat(os.stat(path), os.fstat(lock.fileno()))
+    except OSError:
+        return False
+
+
+def sign_lock(lock, command):
+    """Writes in it who has it. Where the disk is full the others are not told."""
+    try:
+        user = getpass.getuser()
+    except (ImportError, KeyError, OSError):    # has no name
+        user = f"user {os.getuid()}"
+    text = f"desk.py {command}, typed by {user} on {os.uname().nodename}, process {os.getpid()}, since {time.strftime('%Y-%m-%d %H:%M:%S')}"
+    with contextlib.suppress(OSError):
+        lock.truncate()
+        lock.write(text.encode("utf-8", "replace"))
+
+
+def write_files(contents, last_look=lambda: None):
+    """Writes all files beside their places first, so that none is ever half written; after a last look they take their places. Where a name is a link,
+    the file behind it is written."""
     paths = {name: os.path.realpath(name) for name in contents}
     parts = {name: os.path.join(os.path.dirname(path), f".{os.path.basename(path)}.{os.getpid()}") for name, path in paths.items()}
     try:
@@ -449,6 +559,7 @@ def write_files(contents):
                 f.write(contents[name])
                 f.flush()
                 os.fsync(f.fileno())
+        last_look()
         for name, part in parts.items():
             os.replace(part, paths[name])
     except OSError as e:
@@ -525,9 +636,12 @@ def write_cells(data, heading, numbers):
         raise Stop(f"{STUDENTS} is open in a spreadsheet: save and close it there, then type the command again. Nothing was written.")
     if not (os.access(STUDENTS, os.W_OK) and os.stat(STUDENTS).st_mode & 0o222):
         raise Stop(f"{STUDENTS} is protected against writing. Nothing was written.")
-    if read_bytes(STUDENTS) != data:
-        raise Stop(f"{STUDENTS} was changed by somebody else at this moment. Nothing was written. Type the command again.")
-    write_files({STUDENTS: new})
+
+    def last_look():
+        if read_file(STUDENTS).data != data:
+            raise Stop(f"{STUDENTS} was changed by somebody else at this moment. Nothing was written. Type the command again.")
+
+    write_files({STUDENTS: new}, last_look)
 
 
 # ---------------------------------------------------------------- running `place` and `stages`
@@ -548,7 +662,23 @@ def find_program(name, option):
     return path
 
 
-def run_program(path, folder="."):
+def ask(program, option, files):
+    """What `place` or `stages` prints for these files. It reads them in a folder of this run's own, where no other run changes them."""
+    path = find_program(program, option)
+    try:
+        with tempfile.TemporaryDirectory(prefix="desk-") as folder:
+            for name, data in files.items():
+                with open(os.path.join(folder, name), "wb") as f:
+                    f.write(data)
+            text = run_program(path, folder)
+    except OSError as e:
+        raise Stop(f"{' and '.join(files)} cannot be written for `{program}`: {e.strerror}. Nothing was written.")
+    if text == "unread\n":
+        raise Stop(f"`{program}` could not read {' and '.join(files)}, which desk.py made for it. Nothing was written.")
+    return text
+
+
+def run_program(path, folder):
     """What the program prints, if it did not fail."""
     try:
         done = subprocess.run([path], cwd=folder, stdin=subprocess.DEVNULL, capture_output=True)
@@ -615,17 +745,6 @@ def is_known(word, numbers, year):
     lowest = 0 if word == "place" else 1    # workshop 0 is no place
     return (word in ("place", "next", "visit") and len(numbers) == 2
             and 1 <= int(numbers[0]) <= len(year.students) and lowest <= int(numbers[1]) <= len(year.workshops))
-
-
-def run_stages(path, case):
-    """What `stages` prints for this case. It reads it in a folder of its own, so that nothing is written in ours."""
-    try:
-        with tempfile.TemporaryDirectory() as folder:
-            with open(os.path.join(folder, "case.dat"), "wb") as f:
-                f.write(case)
-            return run_program(path, folder)
-    except OSError as e:
-        raise Stop(f"case.dat cannot be written for `stages`: {e.strerror}. Nothing was written.")
 
 
 def read_stages(text, year):
@@ -827,10 +946,10 @@ def draw_lots(count, used=()):
     return secrets.SystemRandom().sample(left, count)
 
 
-def read_lots():
+def read_lots(tables):
     """The students' rows, each with her lot, None where there is none. Of students.csv only the names and the lots are needed."""
     problems = Problems()
-    rows = read_rows(STUDENTS, problems, may_miss=("stage", "line group", "lot"))
+    rows = read_rows(STUDENTS, tables, problems, may_miss=("stage", "line group", "lot"))
     check_people(STUDENTS, rows, problems)
     for row in rows:
         if row.cells.setdefault("lot", ""):
@@ -851,6 +970,7 @@ def example_rows(file):
     return [(*row, lot) for row, lot in zip(rows, draw_lots(len(rows)))] if file == STUDENTS else rows
 
 
+@one_at_a_time("new")
 def new(semicolon):
     """Writes the four files with the example, where none of them is."""
     there = [file for file in COLUMNS if os.path.exists(file)]
@@ -869,51 +989,45 @@ def new(semicolon):
 
 def answer(place, list_visits):
     """Checks the four files, runs the program, and tells its answer."""
-    year = read_year()
-    path = find_program("place", place)
-    write_files({"case.dat": case_bytes(year), "book.dat": book_bytes(year)})
-    text = run_program(path)
-    if text == "unread\n":
-        raise Stop("`place` could not read case.dat or book.dat in this folder.")
-    found = read_answer(text, year)
+    year = read_year(read_tables(COLUMNS))
+    found = read_answer(ask("place", place, {"case.dat": case_bytes(year), "book.dat": book_bytes(year)}), year)
     if found.refused:
         raise Stop(explain_refusal(year, "place", *found.refused))
     lines = tell_next(year, found) if found.next else tell_placement(year, found)
     return lines + (tell_visits(year, found) if list_visits else []) + tell_stages(year)
 
 
+@one_at_a_time("lots")
 def fill_in_lots():
     """Draws a lot for each student who has none, writes the lots in students.csv, and tells all of them. A lot that is there stays."""
-    data = read_bytes(STUDENTS)
-    rows = read_lots()
+    tables = read_tables([STUDENTS])
+    rows = read_lots(tables)
     without = [row.at for row in rows if row.cells["lot"] is None]
     drawn = dict(zip(without, draw_lots(len(without), {row.cells["lot"] for row in rows})))
     lines = tell_lots(rows, drawn) + [""]
     if not drawn:
         return lines + [f"Every student in {STUDENTS} has a lot. Nothing was written."]
-    write_cells(data, "lot", drawn)
-    added = "" if "lot" in first_row(data.decode("utf-8-sig")) else 'the column "lot" was added, '
+    write_cells(tables[STUDENTS], "lot", drawn)
+    added = "" if "lot" in first_row(tables[STUDENTS].decode("utf-8-sig")) else 'the column "lot" was added, '
     return lines + tell_written(len(drawn), "lots", added) + ["Keep this list: lots are drawn once for a year."]
 
 
+@one_at_a_time("stages")
 def work_out_stages(program):
     """Checks students, workshops and pairs, runs `stages`, writes what it found in students.csv, and tells it."""
-    data = read_bytes(STUDENTS)
-    year = read_year(for_stages=True)
+    tables = read_tables([STUDENTS, WORKSHOPS, PAIRS])
+    year = read_year(tables, for_stages=True)
     before = [row.cells["stage"] for row in year.students]
     for row in year.students:
         row.cells["stage"] = row.cells["stage"] or 1    # any will do: `stages` only checks its range
-    text = run_stages(find_program("stages", program), case_bytes(year))
-    if text == "unread\n":
-        raise Stop("`stages` could not read the case that desk.py made for it. Nothing was written.")
-    stages, refused = read_stages(text, year)
+    stages, refused = read_stages(ask("stages", program, {"case.dat": case_bytes(year)}), year)
     if refused:
         raise Stop(explain_no_stages(year) if refused[0] == NO_STAGES else explain_refusal(year, "stages", *refused))
     changed = {row.at: new for row, old, new in zip(year.students, before, stages) if old != new}
     lines = tell_worked_out(year, stages, before) + [""]
     if not changed:
         return lines + [f"{STUDENTS} has these stages already. Nothing was written."]
-    write_cells(data, "stage", changed)
+    write_cells(tables[STUDENTS], "stage", changed)
     return lines + tell_written(len(changed), "stages")
 
 

@@ -1,19 +1,29 @@
 """Tests of desk.py: example K to the byte, visits that end in never, lots drawn, equal marks parted by them, fares added up, years driven visit by
-visit, wrong inputs, a withdrawal, stages worked out.
+visit, wrong inputs, a withdrawal, stages worked out, several who work in one folder at once.
 
     python3 desk_tests.py DESK.PY PLACE STAGES
 """
+import contextlib
 import csv
+import errno
+import fcntl
 import io
+import json
 import os
 import random
+import re
 import resource
+import shlex
 import shutil
+import signal
 import stat
 import struct
 import subprocess
 import sys
 import tempfile
+import time
+from concurrent.futures import ThreadPoolExecutor
+from types import SimpleNamespace
 
 DESK, PLACE, STAGES = sys.argv[1:4]
 tally = {"passed": 0, "failed": 0}
@@ -25,9 +35,9 @@ def check(name, good, detail=""):
         print(f"FAILED {name}\n{detail}")
 
 
-def desk(folder, *words, place=PLACE, stages=STAGES, first=None):
-    """Runs desk.py in the folder as a clerk does: status, what it printed, what it complained of."""
-    env = {**os.environ, "PLACE": place, "STAGES": stages}
+def desk(folder, *words, place=PLACE, stages=STAGES, first=None, **more):
+    """Runs desk.py in the folder as a clerk does: status, what it printed, what it complained of. `more` is for the environment."""
+    env = {**os.environ, "PLACE": place, "STAGES": stages, **more}
     done = subprocess.run([sys.executable, DESK, *words], cwd=folder, env=env, capture_output=True, stdin=subprocess.DEVNULL, preexec_fn=first)
     return done.returncode, done.stdout.decode(), done.stderr.decode()
 
@@ -48,6 +58,21 @@ def read_all(folder):
 
 def add(folder, name, text):
     write(folder, name, read(folder, name) + text.encode())
+
+
+def program(folder, name, lines):
+    """A program of these lines of the shell."""
+    write(folder, name, f"#!/bin/sh\n{lines}\n")
+    path = os.path.join(folder, name)
+    os.chmod(path, stat.S_IRWXU)
+    return path
+
+
+def made(folder):
+    """case.dat and book.dat, as desk.py makes them for `place` from the tables in this folder."""
+    with tempfile.TemporaryDirectory() as other:
+        desk(folder, place=program(other, "copy", f"cp case.dat book.dat {other}"))
+        return read(other, "case.dat"), read(other, "book.dat")
 
 
 def answers(name, given, wanted):
@@ -144,10 +169,13 @@ def hold_visits(folder, name, visits):
 
 def example_k(folder):
     hold_visits(folder, "K", K_VISITS)
+    before = read_all(folder)
     status, out, err = desk(folder)
     answers("K placed", (status, out, err), (0, K_PLACED, ""))
-    check("K's case", read(folder, "case.dat") == bytes.fromhex(K_CASE), read(folder, "case.dat").hex(" "))
-    check("K's book", read(folder, "book.dat") == bytes.fromhex(K_BOOK), read(folder, "book.dat").hex(" "))
+    check("K: nothing is written", read_all(folder) == before, str(os.listdir(folder)))
+    case, book = made(folder)
+    check("K's case", case == bytes.fromhex(K_CASE), case.hex(" "))
+    check("K's book", book == bytes.fromhex(K_BOOK), book.hex(" "))
     status, out, err = desk(folder, "next", "--visits")
     check("K's visits", out == K_PLACED + "\nThe visits:\n" + "".join(f"  {s} at {w}\n" for s, w, _, _ in K_VISITS), out)
 
@@ -173,6 +201,7 @@ def guide(folder):
     check("the guide shows what stood there", "Anna Berg (was 2)\n" in desk(folder, "stages")[1] and "`Anna Berg (was 2)`" in text)
     write(folder, "pairs.csv", read(folder, "pairs.csv").replace(b"Anna Berg,Weaving mill,1,1", b"Anna Berg,Weaving mill,1,3"))
     shows(text, desk(folder, "stages")[2])
+    shows(text, locked(os.path.join(folder, LOCK), GUIDE_HOLDER.encode(), lambda: desk(folder, "lots"))[2])
     for shown in (NEW_SAYS, first, K_PLACED, NEVER_PLACED + NEVER_LIST, NO_FARES):
         shows(text, shown)
     for visits in (K_VISITS[1:], NEVER_VISITS):
@@ -257,7 +286,8 @@ def never(folder):
     """The guide's example."""
     hold_visits(folder, "never", NEVER_VISITS)
     answers("never: placed", desk(folder, "--visits"), (0, NEVER_PLACED + NEVER_LIST, ""))
-    check("never: book", read(folder, "book.dat") == bytes.fromhex(NEVER_BOOK), read(folder, "book.dat").hex(" "))
+    book = made(folder)[1]
+    check("never: book", book == bytes.fromhex(NEVER_BOOK), book.hex(" "))
 
 
 def ends_of_a_visit(folder):
@@ -270,8 +300,8 @@ def ends_of_a_visit(folder):
         workshop, said = ("Dye house", " (never)") if ended else ("Weaving mill", "")
         check(f"marks {a} and {b}", status == 0 and out.startswith(f"Next visit: Ben Olsen goes to {workshop}.\n")
               and out.endswith(f"\n  Anna Berg at Dye house{said}\n  Anna Berg at Weaving mill (never)\n"), out + err)
-        check(f"marks {a} and {b}: book", read(folder, "book.dat") == bytes.fromhex(f"01 00 01 00 {marks} 01 00 02 00 18 fc 18 fc"),
-              read(folder, "book.dat").hex(" "))
+        book = made(folder)[1]
+        check(f"marks {a} and {b}: book", book == bytes.fromhex(f"01 00 01 00 {marks} 01 00 02 00 18 fc 18 fc"), book.hex(" "))
 
 
 def nevers_of_a_workshop(folder):
@@ -349,12 +379,7 @@ WRONG_LOTS = [
 
 def drawing(lots, folder):
     """`desk.py lots`, which draws these: only the chance is taken away."""
-    module = InProcess().module
-    before, module.draw_lots = module.draw_lots, lambda count, used=(): list(lots[:count])
-    try:
-        return InProcess().run(folder, "lots")
-    finally:
-        module.draw_lots = before
+    return InProcess().run(folder, "lots", draw_lots=lambda count, used=(): list(lots[:count]))
 
 
 def lots_in(folder, comma=","):
@@ -407,7 +432,7 @@ def lots_drawn(folder):
     answers("lots again", desk(folder, "lots"), (0, "The lots, the lowest first:\n" + listed.replace(" (drawn)", "") + LOTS_THERE, ""))
     check("lots again: kept", lots_in(folder) == first)
     check("lots: the year can begin", desk(folder)[1].startswith("Next visit: Anna Berg goes to Dye house.\n"), str(desk(folder)))
-    check("lots in the case", [struct.unpack_from("<H", read(folder, "case.dat"), 16 * n + 8)[0] for n in range(3)] == first)
+    check("lots in the case", [struct.unpack_from("<H", made(folder)[0], 16 * n + 8)[0] for n in range(3)] == first)
     add(folder, "students.csv", "Dora Lund,1,2,\n")
     status, out, err = desk(folder, "lots")
     check("a lot more", status == 0 and LOTS_WROTE.format("1 cell") in out and out.count("(drawn)") == 1 and "  Dora Lund (drawn)\n" in out, out + err)
@@ -560,7 +585,7 @@ def fares(folder):
         add_visits(folder, others[:held % 3] + K_VISITS[:held])
         write(folder, "pairs.csv", pairs("".join(f"{s},{w},{both}\n" for (s, w), both in zip(K_PAIRS, K_GROUPS))))
         without, told = answer_told(folder, "no fares")
-        case = read(folder, "case.dat")
+        case = made(folder)[0]
         check("no fares are told", told == [NO_FARES], str(told))
         check("no fares in the case", fields(case, 10) == (0,) * 6, case.hex(" "))
         for cells, numbers in FARES:
@@ -568,7 +593,7 @@ def fares(folder):
             rest, told = answer_told(folder, f"fares {cells}")
             check(f"fares {cells}, {held} visits", told == [fares_told(cost((visit[:2] for visit in K_VISITS[:held]), numbers))], str(told))
             check(f"fares {cells}, {held} visits: the answer", rest == without, rest)
-            there = read(folder, "case.dat")
+            there = made(folder)[0]
             check(f"fares {cells} in the case", fields(there, 10) == numbers and len(there) == len(case)
                   and all(there[at] == case[at] for at in range(len(case)) if at < 80 or at % 16 not in (10, 11)), there.hex(" "))
 
@@ -577,10 +602,10 @@ def fares_column(folder):
     """The column at another place, its heading in capitals, and another column that only looks like it; no pairs at all; a wrong fare with `stages`."""
     write(folder, "pairs.csv", "FARE;note;student;Fares;workshop;group from student;group from workshop\n"
           "240;;Anna Berg;x;Dye house;1;1\n65535;a;Ben Olsen;7;Dye house;1;2\n")
-    rest, told = answer_told(folder, "the column first")
-    check("the column first", fields(read(folder, "case.dat") + bytes(64), 10) == (240, 65535, 0, 0, 0, 0), read(folder, "case.dat").hex(" "))
+    case = made(folder)[0]
+    check("the column first", fields(case + bytes(64), 10) == (240, 65535, 0, 0, 0, 0), case.hex(" "))
     write(folder, "pairs.csv", FARE_HEAD.replace("fare", "fares") + "Anna Berg,Dye house,1,1,240\n")
-    check("another column is not read", answer_told(folder, "another column")[1] == [NO_FARES] and read(folder, "case.dat")[-6:] == bytes(6))
+    check("another column is not read", answer_told(folder, "another column")[1] == [NO_FARES] and made(folder)[0][-6:] == bytes(6))
     write(folder, "pairs.csv", FARE_HEAD)
     rest, told = answer_told(folder, "no pairs")
     check("no pairs", "Visits held for it: 0.\n" in rest and told == [NO_FARES], rest)
@@ -604,8 +629,7 @@ def other_spellings(folder):
           + "".join(f"{s}\t{w}\t{a}\t{b}\n" for s, w, a, b in K_VISITS).replace("-", "\u2212") + "Ben Olsen\tDye house\t\t\n")
     status, out, err = desk(folder)
     answers("other spellings", (status, out, err), (0, K_PLACED, ""))
-    check("other spellings: case", read(folder, "case.dat") == bytes.fromhex(K_CASE))
-    check("other spellings: book", read(folder, "book.dat") == bytes.fromhex(K_BOOK))
+    check("other spellings: case and book", made(folder) == (bytes.fromhex(K_CASE), bytes.fromhex(K_BOOK)))
 
 
 def accents(folder):
@@ -620,7 +644,7 @@ def planned_row(folder):
     add(folder, "visits.csv", "Carla Roth,Dye house,,\r\nAnna Berg,Dye house,,\r\n")
     status, out, err = desk(folder)
     check("a planned row", "write both marks in visits.csv, row 3, save" in out, out + err)
-    check("planned rows are not in the book", read(folder, "book.dat") == b"")
+    check("planned rows are not in the book", made(folder)[1] == b"")
 
 
 def unused_visit(folder):
@@ -650,8 +674,9 @@ def withdrawal(folder):
     status, out, err = desk(folder)
     check("a student withdrawn", "  Anna Berg   Dye house\n  Carla Roth  Weaving mill\n" in out
           and "Visits held for it: 3.\n" + fares_told(915) in out, out + err)
-    check("without gaps", read(folder, "book.dat")[-8:] == bytes.fromhex("02 00 02 00 04 00 06 00"))
-    check("with her lot", read(folder, "case.dat")[16:32] == bytes.fromhex("01 00 02 00 02 00 02 00 03 00 00 00 00 00 00 00"))
+    case, book = made(folder)
+    check("without gaps", book[-8:] == bytes.fromhex("02 00 02 00 04 00 06 00"))
+    check("with her lot", case[16:32] == bytes.fromhex("01 00 02 00 02 00 02 00 03 00 00 00 00 00 00 00"))
     write(folder, "workshops.csv", "workshop,quota,line group\nDye house,0,3\nWeaving mill,1,3\n")
     status, out, err = desk(folder)
     check("a workshop with quota 0", "  Anna Berg   Weaving mill\n  Carla Roth  no place\n" in out, out + err)
@@ -847,9 +872,11 @@ class InProcess:
         import desk as module
         self.module = module
 
-    def run(self, folder, command="answer"):
-        before = os.getcwd()
+    def run(self, folder, command="answer", **settings):
+        """With other values for names of desk.py; that a table was written just now is fine unless they say otherwise."""
+        before, names = os.getcwd(), dict(vars(self.module))
         os.chdir(folder)
+        vars(self.module).update({"AT_REST": 0, **settings})
         try:
             commands = {"answer": lambda: self.module.answer(PLACE, False), "stages": lambda: self.module.work_out_stages(STAGES),
                         "lots": self.module.fill_in_lots}
@@ -859,6 +886,8 @@ class InProcess:
             return 1, "", str(stop)
         finally:
             os.chdir(before)
+            vars(self.module).clear()
+            vars(self.module).update(names)
 
 
 # ---------------------------------------------------------------- wrong inputs
@@ -1024,7 +1053,7 @@ PRINTED = [
     ("refused 8 0", "visits.csv, row 2: this visit has no row in pairs.csv.\n"),
     ("refused 4 0", "`place` refused the files, number 4: there is no student, no workshop, or too many of them.\n"),
     ("refused 99 0", "`place` refused the files, number 99: desk.py does not know this number.\n"),
-    ("unread", "`place` could not read case.dat or book.dat in this folder.\n"),
+    ("unread", "`place` could not read case.dat and book.dat, which desk.py made for it. Nothing was written.\n"),
     ("hello", "`place` printed what desk.py does not know: hello\n"),
     ("next 4 1", "`place` printed what desk.py does not know: next 4 1\n"),
     ("visit 1 0", "`place` printed what desk.py does not know: visit 1 0\n"),
@@ -1083,13 +1112,11 @@ def refusals(folder):
 
 
 def other_programs(folder):
-    fake = os.path.join(folder, "fake")
     add_visits(folder, K_VISITS[:1])
     for printed, message in PRINTED:
-        write(folder, "fake", f"#!/bin/sh\necho {printed}\n")
-        os.chmod(fake, stat.S_IRWXU)
+        fake = program(folder, "fake", f"echo {printed}")
         answers(f"a program that prints {printed}", desk(folder, place=fake), (1, "", message))
-    write(folder, "fake", "#!/bin/sh\necho no such library >&2\nexit 3\n")
+    program(folder, "fake", "echo no such library >&2\nexit 3")
     answers("a program that fails", desk(folder, place=fake), (1, "", f"{fake} ended with status 3. no such library\n"))
     os.chmod(fake, 0)
     answers("not allowed to run", desk(folder, place=fake)[2], f"{fake} may not be run. This allows it: chmod +x {fake}\n")
@@ -1119,15 +1146,16 @@ def other_folders(folder):
     answers("new in a used folder", desk(folder, "new"),
             (1, "", "students.csv and workshops.csv and pairs.csv and visits.csv are in this folder already. Nothing was written.\n"))
     check("new leaves what is there", before == read_all(folder))
-    write(folder, "case.dat", b"as it was")
-    small_files = lambda: resource.setrlimit(resource.RLIMIT_FSIZE, (100, 100))
-    answers("no room for the whole case", desk(folder, first=small_files), (1, "", "case.dat and book.dat cannot be written in this folder: File too large.\n"))
-    check("the case is as it was", read(folder, "case.dat") == b"as it was" and len(os.listdir(folder)) == 5, str(os.listdir(folder)))
-    os.remove(os.path.join(folder, "case.dat"))
-    os.mkdir(os.path.join(folder, "case.dat"))
-    status, out, err = desk(folder)
-    answers("no way to write", err, "case.dat and book.dat cannot be written in this folder: Is a directory.\n")
-    check("nothing is left behind", sorted(os.listdir(folder)) == sorted(list(before) + ["case.dat"]), str(os.listdir(folder)))
+    with tempfile.TemporaryDirectory() as other:
+        small_files = lambda: resource.setrlimit(resource.RLIMIT_FSIZE, (100, 100))
+        answers("no room for the whole case", desk(folder, first=small_files, TMPDIR=other),
+                (1, "", "case.dat and book.dat cannot be written for `place`: File too large. Nothing was written.\n"))
+        for name in ("case.dat", "book.dat"):
+            before[name] = b"as it was"
+            write(folder, name, before[name])
+        check("files of that name in the folder are not read", desk(folder, TMPDIR=other)[1].startswith("Next visit: Anna Berg goes to Dye house.\n"))
+        check("and not written", read_all(folder) == before)
+        check("nothing is left behind", os.listdir(other) == [], str(os.listdir(other)))
     os.remove(os.path.join(folder, "visits.csv"))
     answers("a file is missing", desk(folder)[2], f"visits.csv is not in this folder ({os.path.realpath(folder)}). "
           '"python3 desk.py new" writes an example to start from.\n')
@@ -1142,6 +1170,7 @@ WROTE = """
 Wrote them in students.csv: {} changed, all else is as it was.
 A spreadsheet that still shows students.csv shows the old stages: open the file again there before you change it.
 """
+MEANWHILE = "students.csv was changed by somebody else at this moment. Nothing was written. Type the command again."
 OPEN = "students.csv is open in a spreadsheet: save and close it there, then type the command again. Nothing was written.\n"
 K_STAGES = "Stage 1: Anna Berg\nStage 2: Ben Olsen, Carla Roth\n"
 K_HAS_THEM = K_STAGES + "\nstudents.csv has these stages already. Nothing was written.\n"
@@ -1222,7 +1251,7 @@ STAGES_PRINTED = [
     ("refused 6 0", 1, "`stages` refused the files, number 6: a buffer of the program is too short."),
     ("refused 99 0", 1, "`stages` refused the files, number 99: desk.py does not know this number."),
     ("refused 12 0", 1, NO_STAGES.format("").rstrip("\n")),
-    ("unread", 2, "`stages` could not read the case that desk.py made for it. Nothing was written."),
+    ("unread", 2, "`stages` could not read case.dat, which desk.py made for it. Nothing was written."),
     ("hello", 0, "`stages` printed what desk.py does not know: hello"),
     ("stage 2 1", 0, "`stages` printed what desk.py does not know: stage 2 1"),
     ("stage 1 0", 0, "`stages` printed what desk.py does not know: stage 1 0"),
@@ -1298,18 +1327,15 @@ def no_stages(folder):
 
 
 def other_stages_programs(folder):
-    fake = os.path.join(folder, "fake")
     write(folder, "students.csv", students("Anna Berg,,2\nBen Olsen,,2\nCarla Roth,,2\n"))
     for printed, status, message in STAGES_PRINTED:
-        write(folder, "fake", f"#!/bin/sh\necho {printed}\nexit {status}\n")
-        os.chmod(fake, stat.S_IRWXU)
+        fake = program(folder, "fake", f"echo {printed}\nexit {status}")
         before = read_all(folder)
         answers(f"stages that prints {printed}", desk(folder, "stages", stages=fake), (1, "", message.format(fake=fake) + "\n"))
         check(f"stages that prints {printed}: nothing is written", read_all(folder) == before)
-    write(folder, "fake", f"#!/bin/sh\necho Dora,,2,9 >> {folder}/students.csv\necho stage 1 1\necho stage 2 2\necho stage 3 2\n")
+    program(folder, "fake", f"echo Dora,,2,9 >> {folder}/students.csv\necho stage 1 1\necho stage 2 2\necho stage 3 2")
     wanted = read(folder, "students.csv") + b"Dora,,2,9\n"
-    answers("changed meanwhile", desk(folder, "stages", stages=fake),
-            (1, "", "students.csv was changed by somebody else at this moment. Nothing was written. Type the command again.\n"))
+    answers("changed meanwhile", desk(folder, "stages", stages=fake), (1, "", MEANWHILE + "\n"))
     check("changed meanwhile: kept", read(folder, "students.csv") == wanted)
     os.chmod(fake, 0)
     answers("stages is not allowed to run", desk(folder, "stages", stages=fake)[2], f"{fake} may not be run. This allows it: chmod +x {fake}\n")
@@ -1551,12 +1577,327 @@ def told_steps(err):
     return steps
 
 
+# ---------------------------------------------------------------- several at once
+
+LOCK = ".students.csv.lock"
+IN_USE = "students.csv is in use: {}.\nNothing was written. Type the command again when that has ended.\n"
+GUIDE_HOLDER = "desk.py stages, typed by anna on college7, process 4711, since 2026-11-17 14:05:11"
+CHANGED = ("students.csv changed again and again while desk.py was reading. Nothing was written.\n"
+           "Type the command again when nobody is saving a table in this folder.\n")
+
+# desk.py on a disk that takes its time to write: so much lies between the last look at a table and the new one.
+SLOW_DISK = """
+import os, runpy, sys, time
+os.fsync = lambda file: time.sleep(0.3)
+sys.argv = sys.argv[1:]
+runpy.run_path(sys.argv[0], run_name="__main__")
+"""
+
+# students.csv with its rows in two orders, and the placement that is told for each. The second is the first with other numbers for the names.
+TWO_ORDERS = [K_STUDENTS.format(1, 2, 3), "student,stage,line group,lot\nCarla Roth,2,2,3\nBen Olsen,2,2,2\nAnna Berg,1,2,1\n"]
+TWO_PLACED = [K_PLACED, "\n".join(K_PLACED.split("\n")[:2] + K_PLACED.split("\n")[4:1:-1] + K_PLACED.split("\n")[5:])]
+
+
+def save(folder, name, data):
+    """As `write`, but the new file takes the old one's place."""
+    with tempfile.NamedTemporaryFile("wb", dir=folder, prefix=".", delete=False) as f:
+        f.write(data if isinstance(data, bytes) else data.encode())
+    os.replace(f.name, os.path.join(folder, name))
+
+
+def parallel_loops(folder):
+    """Six clerks, each of whom saves students.csv in one of two orders and runs desk.py, again and again, with a `place` that takes its time: every
+    answer is that of one of the two orders."""
+    add_visits(folder, K_VISITS)
+    with tempfile.TemporaryDirectory() as other, ThreadPoolExecutor(6) as clerks:
+        slow = program(other, "slow", f"sleep 0.2\nexec {shlex.quote(PLACE)}")
+
+        def clerk(number):
+            told = []
+            for turn in range(6):
+                save(folder, "students.csv", TWO_ORDERS[(number + turn) % 2])
+                told.append(desk(folder, place=slow))
+            return told
+
+        told = [answer for answers_of_one in clerks.map(clerk, range(6)) for answer in answers_of_one]
+    for answer in told:
+        check("six at once: an answer of one of the two orders", answer in [(0, placed, "") for placed in TWO_PLACED], str(answer))
+    check("six at once: both orders are met", {answer[1] for answer in told} == set(TWO_PLACED))
+    check("six at once: nothing is left behind", sorted(os.listdir(folder)) == sorted(NEW_FILES), str(os.listdir(folder)))
+
+
+def another_run_meanwhile(folder):
+    """While `place` is at work for one run students.csv is saved in another order, and another run is made. Each has its own answer."""
+    add_visits(folder, K_VISITS)
+    write(folder, "students.csv", TWO_ORDERS[0])
+    with tempfile.TemporaryDirectory() as other:
+        write(other, "students.csv", TWO_ORDERS[1])
+        paths = {name: shlex.quote(path) for name, path in dict(folder=folder, other=other, python=sys.executable, desk=DESK, place=PLACE).items()}
+        between = program(other, "between", "cp {other}/students.csv {folder}/students.csv\n"
+                          "(cd {folder} && PLACE={place} {python} {desk} > {other}/said 2>&1)\nexec {place}".format(**paths))
+        answers("another run meanwhile: the first", desk(folder, place=between), (0, TWO_PLACED[0], ""))
+        answers("another run meanwhile: the other", read(other, "said").decode(), TWO_PLACED[1])
+
+
+def at_once(folder, *words):
+    """Six runs that begin together, on a slow disk: the status, the text and the complaint of each."""
+    runs = [subprocess.Popen([sys.executable, "-c", SLOW_DISK, DESK, *words], cwd=folder, env={**os.environ, "STAGES": STAGES},
+                             stdin=subprocess.DEVNULL, stdout=subprocess.PIPE, stderr=subprocess.PIPE) for _ in range(6)]
+    told = [(run.communicate(), run.returncode) for run in runs]
+    return [(status, out.decode(), err.decode()) for (out, err), status in told]
+
+
+def draws_at_once(folder):
+    """One draws, and the others tell the lots that it drew. So with the stages; and the example is written once."""
+    write(folder, "students.csv", K_STUDENTS.format("", "", ""))
+    told = at_once(folder, "lots")
+    listed = "".join(f"  {lot:3}  {name}\n" for lot, name in sorted(zip(lots_in(folder), K_NAMES)))
+    drawn = [(status, out, err) for status, out, err in told if "(drawn)" in out]
+    answers("draws at once: one draws", drawn, [(0, "The lots, the lowest first:\n" + listed.replace("\n", " (drawn)\n") + LOTS_WROTE.format("3 cells"), "")])
+    check("draws at once: the others tell what was drawn", sorted(told)[:-1] == [(0, "The lots, the lowest first:\n" + listed + LOTS_THERE, "")] * 5, str(told))
+    write(folder, "students.csv", students("Anna Berg,,2\nBen Olsen,,2\nCarla Roth,,2\n"))
+    told = sorted(at_once(folder, "stages"))
+    answers("stages at once", told, sorted([(0, K_STAGES + WROTE.format("3 cells"), "")] + [(0, K_HAS_THEM, "")] * 5))
+    check("at once: nothing is left behind", sorted(os.listdir(folder)) == sorted(NEW_FILES), str(os.listdir(folder)))
+    for name in NEW_FILES:
+        os.remove(os.path.join(folder, name))
+    told = sorted(at_once(folder, "new"))
+    there = "students.csv and workshops.csv and pairs.csv and visits.csv are in this folder already. Nothing was written.\n"
+    answers("new at once", told, [(0, NEW_SAYS, "")] + [(1, "", there)] * 5)
+
+
+def in_use(folder):
+    """Where a run does not end, another one that would write says who it is, after a moment; one that only reads is not held up. When the first is
+    killed its lock is left behind, and stops nobody; nor does the one that it found."""
+    blank = K_STUDENTS.format("", 2, 3)
+    write(folder, LOCK, 300 * "x")
+    with tempfile.TemporaryDirectory() as other:
+        endless = program(other, "endless", f"touch {other}/started\nexec sleep 60")
+        run = subprocess.Popen([sys.executable, DESK, "stages"], cwd=folder, env={**os.environ, "STAGES": endless, "TMPDIR": other, "LOGNAME": "anna"},
+                               stdin=subprocess.DEVNULL, stdout=subprocess.DEVNULL, stderr=subprocess.DEVNULL, start_new_session=True)
+        try:
+            while run.poll() is None and not os.path.exists(os.path.join(other, "started")):
+                time.sleep(0.01)
+            check("in use: desk.py answers", desk(folder)[1].startswith("Next visit: "), str(desk(folder)))
+            write(folder, "students.csv", blank)
+            status, out, err = desk(folder, "lots")
+            who = f"desk.py stages, typed by anna on {os.uname().nodename}, process {run.pid}, since "
+            when = re.escape(IN_USE.format(who + "WHEN")).replace("WHEN", "[-0-9]{10} [:0-9]{8}")
+            check("in use", (status, out) == (1, "") and re.fullmatch(when, err), out + err)
+            check("in use: nothing is written", read(folder, "students.csv") == blank.encode())
+            run.kill()
+            run.wait()
+            check("killed: its lock is left, and `stages` goes on", os.path.exists(os.path.join(folder, LOCK)) and os.killpg(run.pid, 0) is None)
+            status, out, err = desk(folder, "lots")
+            check("killed: the next one goes on", status == 0 and "Anna Berg (drawn)\n" in out, out + err)
+            check("killed: its lock is gone", sorted(os.listdir(folder)) == sorted(NEW_FILES), str(os.listdir(folder)))
+        finally:
+            with contextlib.suppress(ProcessLookupError):
+                os.killpg(run.pid, signal.SIGKILL)
+            run.wait()
+
+
+def locked(path, text, run):
+    """What a run says while this file is locked, with this text in it."""
+    with open(path, "wb", buffering=0) as lock:
+        fcntl.flock(lock, fcntl.LOCK_EX)
+        lock.write(text)
+        try:
+            return run()
+        finally:
+            os.remove(path)
+
+
+def locks(folder):
+    """The lock's text is told as far as it can be printed. Its file stands beside the file behind a link, is everybody's, and is no link itself; one that
+    was removed locks nothing; and without locks nothing is written."""
+    blank, path, process = K_STUDENTS.format("", 2, 3), os.path.join(folder, LOCK), InProcess()
+    short = lambda: process.run(folder, "lots", MOMENT=0.1)
+    write(folder, "students.csv", blank)
+    for text, told in ((b"", "another desk.py"), (b"\x1b[2Jdesk\xff\n", "[2Jdesk\ufffd")):
+        answers(f"a lock with {text}", locked(path, text, short), (1, "", IN_USE.format(told)[:-1]))
+    with tempfile.TemporaryDirectory() as other:
+        behind = os.path.join(os.path.realpath(other), ".shared.csv.lock")
+        write(other, "shared.csv", blank)
+        os.remove(os.path.join(folder, "students.csv"))
+        os.symlink(os.path.join(other, "shared.csv"), os.path.join(folder, "students.csv"))
+        answers("a lock behind a link", locked(behind, b"desk.py", short), (1, "", IN_USE.format("desk.py")[:-1]))
+        os.symlink(os.path.join(folder, "visits.csv"), behind)
+        before = read_all(folder)
+        answers("a link as the lock", short(), (1, "", f"{behind} cannot be locked: {os.strerror(errno.ELOOP)}. Nothing was written."))
+        check("a link as the lock: nothing is written", read_all(folder) == before)
+        os.remove(behind)
+
+        def no_locks(*_):
+            raise OSError(errno.ENOLCK, os.strerror(errno.ENOLCK))
+
+        answers("a disk without locks", process.run(folder, "lots", fcntl=SimpleNamespace(flock=no_locks, LOCK_EX=0, LOCK_NB=0)),
+                (1, "", f"{behind} cannot be locked: {os.strerror(errno.ENOLCK)}. Nothing was written."))
+        check("a disk without locks: nothing is written", read_all(folder) == before)
+        check("behind a link: lots", desk(folder, "lots")[0] == 0 and os.listdir(other) == ["shared.csv"], str(os.listdir(other)))
+    with process.module.open_lock(path) as one, process.module.open_lock(path) as two:
+        check("a lock is everybody's", stat.S_IMODE(os.stat(path).st_mode) == 0o666)
+        check("a lock is taken once", process.module.is_taken(path, one) and not process.module.is_taken(path, two))
+        os.remove(path)
+        one.close()
+        check("a removed lock is none", not process.module.is_taken(path, two))
+
+
+def reading_only(folder):
+    """In a folder in which nothing can be written the lots that are there are told."""
+    path, listed = os.path.join(folder, "students.csv"), "".join(f"  {lot:3}  {name}\n" for lot, name in enumerate(K_NAMES, 1))
+    for first, wanted in (("1", (0, "The lots, the lowest first:\n" + listed + LOTS_THERE, "")),
+                          ("", (1, "", "students.csv cannot be written in this folder: Permission denied."))):
+        write(folder, "students.csv", K_STUDENTS.format(first, 2, 3))
+        os.chmod(path, 0o666)
+        os.chmod(folder, 0o555)
+        answers("reading only", without_rights(folder, "lots"), wanted)
+        os.chmod(folder, 0o755)
+
+
+def without_rights(folder, command):
+    """What the command says to somebody who has no rights but everybody's."""
+    reader, writer = os.pipe()
+    child = os.fork()
+    if not child:
+        try:
+            os.chdir("/")
+            if os.getuid() == 0:
+                os.setuid(65534)
+            os.write(writer, json.dumps(InProcess().run(folder, command)).encode())
+        finally:
+            os._exit(0)
+    os.close(writer)
+    os.waitpid(child, 0)
+    with open(reader, "rb") as f:
+        return tuple(json.loads(f.read()))
+
+
+def watched(before):
+    """An `open` for desk.py that first calls this with the file's name, and with how often it was opened by then."""
+    count = {}
+
+    def opening(name, *rest, **more):
+        count[name] = count.get(name, 0) + 1
+        before(name, count[name])
+        return open(name, *rest, **more)
+
+    return opening
+
+
+def saved_while_written(folder):
+    """Somebody saves students.csv while the new one goes to the disk: it is not written over, and no lot is told."""
+    blank, saved, fsync = K_STUDENTS.format("", 2, 3), K_STUDENTS.format("", 2, 3) + "Dora Lund,1,2,\n", os.fsync
+    write(folder, "students.csv", blank)
+    os.fsync = lambda file: save(folder, "students.csv", saved)
+    try:
+        told = InProcess().run(folder, "lots")
+    finally:
+        os.fsync = fsync
+    answers("saved while it is written", told, (1, "", MEANWHILE))
+    check("saved while it is written: kept", read(folder, "students.csv") == saved.encode() and sorted(os.listdir(folder)) == sorted(NEW_FILES))
+
+
+def replaced_while_read(folder):
+    """Lots are exchanged and a visit is added while the four tables are read. Of the old lots and the new visit, which are never there together, another
+    placement would come."""
+    visits = [VISIT_HEAD + "".join(f"{s},{w},{a},{b}\n" for s, w, a, b in EQUAL_VISITS[:held]) for held in (3, 4)]
+    lots = [K_STUDENTS.format(31, 250, 7), K_STUDENTS.format(31, 7, 250)]
+
+    def put(state):
+        """The old tables, or the new ones; the students are changed first and changed back last."""
+        for name, contents in [("students.csv", lots), ("visits.csv", visits)][::1 if state else -1]:
+            save(folder, name, contents[state])
+
+    def put_and_rest(state):
+        put(state)
+        time.sleep(0.06)
+
+    def answer(before):
+        put_and_rest(0)
+        return InProcess().run(folder, open=watched(before), AT_REST=0.05)
+
+    for file, number in [(file, number) for file in NEW_FILES for number in (1, 2)]:
+        name = f"replaced before {file} is opened, {number}"
+        answers(name, answer(lambda *opened: opened == (file, number) and put(1)), (0, BEN_PLACED, ""))
+    to_and_fro = {("workshops.csv", 1): 1, ("students.csv", 2): 0, ("workshops.csv", 2): 1}
+    answers("replaced to and fro", answer(lambda *opened: opened in to_and_fro and put_and_rest(to_and_fro[opened])), (0, BEN_PLACED, ""))
+    save(folder, "students.csv", lots[0])
+    answers("what is never there together", desk(folder), (0, K_PLACED, ""))
+    pauses = []
+
+    def change(name, number):
+        if name == "visits.csv":
+            save(folder, "students.csv", K_STUDENTS.format(31, 250, 7 + number))
+
+    clock = SimpleNamespace(sleep=pauses.append, time=time.time, monotonic=lambda: sum(pauses))
+    answers("replaced again and again", InProcess().run(folder, open=watched(change), time=clock), (1, "", CHANGED[:-1]))
+    check("replaced again and again: read again, for a while", len(pauses) > 3 and 1 < sum(pauses) < 10, str(pauses))
+
+
+def rewritten_while_read(folder):
+    """When half of visits.csv is read, both marks of the mill are changed there. Carla is placed before and after; of the first mark of before and the
+    second one of after it would be Ben."""
+    old, new = (VISIT_HEAD + "".join(f"{s},{w},{a},{b}\n" for s, w, a, b in K_VISITS[:2])
+                + f"Ben Olsen,Weaving mill,-1,{ben}\nCarla Roth,Weaving mill,4,{carla}\n" for ben, carla in ((5, 9), (1, 3)))
+    for content in (new, old):
+        write(folder, "visits.csv", content)
+        answers("before and after", desk(folder), (0, K_PLACED, ""))
+    left = [True]
+
+    class Halves(io.FileIO):
+        """A file that is written when half of it is read, once."""
+
+        def read(self):
+            if not (self.name == "visits.csv" and left and left.pop()):
+                return super().read()
+            first = super().read(old.index("Carla"))
+            with open("visits.csv", "r+b") as f:
+                f.write(new.encode())
+            return first + super().read()
+
+    answers("rewritten while it is read", InProcess().run(folder, open=lambda name, mode, **more: Halves(name)
+            if "r" in mode and not more else open(name, mode, **more)), (0, K_PLACED, ""))
+    check("rewritten while it is read: it was", read(folder, "visits.csv") == new.encode() and not left)
+
+
+def half_saved(folder):
+    """workshops.csv is being saved: of the quota 10 the first digit is there. The rest comes while desk.py waits."""
+    add_visits(folder, K_VISITS)
+    process, whole = InProcess(), "workshop,line group,quota\nDye house,3,1\nWeaving mill,3,10\n"
+
+    def rest(seconds):
+        write(folder, "workshops.csv", whole)
+        process.module.AT_REST = 0
+
+    write(folder, "workshops.csv", whole[:-2])
+    status, out, err = process.run(folder, AT_REST=60, time=SimpleNamespace(sleep=rest, time=time.time, monotonic=time.monotonic))
+    check("half saved", status == 0 and "\nWeaving mill, 2 of 10: Ben Olsen, Carla Roth\n" in out, out + err)
+
+
+def stages_while_saved(folder):
+    """The mill's quota becomes 0 and the dye house's groups change while `stages` reads. With the old quota and the new groups no stages would agree."""
+    write(folder, "students.csv", students("Anna Berg,,2\nBen Olsen,,2\nCarla Roth,,2\n"))
+    groups = lambda *dye: pairs("".join(f"{s},Dye house,1,{one}\n{s},Weaving mill,1,{two}\n" for s, one, two in zip(K_NAMES, dye, (1, 2, 2))))
+    write(folder, "pairs.csv", groups(1, 2, 2))
+
+    def change(name, number):
+        if (name, number) == ("pairs.csv", 1):
+            save(folder, "workshops.csv", "workshop,quota,line group\nDye house,1,3\nWeaving mill,0,3\n")
+            save(folder, "pairs.csv", groups(2, 1, 1))
+
+    status, out, err = InProcess().run(folder, "stages", open=watched(change))
+    check("stages while tables are saved", status == 0 and out.startswith("Stage 1: Ben Olsen, Carla Roth\nStage 2: Anna Berg\n"), out + err)
+    check("stages while tables are saved: written", read(folder, "students.csv") == students("Anna Berg,2,2\nBen Olsen,1,2\nCarla Roth,1,2\n").encode())
+
+
 def main():
     NEW_FILES.update(new_files()[0])
     for test in (example_k, guide, never, ends_of_a_visit, nevers_of_a_workshop, lots_drawn, lots_of_many, lots_kept, wrong_lots,
                  writing_lots, equal_marks, fares, fares_column, other_spellings, accents, planned_row, unused_visit, stages_note,
                  withdrawal, too_many_pairs, refusals, other_programs, finding_place, other_folders, stages_of_k, stages_kept, stages_wrong, no_stages,
-                 other_stages_programs, finding_stages, writing_stages, open_in_a_spreadsheet):
+                 other_stages_programs, finding_stages, writing_stages, open_in_a_spreadsheet, parallel_loops, another_run_meanwhile, draws_at_once,
+                 in_use, locks, reading_only, saved_while_written, replaced_while_read, rewritten_while_read, half_saved, stages_while_saved):
         in_new_folder(test)
     wrong_inputs()
     lots_of_new()
