@@ -26,6 +26,7 @@ import os
 import re
 import secrets
 import shutil
+import signal
 import stat
 import struct
 import subprocess
@@ -117,6 +118,10 @@ class Stop(Exception):
     """Something is to be corrected; the text says what."""
 
 
+class Missing(Stop):
+    """A table is not there."""
+
+
 @dataclass
 class Problems:
     """Wrong rows, told together."""
@@ -167,23 +172,29 @@ def read_file(file):
             state = there.st_dev, there.st_ino, there.st_size, there.st_mtime_ns, there.st_ctime_ns
             return Reading(f.read(), state, abs(time.time() - there.st_ctime))
     except FileNotFoundError:
-        raise Stop(f'{file} is not in this folder ({os.getcwd()}). "python3 desk.py new" writes an example to start from.')
+        raise Missing(f'{file} is not in this folder ({os.getcwd()}). "python3 desk.py new" writes an example to start from.')
     except OSError as e:
         raise Stop(f"{file} cannot be read: {e.strerror}.")
 
 
 def read_tables(files):
     """The bytes of these files as they were at one moment: each is read, then each once more, and nothing has changed. Where something has, or did so
-    just before and may be half written, all of them are read again."""
-    end = time.monotonic() + MOMENT
+    just before and may be half written, all of them are read again; and so where one is missing, which may be about to come back."""
+    end, missing = time.monotonic() + MOMENT, 0
     while True:
-        first, second = ({file: read_file(file) for file in files} for _ in range(2))
-        changed = [file for file in files if first[file] != second[file] or first[file].age < AT_REST]
-        if not changed:
-            return {file: reading.data for file, reading in first.items()}
-        if time.monotonic() > end:
-            raise Stop(f"{' and '.join(changed)} changed again and again while desk.py was reading. Nothing was written.\n"
-                       "Type the command again when nobody is saving a table in this folder.")
+        try:
+            first, second = ({file: read_file(file) for file in files} for _ in range(2))
+        except Missing:
+            missing += 1
+            if missing == 5:
+                raise
+        else:
+            missing, changed = 0, [file for file in files if first[file] != second[file] or first[file].age < AT_REST]
+            if not changed:
+                return {file: reading.data for file, reading in first.items()}
+            if time.monotonic() > end:
+                raise Stop(f"{' and '.join(changed)} changed again and again while desk.py was reading. Nothing was written.\n"
+                           "Type the command again when nobody is saving a table in this folder.")
         time.sleep(PAUSE)
 
 
@@ -471,48 +482,60 @@ def book_bytes(year):
 # ---------------------------------------------------------------- writing, one run at a time
 
 
+@dataclass
+class Lock:
+    """What this run needs in order to write: a file that it has locked. Where it could not have that, the reason."""
+    file: object = None
+    reason: str = ""
+
+
+LOCK = Lock()
+
+
 @contextlib.contextmanager
 def one_at_a_time(command):
-    """Of all runs that write students.csv only one at a time is in here; a second one waits a moment, and then says who is.
+    """Of all runs that write students.csv only one at a time is in here; a second one waits a moment, and then says who is. Without a lock one may read.
     The operating system locks a file beside the table, and frees it when the run ends, in whatever way: a file that was left there stops nobody."""
     folder, name = os.path.split(os.path.realpath(STUDENTS))
     path = os.path.join(folder, f".{name}.lock")
-    lock = take_lock(path)
-    if not lock:
+    try:
+        LOCK.file = take_lock(path)
+    except OSError as e:
+        LOCK.reason = f"{e.strerror} ({path})"
+    try:
+        if LOCK.file:
+            sign_lock(LOCK.file, command)
         yield
-        return
-    with lock:
-        sign_lock(lock, command)
-        try:
-            yield
-        finally:
-            if is_at(path, lock):
-                os.remove(path)
+    finally:
+        if LOCK.file:
+            remove_lock(path, LOCK.file)
+            LOCK.file.close()
+            LOCK.file = None
 
 
 def take_lock(path):
-    """The locked file; None where nothing can be written beside the table, and so nothing is to be locked."""
+    """The file, locked. One that this run may not write in, left by somebody else, is made anew where that is allowed."""
     end = time.monotonic() + MOMENT
     while True:
         lock = open_lock(path)
-        if not lock or is_taken(path, lock):
+        if is_taken(path, lock) and (lock.writable() or not remove_lock(path, lock)):
             return lock
-        with lock:
-            holder = "".join(sign for sign in lock.read(400).decode("utf-8", "replace") if sign.isprintable())
+        holder = holder_of(lock)
+        lock.close()
         if time.monotonic() > end:
-            raise Stop(f"{STUDENTS} is in use: {holder or 'another desk.py'}.\nNothing was written. Type the command again when that has ended.")
+            raise Stop(f"{STUDENTS} is in use: {holder}.\nNothing was written. Type the command again when that has ended.")
         time.sleep(PAUSE)
 
 
 def open_lock(path):
-    """Whoever may write in the folder may lock, too: so everybody has rights to this file."""
+    """Everybody has rights to the file, so that whoever may write here can lock. One that was left with fewer rights can be locked if it can be read."""
     before = os.umask(0)
     try:
         return open(os.open(path, os.O_RDWR | os.O_CREAT | os.O_NOFOLLOW, 0o666), "r+b", buffering=0)
-    except OSError as e:
-        if os.access(os.path.dirname(path), os.W_OK):
-            raise Stop(f"{path} cannot be locked: {e.strerror}. Nothing was written.")
-        return None
+    except PermissionError:
+        with contextlib.suppress(OSError):
+            return open(os.open(path, os.O_RDONLY | os.O_NOFOLLOW), "rb", buffering=0)
+        raise
     finally:
         os.umask(before)
 
@@ -521,22 +544,27 @@ def is_taken(path, lock):
     """Whether this run has the lock now. A file that was removed after it was opened locks nothing."""
     try:
         fcntl.flock(lock, fcntl.LOCK_EX | fcntl.LOCK_NB)
-    except BlockingIOError:
+        return is_at(path, lock)
+    except (BlockingIOError, FileNotFoundError):
         return False
-    except OSError as e:
-        raise Stop(f"{path} cannot be locked: {e.strerror}. Nothing was written.")
-    return is_at(path, lock)
 
 
 def is_at(path, lock):
+    return os.path.samestat(os.stat(path), os.fstat(lock.fileno()))
+
+
+def remove_lock(path, lock):
+    """Removes the file, which this run has locked. Whether that was allowed."""
     try:
-        return os.path.samestat(os.stat(path), os.fstat(lock.fileno()))
+        if is_at(path, lock):
+            os.remove(path)
+        return True
     except OSError:
         return False
 
 
 def sign_lock(lock, command):
-    """Writes in it who has it. Where the disk is full the others are not told."""
+    """Writes in it who has it. Where that cannot be written the others are not told."""
     try:
         user = getpass.getuser()
     except (ImportError, KeyError, OSError):    # has no name
@@ -547,9 +575,18 @@ def sign_lock(lock, command):
         lock.write(text.encode("utf-8", "replace"))
 
 
+def holder_of(lock):
+    text = ""
+    with contextlib.suppress(OSError):
+        text = lock.read(400).decode("utf-8", "replace")
+    return "".join(sign for sign in text if sign.isprintable()) or "another desk.py"
+
+
 def write_files(contents, last_look=lambda: None):
     """Writes all files beside their places first, so that none is ever half written; after a last look they take their places. Where a name is a link,
     the file behind it is written."""
+    if not LOCK.file:
+        raise Stop(f"{' and '.join(contents)} cannot be written in this folder: {LOCK.reason}.")
     paths = {name: os.path.realpath(name) for name in contents}
     parts = {name: os.path.join(os.path.dirname(path), f".{os.path.basename(path)}.{os.getpid()}") for name, path in paths.items()}
     try:
@@ -672,7 +709,7 @@ def ask(program, option, files):
                     f.write(data)
             text = run_program(path, folder)
     except OSError as e:
-        raise Stop(f"{' and '.join(files)} cannot be written for `{program}`: {e.strerror}. Nothing was written.")
+        raise Stop(f"{' and '.join(files)} cannot be written for `{program}` among the temporary files: {e.strerror}. Nothing was written.")
     if text == "unread\n":
         raise Stop(f"`{program}` could not read {' and '.join(files)}, which desk.py made for it. Nothing was written.")
     return text
@@ -1051,6 +1088,9 @@ def main():
     options = parser.parse_args()
     sys.stdout.reconfigure(errors="replace")
     sys.stderr.reconfigure(errors="replace")
+    for number in (signal.SIGHUP, signal.SIGTERM):    # so that what is to be removed is removed
+        if signal.getsignal(number) == signal.SIG_DFL:
+            signal.signal(number, lambda number, _: sys.exit(128 + number))
     commands = {"new": lambda: new(options.semicolon), "lots": fill_in_lots, "stages": lambda: work_out_stages(options.stages),
                 "next": lambda: answer(options.place, options.visits)}
     try:

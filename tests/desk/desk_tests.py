@@ -1149,7 +1149,7 @@ def other_folders(folder):
     with tempfile.TemporaryDirectory() as other:
         small_files = lambda: resource.setrlimit(resource.RLIMIT_FSIZE, (100, 100))
         answers("no room for the whole case", desk(folder, first=small_files, TMPDIR=other),
-                (1, "", "case.dat and book.dat cannot be written for `place`: File too large. Nothing was written.\n"))
+                (1, "", "case.dat and book.dat cannot be written for `place` among the temporary files: File too large. Nothing was written.\n"))
         for name in ("case.dat", "book.dat"):
             before[name] = b"as it was"
             write(folder, name, before[name])
@@ -1387,7 +1387,7 @@ def writing_stages(folder):
     long = students("Anna Berg,,2\nBen Olsen,,2\nCarla Roth,,2\n").replace("\n", "," + 100 * "x" + "\n")
     write(folder, "students.csv", long)
     before = read_all(folder)
-    for limit, message in ((100, "case.dat cannot be written for `stages`: File too large. Nothing was written.\n"),
+    for limit, message in ((100, "case.dat cannot be written for `stages` among the temporary files: File too large. Nothing was written.\n"),
                            (300, "students.csv cannot be written in this folder: File too large.\n")):
         answers(f"room for {limit} bytes", desk(folder, "stages", first=lambda: resource.setrlimit(resource.RLIMIT_FSIZE, (limit, limit))), (1, "", message))
         check(f"room for {limit} bytes: all is kept", read_all(folder) == before, str(os.listdir(folder)))
@@ -1582,6 +1582,7 @@ def told_steps(err):
 LOCK = ".students.csv.lock"
 IN_USE = "students.csv is in use: {}.\nNothing was written. Type the command again when that has ended.\n"
 GUIDE_HOLDER = "desk.py stages, typed by anna on college7, process 4711, since 2026-11-17 14:05:11"
+UNLOCKED = "students.csv cannot be written in this folder: {} ({})."
 CHANGED = ("students.csv changed again and again while desk.py was reading. Nothing was written.\n"
            "Type the command again when nobody is saving a table in this folder.\n")
 
@@ -1622,7 +1623,6 @@ def parallel_loops(folder):
         told = [answer for answers_of_one in clerks.map(clerk, range(6)) for answer in answers_of_one]
     for answer in told:
         check("six at once: an answer of one of the two orders", answer in [(0, placed, "") for placed in TWO_PLACED], str(answer))
-    check("six at once: both orders are met", {answer[1] for answer in told} == set(TWO_PLACED))
     check("six at once: nothing is left behind", sorted(os.listdir(folder)) == sorted(NEW_FILES), str(os.listdir(folder)))
 
 
@@ -1666,35 +1666,41 @@ def draws_at_once(folder):
     answers("new at once", told, [(0, NEW_SAYS, "")] + [(1, "", there)] * 5)
 
 
+@contextlib.contextmanager
+def endless_stages(folder, other):
+    """A `desk.py stages` that Anna has typed, with a program that does not end; its temporary files are in the other folder."""
+    endless = program(other, "endless", "touch started\nexec sleep 60")
+    run = subprocess.Popen([sys.executable, DESK, "stages"], cwd=folder, env={**os.environ, "STAGES": endless, "TMPDIR": other, "LOGNAME": "anna"},
+                           stdin=subprocess.DEVNULL, stdout=subprocess.DEVNULL, stderr=subprocess.DEVNULL, start_new_session=True)
+    try:
+        while run.poll() is None and not any(os.path.exists(os.path.join(other, name, "started")) for name in os.listdir(other)):
+            time.sleep(0.01)
+        yield run
+    finally:
+        with contextlib.suppress(ProcessLookupError):
+            os.killpg(run.pid, signal.SIGKILL)
+        run.wait()
+
+
 def in_use(folder):
     """Where a run does not end, another one that would write says who it is, after a moment; one that only reads is not held up. When the first is
     killed its lock is left behind, and stops nobody; nor does the one that it found."""
     blank = K_STUDENTS.format("", 2, 3)
     write(folder, LOCK, 300 * "x")
-    with tempfile.TemporaryDirectory() as other:
-        endless = program(other, "endless", f"touch {other}/started\nexec sleep 60")
-        run = subprocess.Popen([sys.executable, DESK, "stages"], cwd=folder, env={**os.environ, "STAGES": endless, "TMPDIR": other, "LOGNAME": "anna"},
-                               stdin=subprocess.DEVNULL, stdout=subprocess.DEVNULL, stderr=subprocess.DEVNULL, start_new_session=True)
-        try:
-            while run.poll() is None and not os.path.exists(os.path.join(other, "started")):
-                time.sleep(0.01)
-            check("in use: desk.py answers", desk(folder)[1].startswith("Next visit: "), str(desk(folder)))
-            write(folder, "students.csv", blank)
-            status, out, err = desk(folder, "lots")
-            who = f"desk.py stages, typed by anna on {os.uname().nodename}, process {run.pid}, since "
-            when = re.escape(IN_USE.format(who + "WHEN")).replace("WHEN", "[-0-9]{10} [:0-9]{8}")
-            check("in use", (status, out) == (1, "") and re.fullmatch(when, err), out + err)
-            check("in use: nothing is written", read(folder, "students.csv") == blank.encode())
-            run.kill()
-            run.wait()
-            check("killed: its lock is left, and `stages` goes on", os.path.exists(os.path.join(folder, LOCK)) and os.killpg(run.pid, 0) is None)
-            status, out, err = desk(folder, "lots")
-            check("killed: the next one goes on", status == 0 and "Anna Berg (drawn)\n" in out, out + err)
-            check("killed: its lock is gone", sorted(os.listdir(folder)) == sorted(NEW_FILES), str(os.listdir(folder)))
-        finally:
-            with contextlib.suppress(ProcessLookupError):
-                os.killpg(run.pid, signal.SIGKILL)
-            run.wait()
+    with tempfile.TemporaryDirectory() as other, endless_stages(folder, other) as run:
+        check("in use: desk.py answers", desk(folder)[1].startswith("Next visit: "), str(desk(folder)))
+        write(folder, "students.csv", blank)
+        status, out, err = desk(folder, "lots")
+        who = f"desk.py stages, typed by anna on {os.uname().nodename}, process {run.pid}, since "
+        when = re.escape(IN_USE.format(who + "WHEN")).replace("WHEN", "[-0-9]{10} [:0-9]{8}")
+        check("in use", (status, out) == (1, "") and re.fullmatch(when, err), out + err)
+        check("in use: nothing is written", read(folder, "students.csv") == blank.encode())
+        run.kill()
+        run.wait()
+        check("killed: its lock is left, and `stages` goes on", os.path.exists(os.path.join(folder, LOCK)) and os.killpg(run.pid, 0) is None)
+        status, out, err = desk(folder, "lots")
+        check("killed: the next one goes on", status == 0 and "Anna Berg (drawn)\n" in out, out + err)
+        check("killed: its lock is gone", sorted(os.listdir(folder)) == sorted(NEW_FILES), str(os.listdir(folder)))
 
 
 def locked(path, text, run):
@@ -1706,6 +1712,29 @@ def locked(path, text, run):
             return run()
         finally:
             os.remove(path)
+
+
+def ended_by_signals(folder):
+    """`kill` and a closed terminal end a run and its program, and nothing is left behind."""
+    with tempfile.TemporaryDirectory() as other:
+        for number in (signal.SIGTERM, signal.SIGHUP):
+            with endless_stages(folder, other) as run:
+                run.send_signal(number)
+                answers("ended by a signal", run.wait(), 128 + number)
+                check("ended by a signal: so is `stages`", is_gone(run.pid))
+                check("ended by a signal: nothing is left", sorted(os.listdir(folder)) == sorted(NEW_FILES) and os.listdir(other) == ["endless"],
+                      f"{os.listdir(folder)} {os.listdir(other)}")
+
+
+def is_gone(group):
+    """Whether nobody of this group of processes is left; one that has ended may take a moment to go."""
+    for _ in range(100):
+        try:
+            os.killpg(group, 0)
+        except ProcessLookupError:
+            return True
+        time.sleep(0.02)
+    return False
 
 
 def locks(folder):
@@ -1724,17 +1753,15 @@ def locks(folder):
         answers("a lock behind a link", locked(behind, b"desk.py", short), (1, "", IN_USE.format("desk.py")[:-1]))
         os.symlink(os.path.join(folder, "visits.csv"), behind)
         before = read_all(folder)
-        answers("a link as the lock", short(), (1, "", f"{behind} cannot be locked: {os.strerror(errno.ELOOP)}. Nothing was written."))
-        check("a link as the lock: nothing is written", read_all(folder) == before)
+        answers("a link as the lock", short(), (1, "", UNLOCKED.format(os.strerror(errno.ELOOP), behind)))
         os.remove(behind)
-
-        def no_locks(*_):
-            raise OSError(errno.ENOLCK, os.strerror(errno.ENOLCK))
-
-        answers("a disk without locks", process.run(folder, "lots", fcntl=SimpleNamespace(flock=no_locks, LOCK_EX=0, LOCK_NB=0)),
-                (1, "", f"{behind} cannot be locked: {os.strerror(errno.ENOLCK)}. Nothing was written."))
-        check("a disk without locks: nothing is written", read_all(folder) == before)
+        no_locks = {"fcntl": SimpleNamespace(flock=fails(errno.ENOLCK), LOCK_EX=0, LOCK_NB=0)}
+        answers("a disk without locks", process.run(folder, "lots", **no_locks), (1, "", UNLOCKED.format(os.strerror(errno.ENOLCK), behind)))
+        check("without a lock: nothing is written", read_all(folder) == before)
         check("behind a link: lots", desk(folder, "lots")[0] == 0 and os.listdir(other) == ["shared.csv"], str(os.listdir(other)))
+        check("a disk without locks: lots that are there", process.run(folder, "lots", **no_locks)[1].endswith(LOTS_THERE))
+        check("an empty disk quota: lots that are there",
+              desk(folder, "lots", first=lambda: resource.setrlimit(resource.RLIMIT_FSIZE, (0, 0)))[1].endswith(LOTS_THERE))
     with process.module.open_lock(path) as one, process.module.open_lock(path) as two:
         check("a lock is everybody's", stat.S_IMODE(os.stat(path).st_mode) == 0o666)
         check("a lock is taken once", process.module.is_taken(path, one) and not process.module.is_taken(path, two))
@@ -1743,34 +1770,117 @@ def locks(folder):
         check("a removed lock is none", not process.module.is_taken(path, two))
 
 
-def reading_only(folder):
-    """In a folder in which nothing can be written the lots that are there are told."""
+def fails(number):
+    def what(*_):
+        raise OSError(number, os.strerror(number))
+    return what
+
+
+def held_to_the_end(folder):
+    """Nobody else can take the lock while its file is removed; and rights of new files are as they were."""
+    write(folder, "students.csv", K_STUDENTS.format("", 2, 3))
+    process, remove, taken = InProcess(), os.remove, []
+
+    def removing(path):
+        if os.path.basename(path) == LOCK:
+            with open(path, "rb") as other:
+                taken.append(process.module.is_taken(path, other))
+        remove(path)
+
+    os.remove = removing
+    try:
+        status, out, err = process.run(folder, "lots")
+    finally:
+        os.remove = remove
+    check("held to the end", status == 0 and taken == [False], f"{out}{err}{taken}")
+    with tempfile.TemporaryDirectory() as other:
+        desk(other, "new", first=lambda: os.umask(0o027))
+        check("rights of new files", {stat.S_IMODE(os.stat(os.path.join(other, name)).st_mode) for name in NEW_FILES} == {0o640})
+
+
+# Locks that somebody else left: rights of the folder, whose students.csv is, and rights of the lock; whether lots can be written.
+LEFT = [
+    (0o555, 0, 0o666, False),
+    (0o555, 0, 0o644, False),
+    (0o777, 0, 0o666, True),
+    (0o777, 0, 0o644, True),
+    (0o777, 0, 0o600, False),
+    (0o1777, 54321, 0o666, True),
+    (0o1777, 54321, 0o644, True),
+]
+
+
+def left_by_others(folder):
+    """A lock that somebody else left stops nobody who can read it, nor does a folder in which nothing can be written: lots that are there are told, and
+    where students.csv can be written, lots are drawn. (Only root can be somebody else.)"""
     path, listed = os.path.join(folder, "students.csv"), "".join(f"  {lot:3}  {name}\n" for lot, name in enumerate(K_NAMES, 1))
-    for first, wanted in (("1", (0, "The lots, the lowest first:\n" + listed + LOTS_THERE, "")),
-                          ("", (1, "", "students.csv cannot be written in this folder: Permission denied."))):
-        write(folder, "students.csv", K_STUDENTS.format(first, 2, 3))
-        os.chmod(path, 0o666)
-        os.chmod(folder, 0o555)
-        answers("reading only", without_rights(folder, "lots"), wanted)
-        os.chmod(folder, 0o755)
+    for rights, owner, rights_of_lock, written in LEFT if os.getuid() == 0 else []:
+        name = f"a lock {rights_of_lock:o} in a folder {rights:o}"
+        for first in ("1", ""):
+            write(folder, "students.csv", K_STUDENTS.format(first, 2, 3))
+            write(folder, LOCK, "desk.py")
+            os.chown(path, owner, -1)
+            for file, its in ((path, 0o666), (os.path.join(folder, LOCK), rights_of_lock), (folder, rights)):
+                os.chmod(file, its)
+            status, out, err = as_user(54321, folder, "lots")
+            if first:
+                answers(f"{name}: lots that are there", (status, out, err), (0, "The lots, the lowest first:\n" + listed + LOTS_THERE, ""))
+            elif written:
+                check(f"{name}: lots are drawn", status == 0 and "Anna Berg (drawn)" in out and are_lots(lots_in(folder), 3), out + err)
+            else:
+                check(f"{name}: lots are not drawn", (status, lots_in(folder)) == (1, [None, 2, 3])
+                      and err.startswith("students.csv cannot be written in this folder: Permission denied"), out + err)
+            os.chmod(folder, 0o700)
 
 
-def without_rights(folder, command):
-    """What the command says to somebody who has no rights but everybody's."""
+def signed_by_others(folder):
+    """A lock that somebody else left, and that one may not write, is made anew, so that it says who has it. (Only root can be somebody else.)"""
+    if os.getuid():
+        return
+    process = InProcess()
+
+    def told(*_):
+        raise process.module.Stop(read(folder, LOCK).decode())
+
+    write(folder, "students.csv", K_STUDENTS.format("", 2, 3))
+    write(folder, LOCK, "desk.py stages, typed by anna")
+    os.chmod(folder, 0o777)
+    status, out, err = as_user(54321, folder, "lots", draw_lots=told)
+    check("a lock made anew", status == 1 and err.startswith("desk.py lots, typed by user 54321 "), out + err)
+
+
+def as_user(number, folder, command, **settings):
+    """What the command says to a user who has no name, and no rights but everybody's."""
     reader, writer = os.pipe()
     child = os.fork()
     if not child:
         try:
             os.chdir("/")
-            if os.getuid() == 0:
-                os.setuid(65534)
-            os.write(writer, json.dumps(InProcess().run(folder, command)).encode())
+            for name in ("LOGNAME", "USER", "LNAME", "USERNAME"):
+                os.environ.pop(name, None)
+            os.setgroups([])
+            os.setgid(number)
+            os.setuid(number)
+            os.write(writer, json.dumps(InProcess().run(folder, command, **settings)).encode())
         finally:
             os._exit(0)
     os.close(writer)
     os.waitpid(child, 0)
     with open(reader, "rb") as f:
-        return tuple(json.loads(f.read()))
+        return tuple(json.loads(f.read() or b'[2, "", "it failed"]'))
+
+
+def saved_while_written(folder):
+    """Somebody saves students.csv while the new one goes to the disk: it is not written over, and no lot is told."""
+    blank, saved, fsync = K_STUDENTS.format("", 2, 3), K_STUDENTS.format("", 2, 4), os.fsync
+    write(folder, "students.csv", blank)
+    os.fsync = lambda file: save(folder, "students.csv", saved)
+    try:
+        told = InProcess().run(folder, "lots")
+    finally:
+        os.fsync = fsync
+    answers("saved while it is written", told, (1, "", MEANWHILE))
+    check("saved while it is written: kept", read(folder, "students.csv") == saved.encode() and sorted(os.listdir(folder)) == sorted(NEW_FILES))
 
 
 def watched(before):
@@ -1783,19 +1893,6 @@ def watched(before):
         return open(name, *rest, **more)
 
     return opening
-
-
-def saved_while_written(folder):
-    """Somebody saves students.csv while the new one goes to the disk: it is not written over, and no lot is told."""
-    blank, saved, fsync = K_STUDENTS.format("", 2, 3), K_STUDENTS.format("", 2, 3) + "Dora Lund,1,2,\n", os.fsync
-    write(folder, "students.csv", blank)
-    os.fsync = lambda file: save(folder, "students.csv", saved)
-    try:
-        told = InProcess().run(folder, "lots")
-    finally:
-        os.fsync = fsync
-    answers("saved while it is written", told, (1, "", MEANWHILE))
-    check("saved while it is written: kept", read(folder, "students.csv") == saved.encode() and sorted(os.listdir(folder)) == sorted(NEW_FILES))
 
 
 def replaced_while_read(folder):
@@ -1819,7 +1916,7 @@ def replaced_while_read(folder):
 
     for file, number in [(file, number) for file in NEW_FILES for number in (1, 2)]:
         name = f"replaced before {file} is opened, {number}"
-        answers(name, answer(lambda *opened: opened == (file, number) and put(1)), (0, BEN_PLACED, ""))
+        answers(name, answer(lambda *opened: opened == (file, number) and put_and_rest(1)), (0, BEN_PLACED, ""))
     to_and_fro = {("workshops.csv", 1): 1, ("students.csv", 2): 0, ("workshops.csv", 2): 1}
     answers("replaced to and fro", answer(lambda *opened: opened in to_and_fro and put_and_rest(to_and_fro[opened])), (0, BEN_PLACED, ""))
     save(folder, "students.csv", lots[0])
@@ -1861,18 +1958,76 @@ def rewritten_while_read(folder):
     check("rewritten while it is read: it was", read(folder, "visits.csv") == new.encode() and not left)
 
 
+def rewritten_to_and_fro(folder):
+    """Lots and a mark are changed in the files, to and fro, and the times of the last change set back. The new lots and the old mark are read, twice, but
+    are never there together; Ben would be placed by them."""
+    old = {"students.csv": K_STUDENTS.format(31, 250, 7), "visits.csv": VISIT_HEAD + "".join("{},{},{},{}\n".format(*visit) for visit in EQUAL_VISITS)}
+    new = {"students.csv": K_STUDENTS.format(31, 7, 250), "visits.csv": old["visits.csv"].replace("mill,4,1", "mill,4,6")}
+
+    def put(contents, *names):
+        for path in (os.path.join(folder, name) for name in names):
+            times = os.stat(path)
+            with open(path, "r+b") as f:
+                f.write(contents[os.path.basename(path)].encode())
+            os.utime(path, ns=(times.st_atime_ns, times.st_mtime_ns))
+        time.sleep(0.06)
+
+    def before(*opened):
+        if opened in (("workshops.csv", 1), ("workshops.csv", 2)):
+            put(old, "students.csv", "visits.csv")
+        elif opened == ("students.csv", 2):
+            put(new, "visits.csv", "students.csv")
+
+    for name in new:
+        write(folder, name, new[name])
+    time.sleep(0.06)
+    answers("rewritten to and fro", InProcess().run(folder, open=watched(before), AT_REST=0.05), (0, K_PLACED, ""))
+    write(folder, "students.csv", new["students.csv"])
+    answers("rewritten to and fro: what is never there together", desk(folder), (0, BEN_PLACED, ""))
+
+
 def half_saved(folder):
-    """workshops.csv is being saved: of the quota 10 the first digit is there. The rest comes while desk.py waits."""
+    """workshops.csv is being saved: of the quota 10 the first digit is there. The rest comes while desk.py waits, as it does 0.03 s after a change, whatever
+    time the file has. So with a student of whose name two letters are there."""
+    process, whole, names = InProcess(), "workshop,line group,quota\nDye house,3,1\nWeaving mill,3,10\n", "student,lot\nAnna Berg,1\nBen Olsen,\n"
+    rest = getattr(process.module, "AT_REST", 0)
+
+    def waiting(command, name, part, content):
+        write(folder, name, part)
+        os.utime(os.path.join(folder, name), (0, 0))
+        now = [os.stat(os.path.join(folder, name)).st_ctime + 0.03]
+
+        def sleep(seconds):
+            write(folder, name, content)
+            now[0] += 100
+
+        clock = SimpleNamespace(sleep=sleep, time=lambda: now[0], monotonic=lambda: 0, strftime=time.strftime)
+        return process.run(folder, command, AT_REST=rest, time=clock)
+
     add_visits(folder, K_VISITS)
-    process, whole = InProcess(), "workshop,line group,quota\nDye house,3,1\nWeaving mill,3,10\n"
-
-    def rest(seconds):
-        write(folder, "workshops.csv", whole)
-        process.module.AT_REST = 0
-
-    write(folder, "workshops.csv", whole[:-2])
-    status, out, err = process.run(folder, AT_REST=60, time=SimpleNamespace(sleep=rest, time=time.time, monotonic=time.monotonic))
+    status, out, err = waiting("answer", "workshops.csv", whole[:-2], whole)
     check("half saved", status == 0 and "\nWeaving mill, 2 of 10: Ben Olsen, Carla Roth\n" in out, out + err)
+    status, out, err = waiting("lots", "students.csv", names[:-9], names)
+    check("half saved: lots", status == 0 and "  Ben Olsen (drawn)\n" in out and "  1  Anna Berg\n" in out, out + err)
+
+
+def gone_for_a_moment(folder):
+    """A table is removed, and made again while desk.py waits. One that stays away is told."""
+    pauses = []
+
+    def back(seconds):
+        pauses.append(seconds)
+        write(folder, "pairs.csv", NEW_FILES["pairs.csv"])
+
+    def remove(*opened):
+        if opened == ("pairs.csv", 1):
+            os.remove("pairs.csv")
+
+    clock = lambda sleep: SimpleNamespace(sleep=sleep, time=time.time, monotonic=lambda: sum(pauses))
+    status, out, err = InProcess().run(folder, open=watched(remove), time=clock(back))
+    check("gone for a moment", status == 0 and out.startswith("Next visit: ") and len(pauses) == 1, out + err)
+    status, out, err = InProcess().run(folder, open=watched(remove), time=clock(pauses.append))
+    check("gone", (status, out) == (1, "") and err.startswith("pairs.csv is not in this folder ") and sum(pauses) < 1, f"{out}{err}{pauses}")
 
 
 def stages_while_saved(folder):
@@ -1897,7 +2052,8 @@ def main():
                  writing_lots, equal_marks, fares, fares_column, other_spellings, accents, planned_row, unused_visit, stages_note,
                  withdrawal, too_many_pairs, refusals, other_programs, finding_place, other_folders, stages_of_k, stages_kept, stages_wrong, no_stages,
                  other_stages_programs, finding_stages, writing_stages, open_in_a_spreadsheet, parallel_loops, another_run_meanwhile, draws_at_once,
-                 in_use, locks, reading_only, saved_while_written, replaced_while_read, rewritten_while_read, half_saved, stages_while_saved):
+                 in_use, ended_by_signals, locks, held_to_the_end, left_by_others, signed_by_others, saved_while_written, replaced_while_read,
+                 rewritten_while_read, rewritten_to_and_fro, half_saved, gone_for_a_moment, stages_while_saved):
         in_new_folder(test)
     wrong_inputs()
     lots_of_new()
