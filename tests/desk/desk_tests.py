@@ -1844,7 +1844,8 @@ def signed_by_others(folder):
 
     write(folder, "students.csv", K_STUDENTS.format("", 2, 3))
     write(folder, LOCK, "desk.py stages, typed by anna")
-    os.chmod(folder, 0o777)
+    for path, rights in ((os.path.join(folder, "students.csv"), 0o666), (os.path.join(folder, LOCK), 0o644), (folder, 0o777)):
+        os.chmod(path, rights)
     status, out, err = as_user(54321, folder, "lots", draw_lots=told)
     check("a lock made anew", status == 1 and err.startswith("desk.py lots, typed by user 54321 "), out + err)
 
