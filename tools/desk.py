@@ -159,7 +159,7 @@ def clean(text):
 
 @dataclass
 class Reading:
-    """What was read of a file: its bytes, what changes whenever they do, and how many seconds ago that was, by a clock that may be another computer's."""
+    """What was read of a file: its bytes, what changes whenever they do, and how many seconds before that was, by a clock that may be another computer's."""
     data: bytes
     state: tuple
     age: float = field(compare=False)
@@ -169,8 +169,9 @@ def read_file(file):
     try:
         with open(file, "rb") as f:
             there = os.fstat(f.fileno())
+            age = abs(time.time() - there.st_ctime)    # before it is read, which may take long
             state = there.st_dev, there.st_ino, there.st_size, there.st_mtime_ns, there.st_ctime_ns
-            return Reading(f.read(), state, abs(time.time() - there.st_ctime))
+            return Reading(f.read(), state, age)
     except FileNotFoundError:
         raise Missing(f'{file} is not in this folder ({os.getcwd()}). "python3 desk.py new" writes an example to start from.')
     except OSError as e:
