@@ -1,7 +1,7 @@
-/* Calls of lgs_place and lgs_stages from C, each buffer between two pages that cannot be touched. Last line 'N passed, M failed'. */
+/* Calls of lgs_place and lgs_stages from C, each buffer between two pages that cannot be touched, and the place of each answer full of 0xA5 before the
+ * call. Last line 'N passed, M failed'. */
 #define _GNU_SOURCE
-#include "lgs_place.h"
-#include "lgs_stages.h"
+#include "lgs.h"
 
 #include <pthread.h>
 #include <stdio.h>
@@ -74,6 +74,12 @@ static void only_read(void *bytes, size_t length)
         exit(2);
 }
 
+/* The functions as the machine calls them: the address of the answer's place goes in first, and comes back. So the place is ours, and full of 0xA5: a
+ * field that is written only in part shows, and so does what is written behind the last one. */
+lgs_report *place_into(lgs_report *, const uint8_t *, size_t, const uint8_t *, size_t, uint16_t *, size_t, uint16_t *, size_t,
+                       uint16_t *, size_t, uint16_t *, size_t, lgs_student_state *, size_t) __asm__("lgs_place");
+lgs_part_report *stages_into(lgs_part_report *, const uint8_t *, size_t, uint16_t *, size_t) __asm__("lgs_stages");
+
 /* What is lent in one call. */
 typedef struct {
     const uint8_t *case_bytes, *book_bytes;
@@ -83,8 +89,10 @@ typedef struct {
 /* What came back. */
 typedef struct {
     lgs_report report;
+    uint8_t behind[64];
     uint16_t places[512], visits[8192];
-    int zero; /* all scratch is zero */
+    int zero;   /* all scratch is zero */
+    int within; /* the answer's address came back, and what is behind it is as it was */
 } result;
 
 static int all_zero(const void *bytes, size_t length)
@@ -92,6 +100,14 @@ static int all_zero(const void *bytes, size_t length)
     const uint8_t *b = bytes;
     for (size_t i = 0; i < length; i++)
         if (b[i] != 0)
+            return 0;
+    return 1;
+}
+
+static int all_lent(const uint8_t *bytes, size_t length)
+{
+    for (size_t i = 0; i < length; i++)
+        if (bytes[i] != 0xA5)
             return 0;
     return 1;
 }
@@ -110,8 +126,10 @@ static result call(loan l, int at_end)
     only_read(b[0], size[0]);
     only_read(b[1], size[1]);
     result r;
-    memset(&r, 0, sizeof r);
-    r.report = lgs_place(b[0], l.case_length, b[1], l.book_length, b[2], l.places, b[3], l.visits, b[4], l.seats, b[5], l.index, b[6], l.states);
+    memset(&r, 0xA5, sizeof r);
+    lgs_report *at = place_into(&r.report, b[0], l.case_length, b[1], l.book_length, b[2], l.places, b[3], l.visits, b[4], l.seats, b[5], l.index,
+                                b[6], l.states);
+    r.within = at == &r.report && all_lent(r.behind, sizeof r.behind);
     memcpy(r.places, b[2], size[2]);
     memcpy(r.visits, b[3], size[3]);
     r.zero = all_zero(b[4], size[4]) && all_zero(b[5], size[5]) && all_zero(b[6], size[6]);
@@ -157,7 +175,7 @@ static void placement(loan l, uint64_t fares, int at_end)
     check(is(r.report, LGS_PLACED, 0, 0, VISITS, fares), "K is placed");
     check(memcmp(r.places, K_PLACES, sizeof K_PLACES) == 0 && as_lent(r.places, STUDENTS, l.places), "K's places");
     check(memcmp(r.visits, K_VISITS, sizeof K_VISITS) == 0 && as_lent(r.visits, 2 * VISITS, l.visits), "K's visits");
-    check(r.zero, "scratch is zero after a placement");
+    check(r.zero && r.within, "scratch is zero after a placement, and nothing is written behind the answer");
 }
 
 static void next_visit(loan l, uint64_t student, uint64_t workshop, uint64_t visits, uint64_t fares, int at_end)
@@ -166,7 +184,7 @@ static void next_visit(loan l, uint64_t student, uint64_t workshop, uint64_t vis
     check(is(r.report, LGS_NEXT, student, workshop, visits, fares), "the next visit");
     check(as_lent(r.places, 0, l.places), "a next visit leaves the places");
     check(memcmp(r.visits, K_VISITS, 4 * visits) == 0 && as_lent(r.visits, 2 * visits, l.visits), "visits up to the next one");
-    check(r.zero, "scratch is zero after a next visit");
+    check(r.zero && r.within, "scratch is zero after a next visit, and nothing is written behind the answer");
 }
 
 static void refusal(loan l, uint64_t number, uint64_t place, const char *what, int at_end)
@@ -174,7 +192,7 @@ static void refusal(loan l, uint64_t number, uint64_t place, const char *what, i
     result r = call(l, at_end);
     check(is(r.report, LGS_REFUSED, number, place, 0, 0), what);
     check(as_lent(r.places, 0, l.places) && as_lent(r.visits, 0, l.visits), "a refusal leaves places and visits");
-    check(r.zero, "scratch is zero after a refusal");
+    check(r.zero && r.within, "scratch is zero after a refusal, and nothing is written behind the answer");
 }
 
 /* A copy of K's case or book with one byte changed. */
@@ -395,7 +413,9 @@ static const uint16_t K_STAGES[STUDENTS] = {1, 2, 2};
 /* What came back from lgs_stages. */
 typedef struct {
     lgs_part_report report;
+    uint8_t behind[64];
     uint16_t stages[LGS_MOST_STAGES];
+    int within;
 } stages_result;
 
 /* One call of lgs_stages with the case and the buffer at a forbidden page, the buffer full of 0xA5. */
@@ -406,7 +426,9 @@ static stages_result call_stages(const uint8_t *bytes, size_t length, size_t roo
     memset(lent, 0xA5, 2 * room);
     only_read(lent_case, length);
     stages_result r;
-    r.report = lgs_stages(lent_case, length, lent, room);
+    memset(&r, 0xA5, sizeof r);
+    lgs_part_report *at = stages_into(&r.report, lent_case, length, lent, room);
+    r.within = at == &r.report && all_lent(r.behind, sizeof r.behind);
     memcpy(r.stages, lent, 2 * room);
     give_back(lent_case, length, at_end);
     give_back(lent, 2 * room, at_end);
@@ -422,14 +444,14 @@ static void stages_refusal(const uint8_t *bytes, size_t length, size_t room, uin
 {
     stages_result r = call_stages(bytes, length, room, at_end);
     check(is_part(r.report, LGS_REFUSED, number, place), what);
-    check(as_lent(r.stages, 0, room), "a refusal leaves the stages");
+    check(as_lent(r.stages, 0, room) && r.within, "a refusal leaves the stages, and nothing is written behind the answer");
 }
 
 static void stages_done(const uint8_t *bytes, size_t room, int at_end)
 {
     stages_result r = call_stages(bytes, sizeof K_CASE, room, at_end);
     check(is_part(r.report, LGS_DONE, STUDENTS, 0), "K has stages");
-    check(memcmp(r.stages, K_STAGES, sizeof K_STAGES) == 0 && as_lent(r.stages, STUDENTS, room), "K's stages");
+    check(memcmp(r.stages, K_STAGES, sizeof K_STAGES) == 0 && as_lent(r.stages, STUDENTS, room) && r.within, "K's stages");
 }
 
 /* Lots are tested after 5, and before 6 and 12. */

@@ -1,7 +1,7 @@
 """lgs_place and lgs_stages from Python by ctypes. The arguments stand in the order in which the header names them, so two names that are
 swapped there give a wrong answer here. Last line 'N passed, M failed'.
 
-    python3 from_python.py LIBRARY.SO FOLDER_OF_HEADERS
+    python3 from_python.py LIBRARY.SO HEADER
 """
 import ctypes
 import os
@@ -55,8 +55,9 @@ def load(library, header, name, report):
     return function, parameters
 
 
-def call(function, parameters, files, lengths):
-    """One call; the report and the buffers by name. Each buffer is longer than is said, so that a wrong length harms nothing."""
+def call(function, parameters, files, lengths, nulls=False):
+    """One call; the report and the buffers by name. Each buffer is longer than is said, so that a wrong length harms nothing; with nulls those of length 0
+    are null."""
     count = {**{name: len(content) for name, content in files.items()}, **lengths}
     lent = {}
     for kind, pointer, name in parameters:
@@ -65,7 +66,8 @@ def call(function, parameters, files, lengths):
     for name, content in files.items():
         lent[name][:len(content)] = content
     said = {name.replace("_bytes", "") + "_length": number for name, number in count.items()}
-    report = function(*[lent[name] if pointer else said[name] for _, pointer, name in parameters])
+    pointers = {name: None if nulls and count[name] == 0 else buffer for name, buffer in lent.items()}
+    report = function(*[pointers[name] if pointer else said[name] for _, pointer, name in parameters])
     return tuple(getattr(report, field) for field, _ in report._fields_), lent
 
 
@@ -103,8 +105,8 @@ def test_place(library, header):
     check("the state's fields", header_fields(header, "lgs_student_state") == StudentState._fields_)
     function, parameters = load(library, header, "lgs_place", Report)
 
-    def place(case, book, lengths):
-        return call(function, parameters, {"case_bytes": case, "book_bytes": book}, lengths)
+    def place(case, book, lengths, nulls=False):
+        return call(function, parameters, {"case_bytes": case, "book_bytes": book}, lengths, nulls)
 
     report, lent = place(K, K_BOOK, EXACT)
     check("K", report == (0, 0, 0, 4, 0), report)
@@ -112,6 +114,12 @@ def test_place(library, header):
     check("K's visits", lent["visits"][:9] == [1, 1, 1, 2, 2, 2, 3, 2, 0], lent["visits"][:9])
     report, lent = place(K, b"", EXACT)
     check("K with an empty book", report == (1, 1, 1, 0, 0), report)
+    report, lent = place(K, b"", EXACT, nulls=True)
+    check("K with a book that is null", report == (1, 1, 1, 0, 0), report)
+    report, lent = place(b"", b"", dict.fromkeys(EXACT, 0), nulls=True)
+    check("everything null", report == (2, 4, 0, 0, 0), report)
+    report, lent = place(K, K_BOOK, dict.fromkeys(EXACT, 0), nulls=True)
+    check("every buffer null", report == (2, 6, 0, 0, 0), report)
     report, lent = place(K, K_BOOK[:16], EXACT)
     check("K with two visits", report == (1, 2, 2, 2, 0), report)
     report, lent = place(K, K_BOOK[:-1], EXACT)
@@ -151,8 +159,8 @@ def test_stages(library, header):
     check("the part's report's fields", header_fields(header, "lgs_part_report") == PartReport._fields_)
     function, parameters = load(library, header, "lgs_stages", PartReport)
 
-    def stages(case, room):
-        report, lent = call(function, parameters, {"case_bytes": case}, {"stages": room})
+    def stages(case, room, nulls=False):
+        report, lent = call(function, parameters, {"case_bytes": case}, {"stages": room}, nulls)
         return report, lent["stages"]
 
     report, left = stages(K, 3)
@@ -162,6 +170,8 @@ def test_stages(library, header):
         check(f"K's stages, fares {fares}", report == (0, 3, 0) and left[:4] == [1, 2, 2, 0], (report, left[:4]))
     report, left = stages(K, 2)
     check("stages short", report == (2, 6, 0) and left[:4] == [0] * 4, (report, left[:4]))
+    check("the stages null", stages(K, 0, nulls=True)[0] == (2, 6, 0))
+    check("case and stages null", stages(b"", 0, nulls=True)[0] == (2, 4, 0))
     report, left = stages(K[:-1], 3)
     check("stages, a byte short", report == (2, 1, 0) and left[:4] == [0] * 4, (report, left[:4]))
     for lots, at in LOTS_WRONG:
@@ -185,10 +195,11 @@ def full_case(group, wish=lambda w: w, fare=0):
 
 
 def main():
-    library = ctypes.CDLL(sys.argv[1])
-    for name, test in [("lgs_place.h", test_place), ("lgs_stages.h", test_stages)]:
-        with open(os.path.join(sys.argv[2], name)) as f:
-            test(library, f.read())
+    library = ctypes.CDLL(os.path.abspath(sys.argv[1]))
+    with open(sys.argv[2]) as f:
+        header = f.read()
+    test_place(library, header)
+    test_stages(library, header)
     print(f"{tally['passed']} passed, {tally['failed']} failed")
     return 1 if tally["failed"] else 0
 

@@ -1,13 +1,13 @@
-/* The headers as C and as C++: layouts, numbers, the functions' types, and first calls, of nothing at all and of one student. Both libraries are
- * linked into this one program. */
-#include "lgs_place.h"
-#include "lgs_stages.h"
+/* The header as C and as C++: layouts, numbers, the functions' types, and first calls, of nothing at all and of one student. */
+#include "lgs.h"
 
 #ifdef __cplusplus
 #define ASSERT(what) static_assert(what, #what)
 #else
 #define ASSERT(what) _Static_assert(what, #what)
 #endif
+
+ASSERT(LGS_VERSION == 1);
 
 ASSERT(sizeof(lgs_student_state) == 16);
 ASSERT(offsetof(lgs_student_state, reached) == 0 && sizeof(((lgs_student_state *)0)->reached) == 4);
@@ -31,7 +31,7 @@ ASSERT(offsetof(lgs_part_report, first) == 8 && sizeof(((lgs_part_report *)0)->f
 ASSERT(offsetof(lgs_part_report, second) == 16 && sizeof(((lgs_part_report *)0)->second) == 8);
 ASSERT(LGS_DONE == 0 && LGS_NO_STAGES == 12 && LGS_MOST_STAGES == 512);
 
-/* The prototypes again: another type in a header is an error here. The order among equal types is tested by from_python.py. */
+/* The prototypes again: another type in the header is an error here. The order among equal types is tested by from_python.py. */
 #ifdef __cplusplus
 extern "C" {
 #endif
@@ -66,5 +66,7 @@ int main(void)
     lgs_report r = lgs_place(&none, 0, &none, 0, &entry, 0, &entry, 0, &entry, 0, &entry, 0, &state, 1);
     int refused = r.kind == LGS_REFUSED && r.first == LGS_CASE_COUNTS && r.second == 0 && r.visits == 0 && r.fares == 0;
     int left = entry == 7 && state.reached == 0 && state.held == 0 && state.openings == 0;
-    return refused && left && stages_called() ? 0 : 1;
+    lgs_lengths needs = lgs_needs(ALONE, sizeof ALONE);
+    int needed = needs.places == 1 && needs.visits == 0 && needs.seats == 1 && needs.index == 0 && needs.states == 1 && needs.stages == 1;
+    return refused && left && needed && lgs_refusal_text(r.first)[0] == 'T' && stages_called() ? 0 : 1;
 }

@@ -1,8 +1,7 @@
 /* How much of the stack lgs_place and lgs_stages take, by calls on a stack that is filled with a pattern before: arguments case.dat, book.dat of the example.
  * Last line 'N passed, M failed'. */
 #define _GNU_SOURCE
-#include "lgs_place.h"
-#include "lgs_stages.h"
+#include "lgs.h"
 
 #include <stdio.h>
 #include <string.h>

@@ -1,4 +1,4 @@
 pub mod Places
 pub mod Cleaning
-pub mod Preparing
+pub mod Testing
 pub mod Composing

@@ -1,6 +1,6 @@
--- What is left to do after the run: places, scratch and the answer.
+-- What is left to do after the run: the places and the answer.
 use Prim.Native.Nat.{ℕ, _≤_, _<_}
-use mathlib.Core.Bool.{cond, _&&_}
+use mathlib.Core.Bool.{cond}
 use mathlib.Core.List.{List}
 use lib.ListN.{length, getD}
 use lib.Dec.{eqb}
@@ -8,14 +8,13 @@ use Rattle.base.specs.Lists.{tabulate}
 use Rattle.format.specs.Buffers.{withHead}
 use Rattle.api.specs.declared.StudentState.{StudentState}
 use Rattle.api.specs.declared.Answer.{Answer}
-use Rattle.api.specs.declared.Answer.the-variants.{Placed, Next, Refused}
+use Rattle.api.specs.declared.Answer.the-variants.{Placed, Next}
 use Rattle.api.specs.Answered.{zeroState}
 use Rattle.model.specs.declared.Run.{Run}
-use Rattle.answering.specs.declared.Prepared.{Prepared}
 
--- how many students have a place to be read: all where the run has placed everybody, and else none
-unfoldable pub toPlace : Prepared → Run → ℕ
-toPlace p r = cond (eqb (p .cause) 0 && eqb (r .workshop) 0) (p .students) 0
+-- how many of n students have a place to be read: all where the run has placed everybody, and else none
+unfoldable pub toPlace : Run → ℕ → ℕ
+toPlace r n = cond (eqb (r .workshop) 0) n 0
 
 -- what state i holds
 abbrev pub heldAt : List StudentState → ℕ → ℕ
@@ -31,9 +30,6 @@ pub record CanRead (states : List StudentState) (places : List ℕ) (n : ℕ) : 
   pub manyPlaces : n ≤ length places
   pub small : (i : ℕ) → i < n → heldAt states i < 65536
 
--- the answer: a refusal, a missing interview, or the placement
-unfoldable pub answerEnd : Prepared → Run → Answer
-answerEnd p r =
-    cond (eqb (p .cause) 0)
-    (cond (eqb (r .workshop) 0) (Placed (r .count) (r .fares)) (Next (r .student) (r .workshop) (r .count) (r .fares)))
-    (Refused (p .cause) (p .record))
+-- the answer of a run: the placement, or a missing interview
+unfoldable pub answerEnd : Run → Answer
+answerEnd r = cond (eqb (r .workshop) 0) (Placed (r .count) (r .fares)) (Next (r .student) (r .workshop) (r .count) (r .fares))

@@ -1,2 +1,2 @@
 pub mod Finish
-pub mod Steps
+pub mod Call

@@ -65,9 +65,9 @@ values-same (placed ps vs fares) = refl
 values-same (next s w vs fares) = refl
 values-same (refused k i) = refl
 
--- and so are those that a host reads
+-- and a host reads the answer back
 pub reported : Reported
-unfolding readBack reportOf valuesOf
+unfolding readBack reportOf
 reported (Placed count fares) = refl
 reported (Next s w count fares) = refl
 reported (Refused k i) = refl

@@ -1,8 +1,9 @@
 -- The library's answer: the number and values of documents 01 and 02 for each case of the enum.
 use Prim.Native.Nat.{ℕ}
 use mathlib.Core.Path.{_≡_}
-use mathlib.Core.Bool.{cond}
+use mathlib.Core.Bool.{cond, _&&_}
 use mathlib.Core.List.{List, [], _∷_}
+use mathlib.Core.Option.{Option, some, none}
 use lib.ListN.{length}
 use lib.Dec.{eqb}
 use Rattle.format.specs.Engine.{Outcome, placed, next, refused}
@@ -29,12 +30,15 @@ reportOf (Placed count fares) = record { kind = 0; first = 0; second = 0; visits
 reportOf (Next student workshop count fares) = record { kind = 1; first = student; second = workshop; visits = count; fares = fares }
 reportOf (Refused cause place) = record { kind = 2; first = cause; second = place; visits = 0; fares = 0 }
 
--- the values as a host reads them by the kind; they are the enum's (`Reported`)
-unfoldable pub readBack : Report → List ℕ
+-- what a host reads from the five numbers, by the kind; nothing where the kind is another, or where a number that it does not name is not 0
+unfoldable pub readBack : Report → Option Answer
 readBack r =
-    cond (eqb (r .kind) 0)
-    (r .visits ∷ r .fares ∷ [])
-    (cond (eqb (r .kind) 1) (r .first ∷ r .second ∷ r .visits ∷ r .fares ∷ []) (r .first ∷ r .second ∷ []))
+    cond (eqb (r .kind) 0 && (eqb (r .first) 0 && eqb (r .second) 0))
+    (some (Placed (r .visits) (r .fares)))
+    (cond (eqb (r .kind) 1)
+    (some (Next (r .first) (r .second) (r .visits) (r .fares)))
+    (cond (eqb (r .kind) 2 && (eqb (r .visits) 0 && eqb (r .fares) 0)) (some (Refused (r .first) (r .second))) none))
 
+-- the five numbers give back the answer
 abbrev pub Reported : Type 0
-Reported = (a : Answer) → readBack (reportOf a) ≡ valuesOf a
+Reported = (a : Answer) → readBack (reportOf a) ≡ some a

@@ -1,4 +1,4 @@
 pub mod Answers
 pub mod Answered
 pub mod Text
-pub mod Stages
+pub mod Parts

@@ -37,12 +37,6 @@ pub struct Report {
     pub fares: u64,
 }
 
-// The answer of the part that works out the stages, which are in the lent buffer.
-pub enum StagesAnswer {
-    Staged { students: usize },
-    Refused { cause: usize, record: usize },
-}
-
 // A part's answer in numbers: kind 0 is done, 2 a refusal.
 #[repr(C)]
 pub struct PartReport {

@@ -17,7 +17,7 @@ mod sound;
 pub enum Checked {
     // The number of the cause, and the record's place.
     Refused {
-        cause: u16,
+        cause: usize,
         record: usize,
     },
     Counts {
@@ -27,7 +27,7 @@ pub enum Checked {
     },
 }
 
-pub fn refused(cause: u16, at: usize) -> Checked
+pub fn refused(cause: usize, at: usize) -> Checked
     ensures { λ r. ⌜ r ≡ Checked.Refused cause at ⌝ }
 {
     Checked::Refused { cause, record: at }

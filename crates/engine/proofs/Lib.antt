@@ -1,5 +1,9 @@
 mod States
 mod Zeros
 mod Runs
-mod Placing
 mod Blank
+mod Going
+mod Running
+mod Locals
+mod Clearing
+mod Testing

@@ -10,7 +10,8 @@ use Rattle.api.specs.declared.StudentState.{StudentState}
 use Rattle.model.specs.declared.Run.{Run}
 use Rattle.model.specs.Turn.{turnOf, runOf}
 use Rattle.api.specs.Answered.{zeroState}
-use Rattle.answering.specs.Steps.{StepReady}
+use Rattle.model.specs.Ready.{Ready}
+use Rattle.lookup.specs.Clean.{Clean}
 
 -- the visits, the seats, the students' states and the run
 abbrev pub RunState : Type 0
@@ -33,11 +34,13 @@ wholeRun case book visits seats states start = runOf (marketIn case) (resultsIn 
 pub record CanTurn (case book index table visits seats : List ℕ) (states : List StudentState) (r : Run) (students workshops : ℕ) : Type 0 where
   pub hand : 0 < r .hand
   pub within : r .hand ≤ length states
-  pub ready : StepReady case book index table visits seats (getD states (r .hand - 1) zeroState) r students workshops
+  pub clean : Clean case book index table students workshops
+  pub ready : Ready (marketIn case) (resultsIn book) visits seats (getD states (r .hand - 1) zeroState) r
 
 -- each turn finds what it needs, and the last leaves no student in hand
 pub record CanRun (case book index table visits seats : List ℕ) (states : List StudentState) (start : Run) (students workshops : ℕ) : Type 0 where
+  pub clean : Clean case book index table students workshops
   pub ready : (k : ℕ) → let σ = runOf (marketIn case) (resultsIn book) k visits seats states start in
-      0 < hand-of σ → StepReady case book index table (σ .0) (σ .1 .0) (getD (σ .1 .1 .0) (hand-of σ - 1) zeroState) (σ .1 .1 .1) students workshops
+      0 < hand-of σ → Ready (marketIn case) (resultsIn book) (σ .0) (σ .1 .0) (getD (σ .1 .1 .0) (hand-of σ - 1) zeroState) (σ .1 .1 .1)
   pub within : (k : ℕ) → let σ = runOf (marketIn case) (resultsIn book) k visits seats states start in 0 < hand-of σ → hand-of σ ≤ length (σ .1 .1 .0)
   pub ends : hand-of (wholeRun case book visits seats states start) ≡ 0

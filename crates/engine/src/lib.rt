@@ -1,15 +1,15 @@
 // The engine: a case and a book are answered in lent memory. A slice of students' states is a slice of structs, which the borrow checker does not
-// cover: the functions here that have one are proved by a walk of their MIR, and what they call is covered.
+// cover: the functions here that have one are proved by a walk of their MIR, and what they call beside each other is covered.
 ghost use mathlib.Core.Path.{_≡_};
 ghost use lib.ListN.{length, replicate};
 ghost use Rattle.format.specs.Engine.{marketIn, resultsIn};
-ghost use Rattle.api.specs.Answered.{zeroState, Answered, answerIn};
-ghost use Rattle.api.specs.Answers.{reportOf};
+ghost use Rattle.api.specs.Answered.{zeroState, Answered};
+ghost use Rattle.answering.specs.Call.{Runnable, Ran};
 ghost use Rattle.engine.specs.Runs.{turnOn, wholeRun, CanTurn, CanRun};
 ghost use Rattle.answering.specs.Finish.{placesHeld, CanRead};
 use api::Answer;
-use api::Report;
 use api::StudentState;
+use case_tests::Checked;
 use model::Run;
 
 // Every state is set to zero.
@@ -31,7 +31,7 @@ fn clear_states(states: &mut [StudentState])
 fn take_turn(
     case: &[u8],
     book: &[u8],
-    index: &mut [u16],
+    index: &[u16],
     table: &[u64],
     visits: &mut [u16],
     seats: &mut [u16],
@@ -41,15 +41,14 @@ fn take_turn(
     workshops: usize,
 ) -> Run
     requires { ⌜ CanTurn (now case) (now book) (now index) (now table) (now visits) (now seats) (now states) run students workshops ⌝ }
-    ensures { λ r. ⌜ ((now (visits .exit), (now (seats .exit), (now (states .exit), r)))
-        ≡ turnOn (marketIn (now (case .entry))) (resultsIn (now (book .entry))) (now (visits .entry), (now (seats .entry), (now (states .entry), run))))
-        × (now (index .exit) ≡ now (index .entry)) ⌝ }
+    ensures { λ r. ⌜ (now (visits .exit), (now (seats .exit), (now (states .exit), r)))
+        ≡ turnOn (marketIn (now (case .entry))) (resultsIn (now (book .entry))) (now (visits .entry), (now (seats .entry), (now (states .entry), run))) ⌝ }
 {
     let at = run.hand - 1;
-    let t = answering::step(
+    let t = turning::turn(
         case,
         book,
-        &mut *index,
+        index,
         table,
         &mut *visits,
         &mut *seats,
@@ -66,7 +65,7 @@ fn take_turn(
 fn run_all(
     case: &[u8],
     book: &[u8],
-    index: &mut [u16],
+    index: &[u16],
     table: &[u64],
     visits: &mut [u16],
     seats: &mut [u16],
@@ -76,16 +75,15 @@ fn run_all(
     workshops: usize,
 ) -> Run
     requires { ⌜ CanRun (now case) (now book) (now index) (now table) (now visits) (now seats) (now states) start students workshops ⌝ }
-    ensures { λ r. ⌜ ((now (visits .exit), (now (seats .exit), (now (states .exit), r)))
-        ≡ wholeRun (now (case .entry)) (now (book .entry)) (now (visits .entry)) (now (seats .entry)) (now (states .entry)) start)
-        × (now (index .exit) ≡ now (index .entry)) ⌝ }
+    ensures { λ r. ⌜ (now (visits .exit), (now (seats .exit), (now (states .exit), r)))
+        ≡ wholeRun (now (case .entry)) (now (book .entry)) (now (visits .entry)) (now (seats .entry)) (now (states .entry)) start ⌝ }
 {
     let mut r = start;
     while r.hand > 0 {
         let next = take_turn(
             case,
             book,
-            &mut *index,
+            index,
             table,
             &mut *visits,
             &mut *seats,
@@ -111,6 +109,81 @@ fn read_places(states: &mut [StudentState], places: &mut [u16], n: usize)
     }
 }
 
+// The run over input that was tested: the answer of the staged rule, with the places and the visits in their buffers. Seats and states are zero before
+// and after.
+fn run(
+    case: &[u8],
+    book: &[u8],
+    index: &[u16],
+    table: &[u64],
+    places: &mut [u16],
+    visits: &mut [u16],
+    seats: &mut [u16],
+    states: &mut [StudentState],
+    students: usize,
+    workshops: usize,
+) -> Answer
+    requires { ⌜ (Runnable (now case) (now book) (now index) (now table) (now places) (now visits) (now seats) (length (now states)) students workshops)
+        × (now states ≡ replicate (length (now states)) zeroState) ⌝ }
+    ensures { λ a. ⌜ (Ran (now (case .entry)) (now (book .entry)) (now (places .entry)) (now (visits .entry)) (now (seats .entry)) a
+        (now (places .exit)) (now (visits .exit)) (now (seats .exit)))
+        × (now (states .exit) ≡ replicate (length (now (states .entry))) zeroState) ⌝ }
+{
+    let start = turning::begin_run(case, table);
+    let r = run_all(
+        case,
+        book,
+        index,
+        table,
+        &mut *visits,
+        &mut *seats,
+        &mut *states,
+        start,
+        students,
+        workshops,
+    );
+    let n = answering::to_place(r, students);
+    read_places(&mut *states, &mut *places, n);
+    clear_states(&mut *states);
+    answering::finish(&mut *seats, r)
+}
+
+// The same with the states of 512 students made here: no slice of structs is lent, so its callers need no walk.
+pub fn run_alone(
+    case: &[u8],
+    book: &[u8],
+    index: &[u16],
+    table: &[u64],
+    places: &mut [u16],
+    visits: &mut [u16],
+    seats: &mut [u16],
+    students: usize,
+    workshops: usize,
+) -> Answer
+    requires { ⌜ Runnable (now case) (now book) (now index) (now table) (now places) (now visits) (now seats) 512 students workshops ⌝ }
+    ensures { λ a. ⌜ Ran (now (case .entry)) (now (book .entry)) (now (places .entry)) (now (visits .entry)) (now (seats .entry)) a
+        (now (places .exit)) (now (visits .exit)) (now (seats .exit)) ⌝ }
+{
+    let zero = StudentState {
+        reached: 0,
+        held: 0,
+        openings: 0,
+    };
+    let mut states = [zero; 512];
+    run(
+        case,
+        book,
+        index,
+        table,
+        &mut *places,
+        &mut *visits,
+        &mut *seats,
+        &mut states,
+        students,
+        workshops,
+    )
+}
+
 // A case and a book are answered: placements go to `places`, interviews to `visits`. All else that is lent is scratch, and left zero.
 pub fn place(
     case: &[u8],
@@ -125,11 +198,12 @@ pub fn place(
         (now (states .entry)) a
         (now (places .exit)) (now (visits .exit)) (now (seats .exit)) (now (index .exit)) (now (states .exit)) ⌝ }
 {
+    clear_states(&mut *states);
     let n_places = places.len();
     let n_visits = visits.len();
     let n_states = states.len();
     let mut table = [0u64; 1089];
-    let p = answering::prepare(
+    let checked = answering::test(
         case,
         book,
         n_places,
@@ -139,85 +213,27 @@ pub fn place(
         n_states,
         &mut table,
     );
-    clear_states(&mut *states);
-    let start = p.run;
-    let students = p.students;
-    let workshops = p.workshops;
-    let r = run_all(
-        case,
-        book,
-        &mut *index,
-        &table,
-        &mut *visits,
-        &mut *seats,
-        &mut *states,
-        start,
-        students,
-        workshops,
-    );
-    let n = answering::to_place(p, r);
-    read_places(&mut *states, &mut *places, n);
-    clear_states(&mut *states);
-    answering::finish(&mut *seats, &mut *index, p, r)
-}
-
-// The same with the states of 512 students made here: no slice of structs is lent, so its callers need no walk.
-pub fn place_alone(
-    case: &[u8],
-    book: &[u8],
-    places: &mut [u16],
-    visits: &mut [u16],
-    seats: &mut [u16],
-    index: &mut [u16],
-) -> Answer
-    ensures { λ a. ⌜ Answered (now (case .entry)) (now (book .entry)) (now (places .entry)) (now (visits .entry)) (now (seats .entry)) (now (index .entry))
-        (replicate 512 zeroState) a
-        (now (places .exit)) (now (visits .exit)) (now (seats .exit)) (now (index .exit)) (replicate 512 zeroState) ⌝ }
-{
-    let zero = StudentState {
-        reached: 0,
-        held: 0,
-        openings: 0,
-    };
-    let mut states = [zero; 512];
-    place(
-        case,
-        book,
-        &mut *places,
-        &mut *visits,
-        &mut *seats,
-        &mut *index,
-        &mut states,
-    )
-}
-
-// `place` for a host in another language: a slice is a pointer and a length, and the answer is five numbers.
-#[no_mangle]
-pub extern "C" fn lgs_place(
-    case: &[u8],
-    book: &[u8],
-    places: &mut [u16],
-    visits: &mut [u16],
-    seats: &mut [u16],
-    index: &mut [u16],
-    states: &mut [StudentState],
-) -> Report
-    ensures { λ r. ⌜ r ≡ reportOf (answerIn (now (case .entry)) (now (book .entry)) (now (places .entry)) (now (visits .entry)) (now (seats .entry)) (now (index .entry))
-        (now (states .entry))) ⌝ }
-    ensures { λ r. ⌜ Answered (now (case .entry)) (now (book .entry)) (now (places .entry)) (now (visits .entry)) (now (seats .entry)) (now (index .entry))
-        (now (states .entry))
-        (answerIn (now (case .entry)) (now (book .entry)) (now (places .entry)) (now (visits .entry)) (now (seats .entry)) (now (index .entry))
-        (now (states .entry)))
-        (now (places .exit)) (now (visits .exit)) (now (seats .exit)) (now (index .exit)) (now (states .exit)) ⌝ }
-{
-    let a = place(
-        case,
-        book,
-        &mut *places,
-        &mut *visits,
-        &mut *seats,
-        &mut *index,
-        &mut *states,
-    );
-    answering::numbers(a)
+    match checked {
+        Checked::Refused { cause, record } => Answer::Refused { cause, record },
+        Checked::Counts {
+            students,
+            workshops,
+            pairs: _,
+        } => {
+            let answer = run(
+                case,
+                book,
+                &*index,
+                &table,
+                &mut *places,
+                &mut *visits,
+                &mut *seats,
+                &mut *states,
+                students,
+                workshops,
+            );
+            records::clear(&mut *index);
+            answer
+        }
+    }
 }

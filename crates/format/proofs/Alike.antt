@@ -13,12 +13,12 @@ use Rattle.base.specs.Lists.{any, tally, find}
 use Rattle.base.proofs.Tests.{bool-cases, and-left}
 use Rattle.lgs.specs.Market.{allSeats, seatsOf}
 use Rattle.lgs.proofs.Unpriced.{altered, priced}
-use Rattle.format.specs.Layout.{Row, Entry, rows, rowCount, entries, noRow, ofKind, unnamed, isStudent, isWorkshop, isPair, outsideElse, hasLot, marketOf}
+use Rattle.format.specs.Layout.{Row, Entry, rows, rowCount, entries, noRow, withSecond, ofKind, unnamed, isStudent, isWorkshop, isPair}
+use Rattle.format.specs.Layout.{outsideElse, hasLot, marketOf}
 use Rattle.format.specs.Causes.{Cause, whole, each}
 use Rattle.format.specs.Refusals.{notWithin, badForm, kindFalls, badNumber, notRising, namesNobody, badOrder, badCounts, badStudent, badWorkshop}
 use Rattle.format.specs.Refusals.{badTiers, badRange, badLot, Room, needed, badRoom, badPair, badScores, badRepeat, studentTies, badTie}
 use Rattle.format.specs.Refusals.{caseCauses, roomCauses, bookCauses}
-use Rattle.format.specs.Stages.{withSecond}
 
 -- a record's fifth field replaced
 abbrev pub withFifth : Row → ℕ → Row

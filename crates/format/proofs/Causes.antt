@@ -7,6 +7,7 @@ use mathlib.Core.Bool.{Bool, true, false}
 use mathlib.Core.Option.{Option, some, none}
 use mathlib.Core.List.{List, [], _∷_, _++_, map}
 use mathlib.Core.List.{List·Memᴰ as Mem, List·Memᴰ·head as here, List·Memᴰ·tail as later, List·Memᴰ·not-nil as not-nil, List·Memᴰ·cases-cons as cases-cons}
+use mathlib.Core.List.{List·Memᴰ·append-cases as append-cases}
 use native.Mathlib.Omega.{arith}
 use lib.Dec.{eqb}
 use borrow.Author.Tests.{eq-eqb}
@@ -60,6 +61,9 @@ all-pass bad n nope = go (firstBad bad n) refl
 
 pub nothing-more : (c : Cause) (cs : List Cause) → ((i : ℕ) → Finds (c .1) i → ⊥) → NothingFound cs → NothingFound (c ∷ cs)
 nothing-more c cs f rest d m i g = ⊎-elim (λ (e : d ≡ c). f i (rw e at g)) (λ k. rest d k i g) (cases-cons m)
+
+pub nothing-both : (cs ds : List Cause) → NothingFound cs → NothingFound ds → NothingFound (cs ++ ds)
+nothing-both cs ds n o c m i f = ⊎-elim (λ a. n c a i f) (λ a. o c a i f) (append-cases cs m)
 
 pub table-none : (cs : List Cause) → firstCause cs ≡ none → NothingFound cs
 table-none [] e = λ c m i f. not-nil m

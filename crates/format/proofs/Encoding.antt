@@ -133,3 +133,20 @@ round-trip =
       case = read-case;
       book = read-book;
     }
+
+-- ---- a record that is read from bytes fits them
+pub row-fits : (case : List ℕ) (i : ℕ) → Bytes case → RowFits (rowAt case i)
+unfolding rowAt word
+row-fits case i b =
+    let at : ℕ = 16 * i in
+    record {
+      kind = b .below at;
+      pad = b .below (at + 1);
+      first = omega (arith, b .below (at + 2), b .below (suc (at + 2)));
+      second = omega (arith, b .below (at + 4), b .below (suc (at + 4)));
+      third = omega (arith, b .below (at + 6), b .below (suc (at + 6)));
+      fourth = omega (arith, b .below (at + 8), b .below (suc (at + 8)));
+      fifth = omega (arith, b .below (at + 10), b .below (suc (at + 10)));
+      sixth = omega (arith, b .below (at + 12), b .below (suc (at + 12)));
+      seventh = omega (arith, b .below (at + 14), b .below (suc (at + 14)));
+    }

@@ -5,6 +5,7 @@ use mathlib.Core.Path.{_≡_, refl, sym, ap, _∙_}
 use mathlib.Core.Logic.{inr, ⊎-elim}
 use mathlib.Core.Bool.{Bool, true, false, not, _&&_, _||_}
 use mathlib.Core.List.{List, [], _∷_, flatMap}
+use mathlib.Core.Option.{Option, some, none}
 use native.Mathlib.Omega.{arith}
 use lib.Dec.{eqb, ltb}
 use lib.ListN.{length, getD, List·getD-eq-default}
@@ -14,24 +15,26 @@ use Rattle.base.specs.Words.{word, signed}
 use Rattle.base.specs.Below.{anyBelow}
 use Rattle.base.proofs.Below.{any-fails}
 use Rattle.base.proofs.Tests.{bool-cases, never, or-false, or-left, or-right, and-make, less?, eq?}
-use Rattle.lgs.specs.Market.{Market, ConsistentStages, Rivals, workshopOutside}
+use Rattle.lgs.specs.Market.{Market, matters, Rivals, ConsistentStages}
 use Rattle.lgs.specs.Rule.{interviewed}
 use Rattle.lgs.specs.Promises.{matchingOf}
+use Rattle.lgs.proofs.Matters.{matters-true}
 use Rattle.format.specs.Layout.{Row, isPair, ofKind, rowAt, rows, marketOf, entryAt, entries, resultsOf}
 use Rattle.format.specs.Engine.{placed, engine}
 use Rattle.format.specs.Promises.{Example, Preferred, OtherFares, ofFare}
 use Rattle.format.specs.Encoding.{words, rowBytes, caseBytes}
 use Rattle.format.specs.Table.{caseOf, studentsK, workshopsK, pairsK, caseWith, K, bookK, visitsK, answerK, neverK, answerNeverK, exact}
-use Rattle.format.specs.Table.{bookOf, bookWith, tiedK, answerTiedK, faresK, tensK, answerPaidK, TablesHold}
+use Rattle.format.specs.Table.{bookOf, bookWith, tiedK, answerTiedK, faresK, tensK, answerPaidK, Limits, TablesHold}
+use Rattle.format.specs.Printed.{unread, readable, programText, programPrints}
 use Rattle.format.proofs.Positions.{pair-says}
 use Rattle.format.proofs.Table.{computed}
 
 -- ---- a test for agreeing stages
 
--- students s and t are within the outside tier of w, which has seats, and their stages do not tell as their tiers do
+-- students s and t matter to w, and their stages do not tell as their tiers do
 differ : Market → ℕ → ℕ → ℕ → Bool
 differ M w s t =
-    (ltb 0 (M .quota w) && (not (ltb (workshopOutside M w) (M .workshopTier w s)) && not (ltb (workshopOutside M w) (M .workshopTier w t))))
+    (matters M w s && matters M w t)
     && ((ltb (M .workshopTier w s) (M .workshopTier w t) && not (ltb (M .stage s) (M .stage t)))
     || (eqb (M .workshopTier w s) (M .workshopTier w t) && not (eqb (M .stage s) (M .stage t))))
 
@@ -69,24 +72,18 @@ module _ (rs : List Row) (none : someDiffer rs ≡ false) where
   unfolding differ
   stages-agree = record { earlier = earlier; together = together }
     where
-      rivals : (w s t : ℕ) → Rivals M w s t
-          → (ltb 0 (M .quota w) && (not (ltb (workshopOutside M w) (M .workshopTier w s)) && not (ltb (workshopOutside M w) (M .workshopTier w t)))) ≡ true
-      rivals w s t R =
-          rw (
-            lt-ltb 0 (M .quota w) (R .seats),
-            le-ltb (workshopOutside M w) (M .workshopTier w s) (R .within),
-            le-ltb (workshopOutside M w) (M .workshopTier w t) (R .within′),
-          )
+      apart : (w s t : ℕ) → Rivals M w s t → differ M w s t ≡ false
+      apart w s t R = agree w s t (matters-true M w s (R .first) .1) (matters-true M w t (R .second) .1)
 
       earlier : (w s t : ℕ) → Rivals M w s t → M .workshopTier w s < M .workshopTier w t → M .stage s < M .stage t
       earlier w s t R l =
           ⊎-elim (λ less. less)
           (λ le.
           never
-          (and-make (rivals w s t R)
+          (and-make (and-make (R .first) (R .second))
           (or-left (ltb (M .workshopTier w s) (M .workshopTier w t) && not (ltb (M .stage s) (M .stage t))) _
           (and-make (lt-ltb _ _ l) (ap not (le-ltb (M .stage s) (M .stage t) le)))))
-          (agree w s t (R .pair) (R .pair′)))
+          (apart w s t R))
           (less? (M .stage s) (M .stage t))
 
       together : (w s t : ℕ) → Rivals M w s t → M .workshopTier w s ≡ M .workshopTier w t → M .stage s ≡ M .stage t
@@ -94,22 +91,22 @@ module _ (rs : List Row) (none : someDiffer rs ≡ false) where
           ⊎-elim (λ same. same)
           (λ other.
           never
-          (and-make (rivals w s t R)
+          (and-make (and-make (R .first) (R .second))
           (or-right (ltb (M .workshopTier w s) (M .workshopTier w t) && not (ltb (M .stage s) (M .stage t))) _
           (and-make (eq-eqb _ _ e) (ap not (ne-eqb (M .stage s) (M .stage t) other)))))
-          (agree w s t (R .pair) (R .pair′)))
+          (apart w s t R))
           (eq? (M .stage s) (M .stage t))
 
 -- ---- example K
 
 agrees-k : someDiffer (rows K) ≡ false
-unfolding someDiffer meets differ marketOf rows rowAt word any find tally tabulate K caseWith caseOf flatMap caseBytes rowBytes words studentsK
+unfolding someDiffer meets differ matters marketOf rows rowAt word any find tally tabulate K caseWith caseOf flatMap caseBytes rowBytes words studentsK
     workshopsK pairsK
 agrees-k = refl
 
 -- with fares
 agrees-tens : someDiffer (rows tensK) ≡ false
-unfolding someDiffer meets differ marketOf rows rowAt word any find tally tabulate tensK faresK caseOf flatMap caseBytes rowBytes words studentsK workshopsK
+unfolding someDiffer meets differ matters marketOf rows rowAt word any find tally tabulate tensK faresK caseOf flatMap caseBytes rowBytes words studentsK workshopsK
 agrees-tens = refl
 
 -- a run on it that lists K's visits, one of them of a pair that is not placed
@@ -178,11 +175,29 @@ other-k =
           (less? k 176);
     }
 
+-- ---- the program's limit
+limits : Limits
+unfolding programPrints
+limits =
+    record {
+      read = λ case book l m. rw (le-ltb 65536 (length case) l, le-ltb 65536 (length book) m);
+      longCase = λ case book l. rw (lt-ltb 65536 (length case) (omega arith));
+      longBook = long-book;
+    }
+  where
+    unread-book : (case : Option (List ℕ)) → programText case none ≡ unread
+    unread-book none = refl
+    unread-book (some case) = refl
+
+    long-book : (case : Option (List ℕ)) (book : List ℕ) → 65537 ≤ length book → programPrints case (some book) ≡ unread
+    long-book case book l = rw (lt-ltb 65536 (length book) (omega arith)) (unread-book (readable case))
+
 -- ---- the tables of proved cases
 pub tables-hold : TablesHold
 tables-hold =
     record {
       computed = computed;
+      limits = limits;
       agreeing = example-k;
       agreeingNever = example-never-k;
       agreeingLots = example-tied-k;

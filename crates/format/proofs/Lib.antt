@@ -4,6 +4,8 @@ pub mod Positions
 pub mod Lots
 pub mod Reading
 pub mod Causes
+pub mod Cases
+pub mod Enough
 pub mod PairCount
 pub mod Books
 pub mod Runs
@@ -16,6 +18,4 @@ pub mod Buffers
 pub mod Example
 pub mod Table
 pub mod Encoding
-pub mod Restaged
-pub mod Stages
 pub mod Thirteen

@@ -1,5 +1,5 @@
 -- 13 is given where causes 1 to 5 find nothing, at the first student with a wrong lot and for no other reason: in any table that begins with the causes of
--- the case and in which no later cause has this number. So in the engine's, and in that of the part that works out the stages.
+-- the case and in which no later cause has this number. So in the engine's; each part has its own.
 use Prim.Native.Nat.{ℕ, suc, _-_, _<_}
 use mathlib.Core.Path.{_≡_, refl}
 use mathlib.Core.Bool.{false}
@@ -15,14 +15,12 @@ use Rattle.format.specs.Causes.{Cause, Test, each, firstCause, First, No
 use Rattle.format.specs.Refusals.{badLot, caseCauses, roomCauses, bookCauses, causes, refusal}
 use Rattle.format.specs.Engine.{engine, marketIn, outcomeUnless}
 use Rattle.format.specs.Promises.{WrongLot, FirstWrongLot, ThirteenExactly}
-use Rattle.format.specs.Stages.{stagesRoomCauses, stagesCauses, stagesUnless, workOut, StagesThirteenExactly}
 use Rattle.format.proofs.Sorted.{Clean}
 use Rattle.format.proofs.Positions.{places}
 use Rattle.format.proofs.Lots.{lot-bad, bad-lot}
 use Rattle.format.proofs.Causes.{some-table, numbers, only-number, number-only}
 use Rattle.format.proofs.Promises.{promised}
-use Rattle.format.proofs.Restaged.{five-clean}
-use Rattle.format.proofs.Stages.{stages-promised}
+use Rattle.format.proofs.Cases.{five-clean}
 
 module _ (case : List ℕ) where
   -- the causes before 13, and its test
@@ -56,29 +54,21 @@ module _ (case : List ℕ) where
 
   -- where the causes ds are tested after those of the case
   module _ (ds : List Cause) where
-    given : (i : ℕ) → any (eqb 13) (numbers ds) ≡ false → firstCause (caseCauses case ++ ds) ≡ some (13, i)
+    pub thirteen-given : (i : ℕ) → any (eqb 13) (numbers ds) ≡ false → firstCause (caseCauses case ++ ds) ≡ some (13, i)
         → NothingFound five × FirstWrongLot case (suc i)
     unfolding caseCauses any
-    given i other e =
+    thirteen-given i other e =
         let r : NothingFound five × First (badLot (rows case)) (rowCount case) i = only-number five ds 13 lots i refl other e in
         (r .0, first-wrong (five-clean case (r .0)) i (r .1))
 
-    whenever : (s : ℕ) → NothingFound five → FirstWrongLot case s → firstCause (caseCauses case ++ ds) ≡ some (13, s - 1)
+    pub thirteen-whenever : (s : ℕ) → NothingFound five → FirstWrongLot case s → firstCause (caseCauses case ++ ds) ≡ some (13, s - 1)
     unfolding caseCauses
-    whenever s nothing f = number-only five ds 13 lots (s - 1) nothing (wrong-first (five-clean case nothing) s f)
+    thirteen-whenever s nothing f = number-only five ds 13 lots (s - 1) nothing (wrong-first (five-clean case nothing) s f)
 
 pub thirteen-exactly : ThirteenExactly
 unfolding engine outcomeUnless refusal causes roomCauses bookCauses any
 thirteen-exactly =
     record {
-      given = λ case book room i e. given case _ i refl (some-table (causes case book room) 13 i (rw e at (promised case book room)));
-      whenever = λ case book room s nothing f. rw (whenever case _ s nothing f);
-    }
-
-pub stages-thirteen-exactly : StagesThirteenExactly
-unfolding workOut stagesUnless stagesCauses stagesRoomCauses any
-stages-thirteen-exactly =
-    record {
-      given = λ case room i e. given case _ i refl (some-table (stagesCauses case room) 13 i (rw e at (stages-promised case room) .0));
-      whenever = λ case room s nothing f. rw (whenever case _ s nothing f);
+      given = λ case book room i e. thirteen-given case _ i refl (some-table (causes case book room) 13 i (rw e at (promised case book room)));
+      whenever = λ case book room s nothing f. rw (thirteen-whenever case _ s nothing f);
     }

@@ -1,4 +1,4 @@
--- With other fares in a case the engine's answer is the same but for the total, and that of the part which works out stages is the same.
+-- With other fares in a case its causes find the same, its market is the same but for them, and the engine's answer is the same but for the total.
 use Prim.Native.Nat.{ℕ, zero, suc, _+_, _*_, _/_, _%_, _<_}
 use mathlib.Core.Path.{_≡_, refl, _∙_, fun-ext}
 use mathlib.Core.Logic.{⊎-elim}
@@ -14,12 +14,11 @@ use Rattle.base.specs.Words.{word}
 use Rattle.base.proofs.Tests.{bool-cases}
 use Rattle.lgs.specs.Market.{Market, Results}
 use Rattle.lgs.specs.Rule.{Step, going, stopped, finished, lazyGaleShapley}
-use Rattle.lgs.proofs.Unpriced.{priced, least-same, rule-same}
+use Rattle.lgs.proofs.Unpriced.{priced, rule-same}
 use Rattle.format.specs.Layout.{Row, rowAt, rowCount, rows, ofKind}
 use Rattle.format.specs.Refusals.{Room, caseCauses, causes, refusal}
 use Rattle.format.specs.Engine.{outcomeOf, marketIn, resultsIn, ruleOutcome, outcomeUnless, engine}
 use Rattle.format.specs.Promises.{OtherFares, untold}
-use Rattle.format.specs.Stages.{stagesRoomCauses, stagesCauses, workOut, FaresUnread}
 use Rattle.format.proofs.Alike.{withFifth, Alike, same, otherFare, Alikes, empty, more, range-same, market-priced, case-same, rest-same}
 
 -- ---- lists of records that are alike at each place
@@ -102,12 +101,12 @@ module _ (case case′ : List ℕ) (other : OtherFares case case′) where
           (λ (e : ofKind 3 (rowAt case i) ≡ false). rw (fifth-same i e) same) (bool-cases (ofKind 3 (rowAt case i))))
 
   -- ---- the causes and the market
-  same-case : caseCauses case′ ≡ caseCauses case
+  pub same-case : caseCauses case′ ≡ caseCauses case
   unfolding caseCauses
   same-case = case-same case case′ records (other .long) ∙ rw (fun-ext (range-same records))
 
-  market : marketIn case′ ≡ priced (marketIn case) (marketIn case′ .fare)
-  market = market-priced records
+  pub same-market : marketIn case′ ≡ priced (marketIn case) (marketIn case′ .fare)
+  same-market = market-priced records
 
   -- ---- the engine
   module _ (book : List ℕ) (room : Room) where
@@ -117,10 +116,4 @@ module _ (case case′ : List ℕ) (other : OtherFares case case′) where
 
     pub untold-same : untold (engine case′ book room) ≡ untold (engine case book room)
     unfolding engine
-    untold-same = rw (same-refusal, market) (untold-priced (marketIn case) (marketIn case′ .fare) (resultsIn book) (refusal case book room))
-
--- ---- the part that works out stages
-pub fares-unread : FaresUnread
-unfolding workOut stagesCauses stagesRoomCauses
-fares-unread case case′ room other =
-    rw (same-case case case′ other, market case case′ other, least-same (marketIn case) (marketIn case .stage) (marketIn case′ .fare))
+    untold-same = rw (same-refusal, same-market) (untold-priced (marketIn case) (marketIn case′ .fare) (resultsIn book) (refusal case book room))

@@ -53,6 +53,21 @@ abbrev pub noRow : Row
 noRow =
     record { kind = 0; pad = 0; first = 0; second = 0; third = 0; fourth = 0; fifth = 0; sixth = 0; seventh = 0 }
 
+-- a record's second field replaced
+abbrev pub withSecond : Row → ℕ → Row
+withSecond r x =
+    record {
+      kind = r .kind;
+      pad = r .pad;
+      first = r .first;
+      second = x;
+      third = r .third;
+      fourth = r .fourth;
+      fifth = r .fifth;
+      sixth = r .sixth;
+      seventh = r .seventh;
+    }
+
 abbrev pub ofKind : ℕ → Row → Bool
 ofKind k r = eqb (r .kind) k
 

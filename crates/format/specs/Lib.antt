@@ -5,6 +5,6 @@ pub mod Refusals
 pub mod Engine
 pub mod Buffers
 pub mod Printed
+pub mod Enough
 pub mod Promises
-pub mod Stages
 pub mod Table

@@ -79,7 +79,7 @@ printed (refused k i) = lineOf refusedWord (k ∷ i ∷ [])
 unfoldable pub unread : List ℕ
 unread = lineOf unreadWord []
 
--- the buffers that the program lends: enough for every case of at most 65,536 bytes (4,096 records), so it prints no refusal 6 for a valid case
+-- the buffers that the program lends: enough for every case of at most 65,536 bytes (`RoomEnough`), so that it prints no refusal 6
 abbrev pub programRoom : Room
 programRoom = record { places = 512; visits = 8192; seats = 32768; index = 4096; states = 512 }
 

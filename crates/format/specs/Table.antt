@@ -1,10 +1,11 @@
 -- The table of proved cases (document 01), and lists of our own for the slips that it does not catch. proofs/Table.antt has the one proof that
 -- the definitions give them.
-use Prim.Native.Nat.{ℕ, _-_}
+use Prim.Native.Nat.{ℕ, _-_, _≤_}
 use mathlib.Core.Path.{_≡_}
 use mathlib.Core.Bool.{Bool, true, false}
 use mathlib.Core.List.{List, [], _∷_, _++_, map, flatMap}
-use lib.ListN.{getD, take, replicate}
+use mathlib.Core.Option.{Option, some, none}
+use lib.ListN.{length, getD, take, replicate}
 use Rattle.base.specs.Lists.{upto, entryFor}
 use Rattle.lgs.specs.Rule.{Interview}
 use Rattle.format.specs.Layout.{Row}
@@ -12,9 +13,8 @@ use Rattle.format.specs.Encoding.{words, caseBytes}
 use Rattle.format.specs.Refusals.{Room, badCounts}
 use Rattle.format.specs.Engine.{placed, next, refused, engine, Outcome}
 use Rattle.format.specs.Buffers.{placesAfter, visitsAfter, scratchAfter, values}
-use Rattle.format.specs.Printed.{ascii, printed, unread}
+use Rattle.format.specs.Printed.{ascii, printed, unread, programRoom, programPrints}
 use Rattle.format.specs.Promises.{Example, Preferred, OtherFares}
-use Rattle.format.specs.Stages.{StagesOutcome, staged, unstaged, workOut, stagesAfter, stagesValues, restaged}
 
 -- ---- bytes from fields
 
@@ -219,6 +219,7 @@ ownTable =
     ∷ sample (oneEach (numbered 1 1 1) (f3 1 1 0) []) [] (refused 5 1)
     ∷ sample (oneEach (numbered 1 1 1) (f3 1 1 514) []) [] (refused 5 1)
     ∷ sample (oneEach (numbered 1 1 1) (f3 1 1 1) (f4 1 1 0 1 ∷ [])) [] (refused 5 2)
+    ∷ sample (oneEach (numbered 1 1 1) (f3 1 1 1) (f4 1 1 1 0 ∷ [])) [] (refused 5 2)
     ∷ sample (oneEach (numbered 1 1 1) (f3 1 1 1) (f4 1 1 1 514 ∷ [])) [] (refused 5 2)
     ∷ sample K (bookWith (neg 1001) 4 1 4 6) (refused 9 0)
     ∷ sample K (bookWith 5 1001 1 4 6) (refused 9 1)
@@ -496,7 +497,7 @@ buffersExpected =
     ∷ (9 ∷ 1 ∷ [])
     ∷ []
 
--- ---- printed text: of K, of a next visit, of numbers with several digits, and of a file that cannot be read
+-- ---- printed text: of K, of a next visit, of numbers with several digits, and of a file that cannot be read; of K's two files, and with one missing
 
 unfoldable pub texts : List (List ℕ)
 texts =
@@ -506,6 +507,9 @@ texts =
     ∷ printed (next 512 64 [] 1024)
     ∷ printed (refused 11 2047)
     ∷ unread
+    ∷ programPrints (some K) (some bookK)
+    ∷ programPrints none (some bookK)
+    ∷ programPrints (some K) none
     ∷ []
 
 unfoldable pub textsExpected : List (List ℕ)
@@ -516,124 +520,17 @@ textsExpected =
     ∷ ascii "next 512 64\nvisits 0\nfares 1024\n"
     ∷ ascii "refused 11 2047\n"
     ∷ ascii "unread\n"
+    ∷ ascii "place 1 1\nplace 2 0\nplace 3 2\nvisits 4\nvisit 1 1\nvisit 1 2\nvisit 2 2\nvisit 3 2\nfares 0\n"
+    ∷ ascii "unread\n"
+    ∷ ascii "unread\n"
     ∷ []
 
--- ---- the least stages (document 02, Paper 2): a slip for each
-
--- a case, the length of the lent stages, and the answer
-pub record StagesSample : Type 0 where
-  pub case : List ℕ
-  pub room : ℕ
-  pub answer : StagesOutcome
-
-abbrev pub within : ℕ → List ℕ → StagesOutcome → StagesSample
-within room case answer = record { case = case; room = room; answer = answer }
-
--- n students at stage 1, and pairs by student, workshop and the workshop's group for the student
-unfoldable pub wished : ℕ → List (List ℕ) → List (List ℕ) → List ℕ
-wished n workshops pairs = caseOf (map (λ s. numbered s 1 1) (upto n)) workshops (map (λ (p : List ℕ). f4 (getD p 0 0) (getD p 1 0) 1 (getD p 2 0)) pairs)
-
--- workshops 1 to m with one seat and line group 9
-abbrev pub oneSeat : ℕ → List (List ℕ)
-oneSeat m = map (λ w. f3 w 1 9) (upto m)
-
--- two workshops, which rank two students the other way round; with these quotas, and this line group of workshop 2, which has student 1 in group 2
-unfoldable pub crossed : ℕ → ℕ → ℕ → List ℕ
-crossed q1 q2 line2 = wished 2 (f3 1 q1 9 ∷ f3 2 q2 line2 ∷ []) (f3 1 1 1 ∷ f3 1 2 2 ∷ f3 2 1 2 ∷ f3 2 2 1 ∷ [])
-
--- K with these stages in its student records; its own are 1, 2, 2
-unfoldable pub stagedK : ℕ → ℕ → ℕ → List ℕ
-stagedK a b c = caseOf (numbered 1 a 2 ∷ numbered 2 b 2 ∷ numbered 3 c 2 ∷ []) (workshopsK 1 1 3) pairsK
-
--- no stage numbers agree
-abbrev pub noneAgreed : StagesOutcome
-noneAgreed = unstaged 12 0
-
-unfoldable pub stagesTable : List StagesSample
-stagesTable =
-    -- K, in stages of just its length
-    within 3 K (staged (1 ∷ 2 ∷ 2 ∷ []))
-    -- the stages in the file do not matter, at the ends of their range either
-    ∷ within 3 (stagedK 512 1 512) (staged (1 ∷ 2 ∷ 2 ∷ []))
-    -- two orders that cannot both be kept; a seat for each of two students does not help
-    ∷ within 4 (crossed 1 1 9) noneAgreed
-    ∷ within 4 (crossed 2 2 9) noneAgreed
-    -- a workshop without seats asks nothing, whichever it is
-    ∷ within 4 (crossed 1 0 9) (staged (1 ∷ 2 ∷ []))
-    ∷ within 4 (crossed 0 1 9) (staged (2 ∷ 1 ∷ []))
-    -- a student beyond the line is passed over, and one in the line group is not
-    ∷ within 4 (crossed 1 1 1) (staged (1 ∷ 2 ∷ []))
-    ∷ within 4 (crossed 1 1 2) noneAgreed
-    -- it is the workshop's line: a workshop that is beyond the student's own still ranks her
-    ∷ within 4 (caseOf (numbered 1 1 1 ∷ numbered 2 1 1 ∷ []) (oneSeat 1) (f4 1 1 2 2 ∷ f4 2 1 2 1 ∷ [])) (staged (2 ∷ 1 ∷ []))
-    -- no pairs, and a student without pairs: stage 1
-    ∷ within 4 (wished 2 (oneSeat 1) []) (staged (1 ∷ 1 ∷ []))
-    ∷ within 4 (wished 3 (oneSeat 1) (f3 1 1 1 ∷ f3 3 1 2 ∷ [])) (staged (1 ∷ 1 ∷ 2 ∷ []))
-    -- groups have gaps, and stages need none
-    ∷ within 4 (wished 2 (oneSeat 1) (f3 1 1 3 ∷ f3 2 1 7 ∷ [])) (staged (1 ∷ 2 ∷ []))
-    -- but a stage is not the group's rank: student 1 is first at workshop 1, and behind student 3 at workshop 2
-    ∷ within 4 (wished 3 (oneSeat 2) (f3 1 1 1 ∷ f3 1 2 2 ∷ f3 2 1 2 ∷ f3 3 2 1 ∷ [])) (staged (2 ∷ 3 ∷ 1 ∷ []))
-    -- two of one group have one stage, also where only the other is raised: workshop 2 ties student 3 to student 2, and 4 comes after 3
-    ∷ within 4 (wished 4 (oneSeat 3) (f3 1 1 1 ∷ f3 2 1 2 ∷ f3 2 2 1 ∷ f3 3 2 1 ∷ f3 3 3 1 ∷ f3 4 3 2 ∷ [])) (staged (1 ∷ 2 ∷ 2 ∷ 3 ∷ []))
-    -- the same with workshops 1 and 3 the other way round: each later one raises somebody whom an earlier one has passed
-    ∷ within 4 (wished 4 (oneSeat 3) (f3 1 3 1 ∷ f3 2 2 1 ∷ f3 2 3 2 ∷ f3 3 1 1 ∷ f3 3 2 1 ∷ f3 4 1 2 ∷ [])) (staged (1 ∷ 2 ∷ 2 ∷ 3 ∷ []))
-    -- one group at one workshop and two at another; three workshops in a ring
-    ∷ within 4 (wished 2 (oneSeat 2) (f3 1 1 1 ∷ f3 1 2 1 ∷ f3 2 1 1 ∷ f3 2 2 2 ∷ [])) noneAgreed
-    ∷ within 4 (wished 3 (oneSeat 3) (f3 1 1 1 ∷ f3 1 3 2 ∷ f3 2 1 2 ∷ f3 2 2 1 ∷ f3 3 2 2 ∷ f3 3 3 1 ∷ [])) noneAgreed
-    -- refusals 1 to 5 as the engine's: "the stages in the file are only checked for range"
-    ∷ within 4 (take 15 K) (unstaged 1 0)
-    ∷ within 4 (caseBytes (rowWith 4 (f3 1 1 1) ∷ [])) (unstaged 2 0)
-    ∷ within 4 (oneEach (numbered 1 1 1) (f3 2 1 1) []) (unstaged 3 1)
-    ∷ within 4 [] (unstaged 4 0)
-    ∷ within 4 (stagedK 1 0 2) (unstaged 5 1)
-    ∷ within 4 (stagedK 1 2 513) (unstaged 5 2)
-    -- 13, after 5, and before 6 and 12
-    ∷ within 4 (lotsK 1 2 513) (unstaged 13 2)
-    ∷ within 2 (lotsK 1 1 2) (unstaged 13 1)
-    ∷ within 4 (caseOf (f4 1 1 2 5 ∷ f4 2 0 2 5 ∷ []) (oneSeat 1) []) (unstaged 5 1)
-    ∷ within 4 (caseOf (f4 1 1 1 3 ∷ f4 2 1 1 3 ∷ []) (oneSeat 2) (f4 1 1 1 1 ∷ f4 1 2 1 2 ∷ f4 2 1 1 2 ∷ f4 2 2 1 1 ∷ [])) (unstaged 13 1)
-    -- a byte at 10 of a student is refused, and a pair's fare changes nothing
-    ∷ within 4 (oneEach (1 ∷ 1 ∷ 1 ∷ 1 ∷ 1 ∷ []) (f3 1 1 1) []) (unstaged 2 0)
-    ∷ within 3 tensK (staged (1 ∷ 2 ∷ 2 ∷ []))
-    -- lots change no stage
-    ∷ within 3 (lotsK 512 1 7) (staged (1 ∷ 2 ∷ 2 ∷ []))
-    -- one entry short: 6, after 5 and before 12
-    ∷ within 2 K (unstaged 6 0)
-    ∷ within 2 (stagedK 1 0 2) (unstaged 5 1)
-    ∷ within 1 (crossed 1 1 9) (unstaged 6 0)
-    ∷ within 2 (crossed 1 1 9) noneAgreed
-    ∷ []
-
-unfoldable pub stagesGiven : List StagesSample → List StagesOutcome
-stagesGiven ls = map (λ (l : StagesSample). workOut (l .case) (l .room)) ls
-
-unfoldable pub stagesExpected : List StagesSample → List StagesOutcome
-stagesExpected ls = map (λ (l : StagesSample). l .answer) ls
-
--- the lent stages after an answer, of which the last entry is more than needed, and after a refusal; the values; K with other stages, restaged
-unfoldable pub stagesLeft : List (List ℕ)
-stagesLeft =
-    stagesAfter (staged (1 ∷ 2 ∷ 2 ∷ [])) (replicate 4 9)
-    ∷ stagesAfter noneAgreed (replicate 4 9)
-    ∷ stagesValues (staged (1 ∷ 2 ∷ 2 ∷ []))
-    ∷ stagesValues (unstaged 5 1)
-    ∷ restaged (1 ∷ 2 ∷ 2 ∷ []) K
-    ∷ restaged (1 ∷ 2 ∷ 2 ∷ []) (stagedK 9 9 9)
-    ∷ restaged (512 ∷ 256 ∷ 1 ∷ []) K
-    ∷ restaged (1 ∷ 2 ∷ 2 ∷ []) (lotsK 512 256 1)
-    ∷ []
-
-unfoldable pub stagesLeftExpected : List (List ℕ)
-stagesLeftExpected =
-    (1 ∷ 2 ∷ 2 ∷ 9 ∷ [])
-    ∷ (9 ∷ 9 ∷ 9 ∷ 9 ∷ [])
-    ∷ (3 ∷ [])
-    ∷ (5 ∷ 1 ∷ [])
-    ∷ stagedK 1 2 2
-    ∷ stagedK 1 2 2
-    ∷ stagedK 512 256 1
-    ∷ lotsK 512 256 1
-    ∷ []
+-- files of up to 65,536 bytes are read, and one of 65,537 or more is not, whatever is in them
+pub record Limits : Type 0 where
+  pub read : (case book : List ℕ) → length case ≤ 65536 → length book ≤ 65536
+      → programPrints (some case) (some book) ≡ printed (engine case book programRoom)
+  pub longCase : (case : List ℕ) (book : Option (List ℕ)) → 65537 ≤ length case → programPrints (some case) book ≡ unread
+  pub longBook : (case : Option (List ℕ)) (book : List ℕ) → 65537 ≤ length book → programPrints case (some book) ≡ unread
 
 -- what the engine answers to the samples, and what it should
 unfoldable pub given : List Sample → List Outcome
@@ -643,7 +540,7 @@ unfoldable pub expected : List Sample → List Outcome
 expected ls = map (λ (l : Sample). l .answer) ls
 
 -- the tables hold, by computation: answers, counts, exact and short buffers (cause 6, after a bad lot and before a bad book length), buffers after an
--- answer, the printed text, the least stages
+-- answer, the printed text
 pub record Computed : Type 0 where
   pub answers : given table ≡ expected table
   pub own : given ownTable ≡ expected ownTable
@@ -659,13 +556,12 @@ pub record Computed : Type 0 where
   pub lotFirst : map (λ (room : Room). engine (lotsK 1 2 2) (0 ∷ []) room) shortRooms ≡ map (λ (room : Room). refused 13 2) shortRooms
   pub buffers : buffersAfter ≡ buffersExpected
   pub text : texts ≡ textsExpected
-  pub stages : stagesGiven stagesTable ≡ stagesExpected stagesTable
-  pub stagesBuffers : stagesLeft ≡ stagesLeftExpected
 
--- and K is a run with agreeing stages, also where two of the listed visits ended in never, where a lot decides (workshop 2 has 2 before 3), and with fares;
+-- the program's limit, and K is a run with agreeing stages, also where two of the listed visits ended in never, where a lot decides (workshop 2 has 2 before 3), and with fares;
 -- K with fares differs from K in nothing else
 pub record TablesHold : Type 0 where
   pub computed : Computed
+  pub limits : Limits
   pub agreeing : Example K bookK exact
   pub agreeingNever : Example K neverK exact
   pub agreeingLots : Example K tiedK exact

@@ -22,13 +22,13 @@ pub fn seats_needed(case: &[u8], students: usize, workshops: usize) -> usize
     sum
 }
 
-// A lent buffer is shorter than the case needs; `index` is the index's length.
-pub fn lacks(room: Room, index: usize, students: usize, pairs: usize, seats: usize) -> bool
+// A lent buffer is shorter than the case needs.
+pub fn lacks(room: Room, students: usize, pairs: usize, seats: usize) -> bool
     ensures { λ v. ⌜ v ≡ (ltb (room .places) students
         || (ltb (room .visits) (2 * pairs)
-        || (ltb (room .seats) seats || (ltb index pairs || ltb (room .states) students)))) ⌝ }
+        || (ltb (room .seats) seats || (ltb (room .index) pairs || ltb (room .states) students)))) ⌝ }
 {
     (room.places < students)
         | ((room.visits / 2 < pairs)
-            | ((room.seats < seats) | ((index < pairs) | (room.states < students))))
+            | ((room.seats < seats) | ((room.index < pairs) | (room.states < students))))
 }

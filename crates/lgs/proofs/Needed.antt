@@ -24,6 +24,7 @@ use Rattle.lgs.proofs.Advance.{Due, due-in}
 use Rattle.lgs.proofs.Close.{Seating, same-seats, held-after, close-keeps, close-deletes, lowest-holder}
 use Rattle.lgs.proofs.Lowest.{Lowest}
 use Rattle.lgs.proofs.Undetermined.{Reachable}
+use Rattle.lgs.proofs.Matters.{matters-is}
 use Rattle.lgs.proofs.Choose.{best-chosen}
 use Rattle.lgs.proofs.Apply.{seat, drop, choosers₁, one-more, lowest-joined}
 use Rattle.lgs.proofs.Moves.{Move, interviews, leaves, sits, drops, joinedState, dropped}
@@ -67,7 +68,7 @@ module _ (M : Market) where
 
 module _ (M : Market) (agree : ConsistentStages M (M .stage)) (Vs : ℕ → ℕ → Bool) where
   rivals : (σ : State) (w s t : ℕ) → Seen M Vs σ s w → Seen M Vs σ t w → Rivals M w s t
-  rivals σ w s t a b = record { seats = a .seats; pair = a .pair; pair′ = b .pair; within = a .outside; within′ = b .outside }
+  rivals σ w s t a b = record { first = matters-is M w s (a .seats) (a .pair) (a .outside); second = matters-is M w t (b .seats) (b .pair) (b .outside) }
 
   -- of two whom a workshop has interviewed, the one of the later stage is in no better tier, and the one in a worse tier of no earlier stage
   later-worse : (σ : State) (w s t : ℕ) → Seen M Vs σ s w → Seen M Vs σ t w → M .stage s ≤ M .stage t → M .workshopTier w s ≤ M .workshopTier w t

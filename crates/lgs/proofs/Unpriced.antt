@@ -6,10 +6,10 @@ use mathlib.Core.List.{List, [], _∷_, map}
 use mathlib.Core.Option.{some}
 use lib.ListN.{replicate}
 use Rattle.base.specs.Lists.{upto}
-use Rattle.lgs.specs.Market.{Market, Results, outscored}
+use Rattle.lgs.specs.Market.{Market, Results, outscored, matters}
 use Rattle.lgs.specs.Rule.{State, Step, going, stopped, finished, start, declined, unopened, best, open?, choices, due, holders, below, lowestOf}
 use Rattle.lgs.specs.Rule.{advance, addInterview, interviewAll, close, settle, apply, turn, step, run, fuel, lazyGaleShapley}
-use Rattle.lgs.specs.Stages.{matters, asked, raised, moves, settled, leastStages}
+use Rattle.lgs.specs.Stages.{asked, raised, moves, settled, leastStages}
 
 -- the market with these stages and fares
 abbrev pub altered : Market → (ℕ → ℕ) → (ℕ → ℕ → ℕ) → Market

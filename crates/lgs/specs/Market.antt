@@ -1,6 +1,6 @@
 -- The market that a case describes, and the results of the interviews that a book holds.
-use Prim.Native.Nat.{ℕ, _-_, _≤_, _<_}
-use mathlib.Core.Bool.{Bool, true, _&&_, _||_}
+use Prim.Native.Nat.{ℕ, _-_, _<_}
+use mathlib.Core.Bool.{Bool, true, not, _&&_, _||_}
 use mathlib.Core.Path.{_≡_}
 use lib.Dec.{ltb, eqb}
 use Rattle.base.specs.Lists.{total}
@@ -65,13 +65,14 @@ outscored M B w x y =
 -- ---- Stages.
 
 module _ (M : Market) where
-  -- two students of whom the stages must tell: both have pairs at the workshop, which has seats, and neither is beyond its outside tier
+  -- the student matters to the workshop: it has seats, they have a pair, and she is not beyond its outside tier
+  unfoldable pub matters : ℕ → ℕ → Bool
+  matters w s = ltb 0 (M .quota w) && (M .paired s w && not (ltb (workshopOutside M w) (M .workshopTier w s)))
+
+  -- two students of whom the stages must tell: both matter to the workshop
   pub record Rivals (w s t : ℕ) : Type 0 where
-    pub seats : 0 < M .quota w
-    pub pair : M .paired s w ≡ true
-    pub pair′ : M .paired t w ≡ true
-    pub within : M .workshopTier w s ≤ workshopOutside M w
-    pub within′ : M .workshopTier w t ≤ workshopOutside M w
+    pub first : matters w s ≡ true
+    pub second : matters w t ≡ true
 
   -- "The stages agree" (a student's stage is `stage s`): of two such students the one in the better tier has the earlier stage, and equal tiers have
   -- equal stages.

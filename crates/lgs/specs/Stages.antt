@@ -1,28 +1,24 @@
 -- The least stages that agree (document 02, Paper 2): "a stage for each student, each as small as agreement with every workshop permits, starting at 1".
 use Prim.Native.Nat.{ℕ, zero, suc, _*_, _≤_, max}
 use mathlib.Core.Path.{_≡_}
-use mathlib.Core.Bool.{Bool, not, cond, _&&_}
+use mathlib.Core.Bool.{Bool, cond, _&&_}
 use mathlib.Core.List.{List, map}
 use mathlib.Core.Option.{Option, some, none}
 use lib.Dec.{ltb, eqb}
 use lib.ListN.{length, replicate}
 use Rattle.base.specs.Lists.{upto, any, largest, entryFor}
-use Rattle.lgs.specs.Market.{Market, workshopOutside, ConsistentStages}
+use Rattle.lgs.specs.Market.{Market, matters, ConsistentStages}
 
 -- the stage of a student in a list of stages: student s has entry s - 1
 abbrev pub stageOf : List ℕ → ℕ → ℕ
 stageOf = entryFor
 
 module _ (M : Market) where
-  -- the student matters to the workshop: it has seats, they have a pair, and she is not beyond its outside tier (two such students are `Rivals`)
-  unfoldable pub matters : ℕ → ℕ → Bool
-  matters w s = ltb 0 (M .quota w) && (M .paired s w && not (ltb (workshopOutside M w) (M .workshopTier w s)))
-
   module _ (stages : List ℕ) where
     -- the least stage that workshop w leaves student s for student t's sake: t's own where they are in one tier, a later one where t is in a better tier
     unfoldable pub asked : ℕ → ℕ → ℕ → ℕ
     asked w s t =
-        cond (matters w s && matters w t)
+        cond (matters M w s && matters M w t)
         (cond (ltb (M .workshopTier w t) (M .workshopTier w s))
         (suc (stageOf stages t))
         (cond (eqb (M .workshopTier w t) (M .workshopTier w s)) (stageOf stages t) 0))
@@ -42,7 +38,7 @@ module _ (M : Market) where
   settled (suc k) stages = cond (moves stages) (settled k (map (raised stages) (upto (M .students)))) (some stages)
 
   -- "starting at 1". Where stages agree, the least are not above the number of students, n, so that there are at most n * n rounds that raise somebody;
-  -- more than that means that none agree. (So it is promised: crate format's `StagesPromised` and `TwelveExactly`.)
+  -- more than that means that none agree. (So it is promised: `StagesPromised` and `TwelveExactly` of the crate stages.)
   unfoldable pub leastStages : Option (List ℕ)
   leastStages = settled (suc (M .students * M .students)) (replicate (M .students) 1)
 

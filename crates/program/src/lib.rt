@@ -6,6 +6,8 @@ ghost use Rattle.format.specs.Engine.{engine};
 ghost use Rattle.format.specs.Printed.{printed, programPrints, programRoom};
 ghost use Rattle.printing.specs.Text.{PutWhole};
 ghost use Rattle.program.specs.Files.{fileOf, sizeOf, Shows};
+use api::Answer;
+use case_tests::Checked;
 
 // What came of reading a file into a buffer: so many bytes stand at its head, and they are the whole file where they do not fill the buffer; or
 // the file is missing or cannot be read.
@@ -23,9 +25,39 @@ fn put_text(case: &[u8], book: &[u8], out: &mut [u8]) -> usize
     let mut visits = [0u16; 8192];
     let mut seats = [0u16; 32768];
     let mut index = [0u16; 4096];
-    let answer = engine::place_alone(case, book, &mut places, &mut visits, &mut seats, &mut index);
-    let n = answering::count_students(case);
-    printing::put_answer(answer, n, &places, &visits, out)
+    let mut table = [0u64; 1089];
+    match answering::test(
+        case,
+        book,
+        512,
+        8192,
+        &mut seats,
+        &mut index,
+        512,
+        &mut table,
+    ) {
+        Checked::Refused { cause, record } => {
+            printing::put_answer(Answer::Refused { cause, record }, 0, &places, &visits, out)
+        }
+        Checked::Counts {
+            students,
+            workshops,
+            pairs: _,
+        } => {
+            let answer = engine::run_alone(
+                case,
+                book,
+                &index,
+                &table,
+                &mut places,
+                &mut visits,
+                &mut seats,
+                students,
+                workshops,
+            );
+            printing::put_answer(answer, students, &places, &visits, out)
+        }
+    }
 }
 
 // How many bytes of the file were read; 65,537, as of a file that is too long, where it cannot be read.

@@ -15,10 +15,11 @@ use Rattle.base.specs.Below.{anyBelow}
 use Rattle.base.specs.Bits.{member}
 use Rattle.base.proofs.Tests.{less?, eq?, or-left, or-right, or-false, bool-cases, never}
 use Rattle.base.proofs.Below.{any-first, any-fails, any-none}
-use Rattle.lgs.specs.Market.{Market, Rivals, ConsistentStages}
-use Rattle.lgs.specs.Stages.{stageOf, matters, FromOne}
+use Rattle.lgs.specs.Market.{Market, matters, Rivals, ConsistentStages}
+use Rattle.lgs.specs.Stages.{stageOf, FromOne}
 use Rattle.lgs.proofs.Valid.{WellFormed}
-use Rattle.lgs.proofs.Stages.{matters-true, rivals-matter, ranked, rank-agree, rank-few}
+use Rattle.lgs.proofs.Matters.{matters-true}
+use Rattle.lgs.proofs.Stages.{ranked, rank-agree, rank-few}
 use Rattle.stages.specs.Raising.{tierFor, standsFor, Enough, Noted, Capped, climbedOf, Rises, Climbed, Lifted, Fit, Raised}
 
 -- ---- the larger of two
@@ -148,11 +149,9 @@ module _ (M : Market) (wf : WellFormed M) (w : ℕ) where
   same-stage stage C r s n e =
       let a = in-tier r (λ z. n (sym e ∙ z)) in
       let b = in-tier s n in
-      let x = matters-true M w r a in
-      let y = matters-true M w s b in
       let f : tier r ≡ M .workshopTier w r = rw a in
       let g : tier s ≡ M .workshopTier w s = rw b in
-      C .together w r s (record { seats = x .0; pair = x .1; pair′ = y .1; within = x .2; within′ = y .2 }) (sym f ∙ e ∙ g)
+      C .together w r s (record { first = a; second = b }) (sym f ∙ e ∙ g)
 
   stands : (stage : ℕ → ℕ) → ConsistentStages M stage → (s : ℕ) → 1 ≤ s → s ≤ M .students
       → (r : ℕ) × (1 ≤ r) × (r ≤ M .students) × (standsFor tier r ≡ true) × (stage r ≡ stage s)
@@ -451,12 +450,6 @@ module _ (M : Market) (w n : ℕ) (old new tiers tops needs : List ℕ) (moved t
       (λ (q : n ≤ k). omega (arith, L .past k q))
       (less? k n)
 
-  rivals : (s t : ℕ) → matters M w s ≡ true → matters M w t ≡ true → Rivals M w s t
-  rivals s t m q =
-      let x = matters-true M w s m in
-      let y = matters-true M w t q in
-      record { seats = x .0; pair = x .1; pair′ = y .1; within = x .2; within′ = y .2 }
-
   -- no higher than any assignment that agrees
   module _ (σ : ℕ → ℕ) (one : FromOne M σ) (A : ConsistentStages M σ) (under : (s : ℕ) → 1 ≤ s → s ≤ M .students → stageOf old s ≤ σ s) where
     -- the assignment's stage of a tier: that of somebody in it
@@ -468,7 +461,7 @@ module _ (M : Market) (w n : ℕ) (old new tiers tops needs : List ℕ) (moved t
     unfolding stage-at one-in
     stage-is g s (inl p) l m e =
         let o = one-in g l p in
-        A .together w (o .0) s (rivals (o .0) s (o .5) m) (sym (tier-is (o .0) (o .5)) ∙ o .3 ∙ sym e ∙ tier-is s m)
+        A .together w (o .0) s (record { first = o .5; second = m }) (sym (tier-is (o .0) (o .5)) ∙ o .3 ∙ sym e ∙ tier-is s m)
     stage-is g s (inr p) l m e = absurd (omega (arith, p, ap (λ i. getD tops i 0) e, filled s m))
 
     tier-stage : ℕ → ℕ
@@ -498,7 +491,7 @@ module _ (M : Market) (w n : ℕ) (old new tiers tops needs : List ℕ) (moved t
             let r = one-in h (omega arith) q in
             omega (
               arith,
-              A .earlier w (o .0) (r .0) (rivals (o .0) (r .0) (o .5) (r .5))
+              A .earlier w (o .0) (r .0) (record { first = o .5; second = r .5 })
                   (omega (arith, k, o .3, r .3, tier-is (o .0) (o .5), tier-is (r .0) (r .5))),
               ap tier-stage (sym (o .3)) ∙ tier-stage-is (o .0) (o .5),
               ap tier-stage (sym (r .3)) ∙ tier-stage-is (r .0) (r .5),
@@ -535,19 +528,17 @@ module _ (M : Market) (w n : ℕ) (old new tiers tops needs : List ℕ) (moved t
     where
       earlier : (s t : ℕ) → Rivals M w s t → M .workshopTier w s < M .workshopTier w t → stageOf new s < stageOf new t
       earlier s t R k =
-          let m = rivals-matter M w s t R in
           omega (
             arith,
-            gets s (m .0),
-            gets t (m .1),
-            C .all .rises (tierFor M w s) (tierFor M w t) (tier-low s (m .0)) (omega (arith, k, tier-is s (m .0), tier-is t (m .1)))
-                (filled s (m .0)) (filled t (m .1)),
+            gets s (R .first),
+            gets t (R .second),
+            C .all .rises (tierFor M w s) (tierFor M w t) (tier-low s (R .first)) (omega (arith, k, tier-is s (R .first), tier-is t (R .second)))
+                (filled s (R .first)) (filled t (R .second)),
           )
 
       together : (s t : ℕ) → Rivals M w s t → M .workshopTier w s ≡ M .workshopTier w t → stageOf new s ≡ stageOf new t
       together s t R e =
-          let m = rivals-matter M w s t R in
-          gets s (m .0) ∙ ap (λ g. getD needs g 0) (tier-is s (m .0) ∙ e ∙ sym (tier-is t (m .1))) ∙ sym (gets t (m .1))
+          gets s (R .first) ∙ ap (λ g. getD needs g 0) (tier-is s (R .first) ∙ e ∙ sym (tier-is t (R .second))) ∙ sym (gets t (R .second))
 
       noticed : (s v : ℕ) → stageOf old s < stageOf new s → M .paired s v ≡ true → member moved v ≡ true
       noticed zero v l p = absurd (omega arith)

@@ -15,9 +15,10 @@ use Rattle.base.specs.Bits.{member}
 use Rattle.base.proofs.Tests.{bool-cases, never, and-left, and-right, and-false, or-true, or-false, less?}
 use Rattle.base.proofs.Counting.{total-le, total-less, total-within}
 use Rattle.base.proofs.Members.{entry-past}
-use Rattle.lgs.specs.Market.{Market, Rivals, ConsistentStages}
+use Rattle.lgs.specs.Market.{Market, matters, Rivals, ConsistentStages}
 use Rattle.lgs.specs.Stages.{stageOf, FromOne, LeastStages, NoStages}
 use Rattle.lgs.proofs.Valid.{WellFormed}
+use Rattle.lgs.proofs.Matters.{matters-true}
 use Rattle.lgs.proofs.Stages.{outside, ranked, rank, below-few}
 use Rattle.tables.proofs.Laws.{member-zero}
 use Rattle.stages.specs.Raising.{Below, Enough, AgreesAt, Raised}
@@ -68,13 +69,13 @@ module _ (M : Market) where
       → AgreesAt M own′ v
   agrees-still w n own own′ moved top v R e A =
       record {
-        earlier = λ s t k l. omega (arith, A .earlier s t k l, stays s (k .pair), stays t (k .pair′));
-        together = λ s t k q. omega (arith, A .together s t k q, stays s (k .pair), stays t (k .pair′));
+        earlier = λ s t k l. omega (arith, A .earlier s t k l, stays s (k .first), stays t (k .second));
+        together = λ s t k q. omega (arith, A .together s t k q, stays s (k .first), stays t (k .second));
       }
     where
-      stays : (s : ℕ) → M .paired s v ≡ true → stageOf own′ s ≡ stageOf own s
-      stays s pair =
-          ⊎-elim (λ (l : stageOf own s < stageOf own′ s). never (R .noticed s v l pair) e)
+      stays : (s : ℕ) → matters M v s ≡ true → stageOf own′ s ≡ stageOf own s
+      stays s m =
+          ⊎-elim (λ (l : stageOf own s < stageOf own′ s). never (R .noticed s v l (matters-true M v s m .1)) e)
           (λ (l : stageOf own′ s ≤ stageOf own s). omega (arith, R .grows s))
           (less? (stageOf own s) (stageOf own′ s))
 
@@ -252,7 +253,9 @@ module _ (M : Market) where
       still h = ⊎-elim (λ m. m) (λ f. never (not-false _ f) h) (and-false (p .moving) _ e)
 
       everywhere : p .high ≡ false → (w s t : ℕ) → Rivals M w s t → AgreesAt M own w
-      everywhere h w s t R = I .going .rest w (I .rested (still h) h w (named s w (R .pair) .1 .0) (named s w (R .pair) .1 .1))
+      everywhere h w s t R =
+          let hers = named s w (matters-true M w s (R .first) .1) in
+          I .going .rest w (I .rested (still h) h w (hers .1 .0) (hers .1 .1))
 
   -- ---- the rounds come to an end
   abbrev pub left : List ℕ → Progress → ℕ
@@ -294,12 +297,12 @@ module _ (M : Market) (wf : WellFormed M) (own : List ℕ) (few : M .students �
   part-agree : length own ≡ 512 → ConsistentStages M (stageOf own) → ConsistentStages M (stageOf (take (M .students) own))
   part-agree size C =
       record {
-        earlier = λ w s t R l. omega (arith, C .earlier w s t R l, same s w (R .pair), same t w (R .pair′));
-        together = λ w s t R e. omega (arith, C .together w s t R e, same s w (R .pair), same t w (R .pair′));
+        earlier = λ w s t R l. omega (arith, C .earlier w s t R l, same s w (R .first), same t w (R .second));
+        together = λ w s t R e. omega (arith, C .together w s t R e, same s w (R .first), same t w (R .second));
       }
     where
-      same : (s w : ℕ) → M .paired s w ≡ true → stageOf (take (M .students) own) s ≡ stageOf own s
-      same s w pair = part-same M own few size s (wf .student s w pair .0) (wf .student s w pair .1)
+      same : (s w : ℕ) → matters M w s ≡ true → stageOf (take (M .students) own) s ≡ stageOf own s
+      same s w m = let r = wf .student s w (matters-true M w s m .1) in part-same M own few size s (r .0) (r .1)
 
   pub settled-least : Settled M own true → LeastStages M (take (M .students) own)
   settled-least S =

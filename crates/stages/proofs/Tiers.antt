@@ -8,10 +8,9 @@ use native.Mathlib.Omega.{arith}
 use lib.Dec.{ltb}
 use borrow.Author.Tests.{eq-eqb, ne-eqb, lt-ltb, le-ltb}
 use Rattle.base.proofs.Tests.{bool-cases, eq?, less?, is-false, never}
-use Rattle.lgs.specs.Market.{Market, workshopOutside}
-use Rattle.lgs.specs.Stages.{matters}
+use Rattle.lgs.specs.Market.{Market, matters, workshopOutside}
 use Rattle.lgs.proofs.Valid.{WellFormed}
-use Rattle.lgs.proofs.Stages.{matters-true, matters-is}
+use Rattle.lgs.proofs.Matters.{matters-true, matters-is}
 use Rattle.format.specs.Engine.{marketIn}
 use Rattle.stages.specs.Raising.{Ready, reachOf, tierFor}
 

@@ -13,22 +13,22 @@ use Rattle.format.specs.Layout.{rowAt, rowCount, rows}
 use Rattle.format.specs.Refusals.{badRange, caseCauses}
 use Rattle.format.specs.Engine.{marketIn}
 use Rattle.format.specs.Buffers.{withHead}
-use Rattle.format.specs.Stages.{unstaged, workOut, stagesAfter}
+use Rattle.stages.specs.Outcome.{unstaged, workOut, stagesAfter}
 use Rattle.format.proofs.Causes.{table-none}
 use Rattle.format.proofs.Positions.{pair-says}
 use Rattle.format.proofs.Reading.{tiers-range}
-use Rattle.format.proofs.Restaged.{case-wf}
-use Rattle.format.proofs.Stages.{out-none, out-staged, stages-promised}
+use Rattle.format.proofs.Cases.{case-wf}
+use Rattle.stages.proofs.Promises.{out-none, out-staged, stages-promised}
 use Rattle.records.specs.Records.{pairPlace}
 use Rattle.tables.specs.Table.{Made}
 use Rattle.tables.proofs.Reading.{pair-there}
 use Rattle.case_tests.specs.Checked.{CleanCase, caseRefusal}
 use Rattle.case_tests.proofs.Cases.{clean, few, none-clean}
 use Rattle.lookup.proofs.People.{workshop-at, pair-at, named-at}
-use Rattle.api.specs.declared.StagesAnswer.{StagesAnswer}
-use Rattle.api.specs.declared.StagesAnswer.the-variants.{Staged, Refused}
-use Rattle.api.specs.Stages.{stagesAnswerFor, StagesAnswered}
-use Rattle.api.proofs.Stages.{stages-values}
+use Rattle.stages.specs.declared.StagesAnswer.{StagesAnswer}
+use Rattle.stages.specs.declared.StagesAnswer.the-variants.{Staged, Refused}
+use Rattle.stages.specs.Answered.{stagesAnswerFor, StagesAnswered}
+use Rattle.stages.proofs.Answers.{stages-values}
 use Rattle.stages.specs.Raising.{Ready}
 use Rattle.stages.specs.Rounds.{Settled}
 use Rattle.stages.proofs.Rounding.{settled-least, settled-none}

@@ -1,2 +1,7 @@
+pub mod Outcome
+pub mod Restaged
+pub mod Promises
+pub mod Table
+pub mod Answered
 pub mod Raising
 pub mod Rounds

@@ -8,8 +8,8 @@ use lib.Dec.{eqb}
 use lib.ListN.{length, getD}
 use Rattle.base.specs.Below.{anyBelow}
 use Rattle.base.specs.Bits.{member}
-use Rattle.lgs.specs.Market.{Market, Rivals, ConsistentStages, workshopOutside}
-use Rattle.lgs.specs.Stages.{stageOf, matters, FromOne}
+use Rattle.lgs.specs.Market.{Market, matters, Rivals, ConsistentStages, workshopOutside}
+use Rattle.lgs.specs.Stages.{stageOf, FromOne}
 use Rattle.format.specs.Engine.{marketIn}
 use Rattle.tables.specs.Table.{Tabled}
 use Rattle.lookup.specs.Clean.{WorkshopAt, PairAt}

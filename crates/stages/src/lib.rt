@@ -4,16 +4,21 @@ ghost use mathlib.Core.Option.{none};
 ghost use Prim.Native.Nat.{_≤_};
 ghost use lib.ListN.{length, take};
 ghost use Rattle.format.specs.Buffers.{withHead};
-ghost use Rattle.format.specs.Stages.{workOut, stagesAfter};
-ghost use Rattle.api.specs.Stages.{stagesAnswerFor, stagesReportOf, StagesAnswered};
+ghost use Rattle.stages.specs.Outcome.{workOut, stagesAfter};
+ghost use Rattle.stages.specs.Answered.{stagesAnswerFor, stagesReportOf, StagesAnswered};
 ghost use Rattle.case_tests.specs.Checked.{caseRefusal};
 ghost use Rattle.stages.specs.Raising.{Ready};
 use api::PartReport;
-use api::StagesAnswer;
 use case_tests::Checked;
 
 mod raising;
 mod rounds;
+
+// The answer; the stages are in the lent buffer.
+pub enum StagesAnswer {
+    Staged { students: usize },
+    Refused { cause: usize, record: usize },
+}
 
 // The first n stages, into the lent buffer.
 fn put_stages(own: &[u16], n: usize, stages: &mut [u16])
@@ -67,10 +72,7 @@ pub fn stages(case: &[u8], stages: &mut [u16]) -> StagesAnswer
 {
     let mut table = [0u64; 1089];
     match case_tests::check_case(case, &mut table) {
-        Checked::Refused { cause, record } => StagesAnswer::Refused {
-            cause: cause as usize,
-            record,
-        },
+        Checked::Refused { cause, record } => StagesAnswer::Refused { cause, record },
         Checked::Counts {
             students,
             workshops,
@@ -88,7 +90,7 @@ pub fn stages(case: &[u8], stages: &mut [u16]) -> StagesAnswer
 }
 
 // The answer in three numbers.
-fn numbers(answer: StagesAnswer) -> PartReport
+pub fn numbers(answer: StagesAnswer) -> PartReport
     ensures { λ r. ⌜ r ≡ stagesReportOf answer ⌝ }
 {
     match answer {
@@ -103,15 +105,4 @@ fn numbers(answer: StagesAnswer) -> PartReport
             second: record as u64,
         },
     }
-}
-
-// `stages` for a host in another language: a slice is a pointer and a length, and the answer is three numbers.
-#[no_mangle]
-pub extern "C" fn lgs_stages(case: &[u8], stages: &mut [u16]) -> PartReport
-    ensures { λ r. ⌜ r ≡ stagesReportOf (stagesAnswerFor (workOut (now (case .entry)) (length (now (stages .entry))))) ⌝ }
-    ensures { λ r. ⌜ StagesAnswered (now (case .entry)) (now (stages .entry))
-        (stagesAnswerFor (workOut (now (case .entry)) (length (now (stages .entry))))) (now (stages .exit)) ⌝ }
-{
-    let a = self::stages(case, &mut *stages);
-    numbers(a)
 }

@@ -8,6 +8,10 @@
 -- lends-on         own (the `&κ mut [T]` ((b, o), γ, us)) ∗ [κ]_q   becomes, at a new lifetime ν and some name δ,   own (the `&ν mut [T]` ((b, o), δ,
 -- us)) ∗ [ν]_1 ∗ LentAgain δ us
 --     back-on          [ν]_1 ∗ LentAgain δ us ∗ finally δ zs   becomes   own (the `&κ mut [T]` ((b, o), γ, zs)) ∗ [κ]_q.        The lifetime ν is ended
+-- The same for a `&` of it:
+-- lends-read       own (the `&κ mut [T]` ((b, o), γ, us)) ∗ [κ]_q   becomes, at a new lifetime ν and some name δ,   own (the `&ν [T]` ((b, o), δ, us))
+-- ∗ [ν]_1 ∗ LentRead us
+--     read-back        [ν]_1 ∗ LentRead us   becomes   own (the `&κ mut [T]` ((b, o), γ, us)) ∗ [κ]_q.        The lifetime ν is ended
 -- Assumes `Given`.
 use mathlib.Core.Path.{_≡_, refl, sym, _∙_, ap, subst}
 use Prim.Native.Nat.{ℕ}
@@ -27,11 +31,13 @@ use types.Tokens.{lft-new, lft-end}
 use types.SemTy.{cells, Arr}
 use denote.RattleType.{RattleType}
 use denote.Shadow.{pureL, pureI}
-use denote.Memory.{mem}
+use types.Share.{arr-parts}
+use denote.Memory.{mem, shares}
 use denote.Ref.{RefT}
-use denote.Slice.{sliceVal, MutSlice, heres, Room, finally, at-slice, codedHoleys}
+use denote.Slice.{sliceVal, MutSlice, ShrSlice, heres, Room, finally, at-slice, codedHoleys}
 use denote.Lend.{Held, lends-slice, slice-back}
 use denote.Index.{row, whole-out, whole-in, opens-slice, closes-slice}
+use Rattle.walks.proofs.Row.{Opened, opens-row, closes-row, lends-row, row-back}
 
 module _ (R : RattleType) (κ κ′ : Lft) (q : Share) (γ : GName) (b o : ℕ) where
   abbrev at-list : GName → List (R .Denot) → RefT (List (R .Denot))
@@ -92,3 +98,25 @@ module _ {M : Type 1} {𝓤 : URA M} {H : Heap 𝓤} {A : Atoms 𝓤} {K : Type 
       use3 W (later (‵ (MutSlice ℓ κ R .own (record { ptr = (b, o); name = γ; now = zs }) (sliceVal (b, o) (length us) ∷ [])) ⊛ ‵ (flft κ q)))
       (comes-back R κ (ν ∷ []) q γ b o 𝓤 H A W ℓ ℓ us δ zs (subst (Room R) (sym e) room) (e′ ∙ sym e)) $ await t z $ split t $
       rewrite t 0 (λ (j : ℕ). ‵ (MutSlice ℓ κ R .own (record { ptr = (b, o); name = γ; now = zs }) (sliceVal (b, o) j ∷ []))) e refl $ s)
+
+abbrev pub LentRead : (R : RattleType) (κ : Lft) (ν : ℕ) (q : Share) (γ : GName) (b o : ℕ) → List (R .Denot) → Fml
+LentRead R κ ν q γ b o us = fsep (flent (ν ∷ []) (arr-parts (shares R) (length us) .part fullShare us b o)) (Opened R κ q γ b o us)
+
+module _ {M : Type 1} {𝓤 : URA M} {H : Heap 𝓤} {A : Atoms 𝓤} {K : Type 0} {W : Given 𝓤 H A} {Γ : List (Item 𝓤)} {G : Goal 𝓤 H} where
+  pub lends-read : K → Soaks G → (R : RattleType) (ℓ ℓ′ : Lifetime) (κ : Lft) (q : Share) (γ : GName) (b o m : ℕ) (us : List (R .Denot)) → Room R m
+      → length us ≡ m
+      → ((ν : ℕ) (δ : GName) → Seq K W (‵ (ShrSlice ℓ′ (ν ∷ []) R .own (record { ptr = (b, o); name = δ; now = us }) (sliceVal (b, o) m ∷ []))
+      ∷ ‵ (flft (ν ∷ []) fullShare) ∷ ‵ (LentRead R κ ν q γ b o us) ∷ Γ) G)
+      → Seq K W (‵ (MutSlice ℓ κ R .own (record { ptr = (b, o); name = γ; now = us }) (sliceVal (b, o) m ∷ [])) ∷ ‵ (flft κ q) ∷ Γ) G
+  lends-read t z R ℓ ℓ′ κ q γ b o m us room e k =
+      opens-row t z R ℓ κ q γ b o us $ lends-row t z R ℓ′ b o us (subst (Room R) (sym e) room) (λ ν δ.
+      rewrite t 0 (λ (j : ℕ). ‵ (ShrSlice ℓ′ (ν ∷ []) R .own (record { ptr = (b, o); name = δ; now = us }) (sliceVal (b, o) j ∷ []))) e refl $
+      move t (2 ∷ 3 ∷ []) $ fjoin t $ move t (1 ∷ 2 ∷ 0 ∷ []) $ k ν δ)
+
+  pub read-back : K → Soaks G → (R : RattleType) (ℓ : Lifetime) (κ : Lft) (q : Share) (γ : GName) (b o m ν : ℕ) (us : List (R .Denot)) → Room R m
+      → length us ≡ m
+      → Step K W (‵ (MutSlice ℓ κ R .own (record { ptr = (b, o); name = γ; now = us }) (sliceVal (b, o) m ∷ [])) ∷ ‵ (flft κ q) ∷ Γ) G
+      (‵ (flft (ν ∷ []) fullShare) ∷ ‵ (LentRead R κ ν q γ b o us) ∷ Γ) G
+  read-back t z R ℓ κ q γ b o m ν us room e = step (λ s. move t (1 ∷ []) $ fsplit t $ move t (2 ∷ 0 ∷ []) $ row-back t z R b o ν us $
+      closes-row t z R ℓ κ q γ b o us us (subst (Room R) (sym e) room) refl $
+      rewrite t 0 (λ (j : ℕ). ‵ (MutSlice ℓ κ R .own (record { ptr = (b, o); name = γ; now = us }) (sliceVal (b, o) j ∷ []))) e refl $ s)

@@ -5,3 +5,4 @@ pub mod Clauses
 pub mod Again
 pub mod Local
 pub mod Consts
+pub mod Spell

@@ -25,20 +25,20 @@ use types.Kit.{Given, Goal, Soaks, Item, ‵, _⊛_, some, later, Seq, Step, ste
 use types.Kit.{fsplit, fjoin, fpick, fpack, feqI, done}
 use types.SemTy.{cells, Arr}
 use types.Share.{arr-parts}
-use types.Tokens.{lft-new, lft-end, lent-back}
+use types.Tokens.{lft-new, lft-end}
 use denote.RattleType.{RattleType}
 use denote.Array.{Array, each, arrayVal, array-tells, array-repeat}
 use denote.ArrayMemory.{Single, array-apart, array-whole}
 use denote.Index.{row, whole-in, whole-out}
 use denote.Laws.{Is, Copy, shows}
-use denote.Lend.{Held, lends-slice, slice-back, lends-shr-slice}
+use denote.Lend.{Held, lends-slice, slice-back}
 use denote.Shadow.{shadow, makes-shadow}
 use denote.Memory.{cellAt, lone, mem, shares, partAt, partOf}
 use denote.Plain.{uint-tells}
 use denote.Builtin.{u64}
 use denote.Slice.{sliceVal, MutSlice, ShrSlice, Room, finally}
 use denote.Steps.{owned, peeks}
-use Rattle.walks.proofs.Row.{Kind}
+use Rattle.walks.proofs.Row.{Kind, lends-row, row-back}
 
 -- the machine value of an array whose elements are zs
 abbrev pub array-val : {R : RattleType} → Kind R → List (R .Denot) → Val
@@ -113,16 +113,9 @@ module _ {M : Type 1} {𝓤 : URA M} {H : Heap 𝓤} {A : Atoms 𝓤} {K : Type 
       → ((ν : ℕ) (δ : GName) → Seq K W (‵ (ShrSlice ℓ (ν ∷ []) R .own (record { ptr = (l, 0); name = δ; now = zs }) (sliceVal (l, 0) (length zs) ∷ []))
       ∷ ‵ (flft (ν ∷ []) fullShare) ∷ ‵ (flent (ν ∷ []) (arr-parts (shares R) (length zs) .part fullShare zs l 0)) ∷ Γ) G)
       → Seq K W (‵ (cells (mem R) zs l 0) ∷ Γ) G
-  lends-cells t z R ℓ l zs room c =
-      use1 W (‵ (row R fullShare zs l 0)) (whole-out 𝓤 H A W R zs l 0) $ feqI t ℕ (length zs) (length zs) refl $ fjoin t $
-      lft-new t z (λ ν. move t (1 ∷ []) $
-      use1 W (later (some (λ (δ : GName). ‵ (ShrSlice ℓ (ν ∷ []) R .own (record { ptr = (l, 0); name = δ; now = zs }) (sliceVal (l, 0) (length zs) ∷ []))
-      ⊛ ‵ (flent (ν ∷ []) (arr-parts (shares R) (length zs) .part fullShare zs l 0)))))
-      (lends-shr-slice 𝓤 H A W R ℓ (ν ∷ []) fullShare zs l 0 room) $
-      await t z $ pick t (λ δ. split t $ move t (0 ∷ 2 ∷ 1 ∷ []) $ c ν δ))
+  lends-cells t z R ℓ l zs room c = use1 W (‵ (row R fullShare zs l 0)) (whole-out 𝓤 H A W R zs l 0) $ lends-row t z R ℓ l 0 zs room c
 
   pub shared-back : K → Soaks G → (R : RattleType) (l ν : ℕ) (zs : List (R .Denot))
       → Step K W (‵ (cells (mem R) zs l 0) ∷ Γ) G (‵ (flft (ν ∷ []) fullShare)
       ∷ ‵ (flent (ν ∷ []) (arr-parts (shares R) (length zs) .part fullShare zs l 0)) ∷ Γ) G
-  shared-back t z R l ν zs = step (λ s. lft-end t z $ lent-back t z $ fsplit t $ drop t $
-      use1 W (‵ (cells (mem R) zs l 0)) (whole-in 𝓤 H A W R zs l 0) $ s)
+  shared-back t z R l ν zs = step (λ s. row-back t z R l 0 ν zs $ use1 W (‵ (cells (mem R) zs l 0)) (whole-in 𝓤 H A W R zs l 0) $ s)

@@ -1,4 +1,4 @@
-//! The C headers: a C compiler takes them, and their types lie in memory as this package has them.
+//! The C header: a C compiler takes it, and its types lie in memory as this package has them.
 
 use crate::lending::StudentState;
 use crate::stages::Report;
@@ -7,7 +7,7 @@ use std::io::Write;
 use std::mem::{offset_of, size_of};
 use std::process::{Command, Stdio};
 
-/// The prototype again, as this package calls the function, and the layouts.
+/// The prototypes again, as this package calls the functions, and the layouts.
 const PROGRAM: &str = r#"
 lgs_report lgs_place(const uint8_t *, size_t, const uint8_t *, size_t, uint16_t *, size_t, uint16_t *, size_t,
                      uint16_t *, size_t, uint16_t *, size_t, lgs_student_state *, size_t);
@@ -16,16 +16,12 @@ _Static_assert(offsetof(lgs_report, first) == 8 && offsetof(lgs_report, second) 
 _Static_assert(offsetof(lgs_report, kind) == 0 && offsetof(lgs_report, visits) == 24, "kind and count");
 _Static_assert(offsetof(lgs_report, fares) == 32 && sizeof(((lgs_report *)0)->fares) == 8, "total");
 _Static_assert(LGS_PLACED == 0 && LGS_NEXT == 1 && LGS_REFUSED == 2, "kinds");
-"#;
-
-const PROGRAM_OF_STAGES: &str = r#"
 lgs_part_report lgs_stages(const uint8_t *, size_t, uint16_t *, size_t);
-_Static_assert(LGS_DONE == 0 && LGS_REFUSED == 2 && LGS_NO_STAGES == 12, "kinds and 12");
+_Static_assert(LGS_DONE == 0 && LGS_NO_STAGES == 12, "done and 12");
 _Static_assert(LGS_MOST_STAGES == 512, "most");
 "#;
 
-const HEADER: &str = concat!(env!("CARGO_MANIFEST_DIR"), "/../../include/lgs_place.h");
-const HEADER_OF_STAGES: &str = concat!(env!("CARGO_MANIFEST_DIR"), "/../../include/lgs_stages.h");
+const HEADER: &str = concat!(env!("CARGO_MANIFEST_DIR"), "/../../include/lgs.h");
 
 pub fn run(tally: &mut Tally) {
     let fields = [
@@ -43,25 +39,18 @@ pub fn run(tally: &mut Tally) {
         program += &assertion(&format!("offsetof(lgs_student_state, {name})"), offset);
         program += &assertion(&format!("sizeof(((lgs_student_state *)0)->{name})"), size);
     }
-    check(tally, &program);
-
     let fields = [
         ("kind", offset_of!(Report, kind)),
         ("first", offset_of!(Report, first)),
         ("second", offset_of!(Report, second)),
     ];
-    let mut program = format!("#include \"{HEADER_OF_STAGES}\"\n{PROGRAM_OF_STAGES}");
     program += &assertion("sizeof(lgs_part_report)", size_of::<Report>());
     for (name, offset) in fields {
         program += &assertion(&format!("offsetof(lgs_part_report, {name})"), offset);
         let size = format!("sizeof(((lgs_part_report *)0)->{name})");
         program += &assertion(&size, size_of::<u64>());
     }
-    check(tally, &program);
-}
-
-fn check(tally: &mut Tally, program: &str) {
-    match compiles(program) {
+    match compiles(&program) {
         Ok(good) => tally.check(good, || "the header differs".to_string()),
         Err(error) => tally.note(&format!("skipped, no C compiler: {error}")),
     }

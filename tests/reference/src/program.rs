@@ -119,6 +119,7 @@ pub fn run(tally: &mut Tally, program: &Path, seed: u64, random_cases: usize) {
     unreadable(tally, &bench);
     devices(tally, &bench);
     sizes(tally, &bench);
+    limits(tally, &bench);
     pipes(tally, &bench);
     full_disk(tally, &bench);
     random(tally, &bench, seed, random_cases);
@@ -332,6 +333,39 @@ fn longest_case() -> Input {
         .truncate(records - case.students.len() - case.workshops.len());
     let book = gen::full_book(&mut rng, &case, MAX_MARK);
     case.input(&book)
+}
+
+/// The program's own buffers at their limits: the most students, seats and pairs of a case that it
+/// reads. Each run is finished, and lists at least so many visits.
+fn limits(tally: &mut Tally, bench: &Bench) {
+    let records = MAX_FILE / CASE_RECORD;
+    let mut rng = Rng::new(11);
+    let mut students = gen::experiment(&mut rng, MAX_STUDENTS, 7, 4, 8);
+    students.pairs.truncate(records - MAX_STUDENTS - 7);
+    let mut seats = gen::experiment(&mut rng, 60, MAX_WORKSHOPS, 4, 8);
+    for workshop in &mut seats.workshops {
+        workshop.quota = MAX_QUOTA;
+    }
+    // No case of this many records has more pairs; everybody visits everybody.
+    let pairs = gen::experiment(&mut rng, 63, 63, 1, 1);
+    for (name, case, least) in [
+        ("512 students", students, 1),
+        ("64 workshops of quota 512", seats, 1),
+        ("3,969 pairs, all visited", pairs, 3969),
+    ] {
+        let input = case.input(&gen::full_book(&mut rng, &case, MAX_MARK));
+        let listed = match literal::answer(&input) {
+            Answer::Placed { visits, .. } => visits.len(),
+            _ => 0,
+        };
+        tally.check(listed >= least && input.case.len() <= MAX_FILE, || {
+            format!(
+                "{name}: {listed} visits, a case of {} bytes",
+                input.case.len()
+            )
+        });
+        bench.expect_answer(tally, name, &input);
+    }
 }
 
 /// Files that come in two pieces, as a read gives what is there so far.

@@ -1,4 +1,4 @@
--- `answering::answer_of` meets its contract, by the three answers.
+-- `answering::answer_of` meets its contract, by the two answers.
 use mathlib.Core.Path.{_≡_}
 use mathlib.Core.Bool.{true, false}
 use native.Mathlib.Omega.{arith}
@@ -12,24 +12,15 @@ returns : tie.Need-returns
 unfolding answerEnd
 returns c =
     let a = c .before .args in
-    let z : eqb (a .p .cause) 0 ≡ false = ne-eqb (a .p .cause) 0 (λ e. omega arith) in
-    rw z
+    let y : eqb (a .r .workshop) 0 ≡ false = ne-eqb (a .r .workshop) 0 (λ e. omega arith) in
+    rw y
 
 returns-2 : tie.Need-returns-2
 unfolding answerEnd
 returns-2 c =
-    let a = c .before .before .args in
-    let z : eqb (a .p .cause) 0 ≡ true = eq-eqb (a .p .cause) 0 (omega arith) in
-    let y : eqb (a .r .workshop) 0 ≡ false = ne-eqb (a .r .workshop) 0 (λ e. omega arith) in
-    rw (z, y)
-
-returns-3 : tie.Need-returns-3
-unfolding answerEnd
-returns-3 c =
-    let a = c .before .before .args in
-    let z : eqb (a .p .cause) 0 ≡ true = eq-eqb (a .p .cause) 0 (omega arith) in
+    let a = c .before .args in
     let y : eqb (a .r .workshop) 0 ≡ true = eq-eqb (a .r .workshop) 0 (omega arith) in
-    rw (z, y)
+    rw y
 
 pub answer-of-spec : {M : Type 1} → statement M
-answer-of-spec = tie.close (tie.spec returns returns-2 returns-3)
+answer-of-spec = tie.close (tie.spec returns returns-2)

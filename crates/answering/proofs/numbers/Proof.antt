@@ -3,8 +3,6 @@ use Rattle.api.specs.Answers.{reportOf}
 use borrow.Author.Needs.{needs}
 use Rattle.answering.proofs.numbers.Statement.{statement}
 use Rattle.answering.proofs.numbers.Tie as tie
-use Rattle.answering.proofs.numbers.Reads as reads
-use Rattle.answering.proofs.numbers.Lts as lts
 
 enum-known-answer : tie.Need-enum-known-answer
 enum-known-answer c = search needs

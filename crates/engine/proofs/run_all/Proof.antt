@@ -51,7 +51,7 @@ use denote.Triple.Clauses.{Lasts, lasts}
 use denote.Triple.Table.{entered, cited}
 use denote.Triple.Walked.{says, needs, Stays, stay-slice, stay-none-slice, stay-none, walkOf, goes-slice, goes-none-slice, goes-none, Walks, ends-at}
 use denote.Triple.Walked.{walked, walk-meets}
-use Rattle.walks.proofs.Slices.{Spot, spot-of, ref, sv, Loan, anew, word, words-ty, bytes-ty, longs-ty, ptr-ty}
+use Rattle.walks.proofs.Slices.{Spot, spot-of, ref, sv, Loan, anew, word, words-ty, bytes-ty, shared-words-ty, longs-ty, ptr-ty}
 use Rattle.walks.proofs.Calls.{calls-out}
 use Rattle.walks.proofs.Again.{lends-on, back-on}
 use Rattle.lgs.specs.Market.{Market, Results}
@@ -81,7 +81,7 @@ stayed = (
   (
     stay-none-slice (1 ∷ []) tt (plain (λ _. u8)) yes,
     (
-      stay-slice (2 ∷ []) tt (plain (λ _. u16)),
+      stay-none-slice (2 ∷ []) tt (plain (λ _. u16)) yes,
       (
         stay-none-slice (3 ∷ []) tt (plain (λ _. u64)) yes,
         (
@@ -174,8 +174,8 @@ module _ {M : Type 1} (𝓤 : URA M) (H : Heap 𝓤) (A : Atoms 𝓤) (W : Given
   abbrev Book : Item 𝓤
   Book = ‵ (ShrSlice (named 1) κ₁ u8 .own (ref p₁ book) (sv p₁ book ∷ []))
 
-  abbrev Index : List ℕ → Item 𝓤
-  Index l = ‵ (MutSlice (named 2) κ₂ u16 .own (ref p₂ l) (sv p₂ index ∷ []))
+  abbrev Index : Item 𝓤
+  Index = ‵ (ShrSlice (named 2) κ₂ u16 .own (ref p₂ index) (sv p₂ index ∷ []))
 
   abbrev Table : Item 𝓤
   Table = ‵ (ShrSlice (named 3) κ₃ u64 .own (ref p₃ table) (sv p₃ table ∷ []))
@@ -191,42 +191,15 @@ module _ {M : Type 1} (𝓤 : URA M) (H : Heap 𝓤) (A : Atoms 𝓤) (W : Given
 
   exits : (vs us : List ℕ) (zs : List StudentState) (r : Run) → length vs ≡ length visits → length us ≡ length seats → length zs ≡ length ys
       → (vs, (us, (zs, r))) ≡ after last → Is S.the-row r (S′.lowered r ∷ [])
-      → ent 𝓤 (⋆ 𝓤 H A (States zs ∷ ‵ (flft κ₆ q₆) ∷ Seats us ∷ ‵ (flft κ₅ q₅) ∷ Visits vs ∷ ‵ (flft κ₄ q₄) ∷ Index index ∷ ‵ (flft κ₂ q₂) ∷ Case ∷ ‵
+      → ent 𝓤 (⋆ 𝓤 H A (States zs ∷ ‵ (flft κ₆ q₆) ∷ Seats us ∷ ‵ (flft κ₅ q₅) ∷ Visits vs ∷ ‵ (flft κ₄ q₄) ∷ Index ∷ ‵ (flft κ₂ q₂) ∷ Case ∷ ‵
       (flft κ₀ q₀)
       ∷ Book ∷ ‵ (flft κ₁ q₁) ∷ Table ∷ ‵ (flft κ₃ q₃) ∷ [])) (Post (S′.lowered r))
   exits vs us zs r len₄ len₅ len₆ e is =
-      qed W (States zs ∷ ‵ (flft κ₆ q₆) ∷ Seats us ∷ ‵ (flft κ₅ q₅) ∷ Visits vs ∷ ‵ (flft κ₄ q₄) ∷ Index index ∷ ‵ (flft κ₂ q₂) ∷ Case ∷ ‵ (flft κ₀ q₀) ∷ Book
+      qed W (States zs ∷ ‵ (flft κ₆ q₆) ∷ Seats us ∷ ‵ (flft κ₅ q₅) ∷ Visits vs ∷ ‵ (flft κ₄ q₄) ∷ Index ∷ ‵ (flft κ₂ q₂) ∷ Case ∷ ‵ (flft κ₀ q₀) ∷ Book
       ∷ ‵ (flft κ₁ q₁) ∷ Table ∷ ‵ (flft κ₃ q₃) ∷ []) ∵
       suffices ! _ (ends-at 𝓤 H A run-all.ended stayed (run-all.clauses 𝓤 H A mem run) W ((κs, qs, tt, x, at), tt)
-      (S′.lowered r) r (tt, (tt, (index, (tt, (vs, (us, (zs, (tt, (tt, (tt, tt)))))))))) (
-        tt,
-        (
-          tt,
-          (
-            refl,
-            (
-              tt,
-              (
-                len₄,
-                (
-                  len₅,
-                  (
-                    len₆,
-                    (
-                      tt,
-                      (
-                        tt,
-                        (tt, tt),
-                      ),
-                    ),
-                  ),
-                ),
-              ),
-            ),
-          ),
-        ),
-      )) $
-      says ! (e, refl) $
+      (S′.lowered r) r (tt, (tt, (tt, (tt, (vs, (us, (zs, (tt, (tt, (tt, tt)))))))))) (tt, (tt, (tt, (tt, (len₄, (len₅, (len₆, (tt, (tt, (tt, tt))))))))))) $
+      says ! e $
       -- the tokens
       nothing ! $ move ! (2 ∷ 0 ∷ []) $ join ! $ move ! (3 ∷ 0 ∷ []) $ join ! $ move ! (4 ∷ 0 ∷ []) $ join ! $ move ! (11 ∷ 0 ∷ []) $ join ! $
       move ! (5 ∷ 0 ∷ []) $ join ! $ move !
@@ -241,21 +214,21 @@ module _ {M : Type 1} (𝓤 : URA M) (H : Heap 𝓤) (A : Atoms 𝓤) (W : Given
       move ! (1 ∷ 0 ∷ []) $ fjoin ! $
       owned ! S.the-row (Is S.the-row) (LL.makes S.the-type S′.the-plain 𝓤 H A) r _ is $ move ! (1 ∷ 0 ∷ []) $ done !
 
-  -- ---- the call of `take_turn`, with the index, the visits, the seats and the states lent again
-  abbrev lives : Loan → Loan → Loan → Loan → (Lft × (Lft × (Lft × (Lft × (Lft × (Lft × (Lft × Unit {0})))))))
-  lives a₂ a₄ a₅ a₆ = (κ₀, (κ₁, (a₂ .ν ∷ [], (κ₃, (a₄ .ν ∷ [], (a₅ .ν ∷ [], (a₆ .ν ∷ [], tt)))))))
+  -- ---- the call of `take_turn`, with the visits, the seats and the states lent again
+  abbrev lives : Loan → Loan → Loan → (Lft × (Lft × (Lft × (Lft × (Lft × (Lft × (Lft × Unit {0})))))))
+  lives a₄ a₅ a₆ = (κ₀, (κ₁, (κ₂, (κ₃, (a₄ .ν ∷ [], (a₅ .ν ∷ [], (a₆ .ν ∷ [], tt)))))))
 
-  abbrev passed : Loan → Loan → Loan → Loan → List ℕ → List ℕ → List StudentState → Run → Arg
-  passed a₂ a₄ a₅ a₆ vs us zs st =
-      (ref p₀ case, (ref p₁ book, (anew p₂ a₂ index, (ref p₃ table, (anew p₄ a₄ vs, (anew p₅ a₅ us, (anew p₆ a₆ zs, (st, (students, (workshops, tt))))))))))
+  abbrev passed : Loan → Loan → Loan → List ℕ → List ℕ → List StudentState → Run → Arg
+  passed a₄ a₅ a₆ vs us zs st =
+      (ref p₀ case, (ref p₁ book, (ref p₂ index, (ref p₃ table, (anew p₄ a₄ vs, (anew p₅ a₅ us, (anew p₆ a₆ zs, (st, (students, (workshops, tt))))))))))
 
-  abbrev to-turn : Loan → Loan → Loan → Loan → List ℕ → List ℕ → List StudentState → Run → TurnOf 𝓤 H A mem run .Ghost
-  to-turn a₂ a₄ a₅ a₆ vs us zs st = (
+  abbrev to-turn : Loan → Loan → Loan → List ℕ → List ℕ → List StudentState → Run → TurnOf 𝓤 H A mem run .Ghost
+  to-turn a₄ a₅ a₆ vs us zs st = (
     (
-      lives a₂ a₄ a₅ a₆,
-      (q₀, (q₁, (fullShare, (q₃, (fullShare, (fullShare, (fullShare, tt))))))),
+      lives a₄ a₅ a₆,
+      (q₀, (q₁, (q₂, (q₃, (fullShare, (fullShare, (fullShare, tt))))))),
       tt,
-      passed a₂ a₄ a₅ a₆ vs us zs st,
+      passed a₄ a₅ a₆ vs us zs st,
       (
         sv p₀ case ∷ [],
         (
@@ -279,19 +252,18 @@ module _ {M : Type 1} (𝓤 : URA M) (H : Heap 𝓤) (A : Atoms 𝓤) (W : Given
     tt,
   )
 
-  abbrev Asked : Loan → Loan → Loan → Loan → List ℕ → List ℕ → List StudentState → List (Item 𝓤)
-  Asked a₂ a₄ a₅ a₆ vs us zs = Case ∷ ‵ (flft κ₀ q₀) ∷ Book ∷ ‵ (flft κ₁ q₁) ∷ ‵
-      (MutSlice (named 2) (a₂ .ν ∷ []) u16 .own (anew p₂ a₂ index) (sv p₂ index ∷ []))
-      ∷ ‵ (flft (a₂ .ν ∷ []) fullShare) ∷ Table ∷ ‵ (flft κ₃ q₃) ∷ ‵ (MutSlice (named 4) (a₄ .ν ∷ []) u16 .own (anew p₄ a₄ vs) (sv p₄ visits ∷ [])) ∷ ‵
+  abbrev Asked : Loan → Loan → Loan → List ℕ → List ℕ → List StudentState → List (Item 𝓤)
+  Asked a₄ a₅ a₆ vs us zs = Case ∷ ‵ (flft κ₀ q₀) ∷ Book ∷ ‵ (flft κ₁ q₁) ∷ Index ∷ ‵ (flft κ₂ q₂) ∷ Table ∷ ‵ (flft κ₃ q₃) ∷ ‵ (MutSlice (named 4) (a₄ .ν ∷
+      []) u16 .own (anew p₄ a₄ vs) (sv p₄ visits ∷ [])) ∷ ‵
       (flft (a₄ .ν ∷ []) fullShare)
       ∷ ‵ (MutSlice (named 5) (a₅ .ν ∷ []) u16 .own (anew p₅ a₅ us) (sv p₅ seats ∷ [])) ∷ ‵ (flft (a₅ .ν ∷ []) fullShare)
       ∷ ‵ (MutSlice (named 6) (a₆ .ν ∷ []) T.the-row .own (anew p₆ a₆ zs) (sv p₆ ys ∷ [])) ∷ ‵ (flft (a₆ .ν ∷ []) fullShare) ∷ []
 
-  goes : (a₂ a₄ a₅ a₆ : Loan) (vs us : List ℕ) (zs : List StudentState) (st : Run) → Is S.the-row st (S′.lowered st ∷ [])
+  goes : (a₄ a₅ a₆ : Loan) (vs us : List ℕ) (zs : List StudentState) (st : Run) → Is S.the-row st (S′.lowered st ∷ [])
       → CanTurn case book index table vs us zs st students workshops
-      → ent 𝓤 (⋆ 𝓤 H A (Asked a₂ a₄ a₅ a₆ vs us zs)) (TurnOf 𝓤 H A mem run .pre (to-turn a₂ a₄ a₅ a₆ vs us zs st))
-  goes a₂ a₄ a₅ a₆ vs us zs st is-st ok =
-      qed W (Asked a₂ a₄ a₅ a₆ vs us zs) ∵ says ! ok $
+      → ent 𝓤 (⋆ 𝓤 H A (Asked a₄ a₅ a₆ vs us zs)) (TurnOf 𝓤 H A mem run .pre (to-turn a₄ a₅ a₆ vs us zs st))
+  goes a₄ a₅ a₆ vs us zs st is-st ok =
+      qed W (Asked a₄ a₅ a₆ vs us zs) ∵ says ! ok $
       nothing ! $ move ! (14 ∷ 0 ∷ []) $ join ! $ move ! (12 ∷ 0 ∷ []) $ join ! $ move ! (10 ∷ 0 ∷ []) $ join ! $ move ! (8 ∷ 0 ∷ []) $ join ! $
       move ! (6 ∷ 0 ∷ []) $ join ! $ move !
       (4 ∷ 0 ∷ []) $
@@ -305,13 +277,13 @@ module _ {M : Type 1} (𝓤 : URA M) (H : Heap 𝓤) (A : Atoms 𝓤) (W : Given
       move ! (4 ∷ 0 ∷ []) $ fjoin ! $ move ! (3 ∷ 0 ∷ []) $ fjoin ! $ move ! (2 ∷ 0 ∷ []) $ fjoin ! $ move ! (1 ∷ 0 ∷ []) $ fjoin ! $ done !
 
   -- what is had once it has returned r
-  abbrev Says : List ℕ → List ℕ → List StudentState → Run → Run → List ℕ → List ℕ → List ℕ → List StudentState → Type 0
-  Says vs us zs st r index′ vs′ us′ zs′ = ((vs′, (us′, (zs′, r))) ≡ turnOn market results (vs, (us, (zs, st)))) × (index′ ≡ index)
+  abbrev Says : List ℕ → List ℕ → List StudentState → Run → Run → List ℕ → List ℕ → List StudentState → Type 0
+  Says vs us zs st r vs′ us′ zs′ = (vs′, (us′, (zs′, r))) ≡ turnOn market results (vs, (us, (zs, st)))
 
-  abbrev Fin : Loan → Loan → Loan → Loan → List ℕ → List ℕ → List StudentState → Run → Run → Item 𝓤
-  Fin a₂ a₄ a₅ a₆ vs us zs st r = some (λ (ws : Lasts take-turn.ended (lives a₂ a₄ a₅ a₆) (passed a₂ a₄ a₅ a₆ vs us zs st)).
-      ‵ (lasts take-turn.ended (lives a₂ a₄ a₅ a₆) (passed a₂ a₄ a₅ a₆ vs us zs st) ws)
-      ⊛ raw (fact 𝓤 (Says vs us zs st r (ws .1 .1 .0) (ws .1 .1 .1 .1 .0) (ws .1 .1 .1 .1 .1 .0) (ws .1 .1 .1 .1 .1 .1 .0))))
+  abbrev Fin : Loan → Loan → Loan → List ℕ → List ℕ → List StudentState → Run → Run → Item 𝓤
+  Fin a₄ a₅ a₆ vs us zs st r = some (λ (ws : Lasts take-turn.ended (lives a₄ a₅ a₆) (passed a₄ a₅ a₆ vs us zs st)).
+      ‵ (lasts take-turn.ended (lives a₄ a₅ a₆) (passed a₄ a₅ a₆ vs us zs st) ws)
+      ⊛ raw (fact 𝓤 (Says vs us zs st r (ws .1 .1 .1 .1 .0) (ws .1 .1 .1 .1 .1 .0) (ws .1 .1 .1 .1 .1 .1 .0))))
 
   -- ---- the loop
   -- what changes from turn to turn, and what is known of it: what k turns leave
@@ -335,16 +307,16 @@ module _ {M : Type 1} (𝓤 : URA M) (H : Heap 𝓤) (A : Atoms 𝓤) (W : Given
   ready : (t : Here) → 0 < t .st .hand → CanTurn case book index table (t .vs) (t .us) (t .zs) (t .st) students workshops
   ready t l =
       subst (λ (σ : RunState). CanTurn case book index table (σ .0) (σ .1 .0) (σ .1 .1 .0) (σ .1 .1 .1) students workshops) (sym (t .same))
-      (record { hand = held t l; within = can .within (t .k) (held t l); ready = can .ready (t .k) (held t l) })
+      (record { hand = held t l; within = can .within (t .k) (held t l); clean = can .clean; ready = can .ready (t .k) (held t l) })
 
   more-left : (t : Here) → 0 < t .st .hand → t .k < last
   more-left t l = runs-less market results visits seats ys start (t .k) last (t .below) (can .ends) (held t l)
 
   -- after a turn
-  abbrev next : (t : Here) → 0 < t .st .hand → (r : Run) (index′ vs′ us′ : List ℕ) (zs′ : List StudentState) → Says (t .vs) (t .us) (t .zs)
-      (t .st) r index′ vs′ us′ zs′
+  abbrev next : (t : Here) → 0 < t .st .hand → (r : Run) (vs′ us′ : List ℕ) (zs′ : List StudentState) → Says (t .vs) (t .us) (t .zs)
+      (t .st) r vs′ us′ zs′
       → length vs′ ≡ length visits → length us′ ≡ length seats → length zs′ ≡ length ys → Is S.the-row r (S′.lowered r ∷ []) → Here
-  next t l r index′ vs′ us′ zs′ e e₄ e₅ e₆ is = record {
+  next t l r vs′ us′ zs′ e e₄ e₅ e₆ is = record {
     k = suc (t .k);
     vs = vs′;
     us = us′;
@@ -355,7 +327,7 @@ module _ {M : Type 1} (𝓤 : URA M) (H : Heap 𝓤) (A : Atoms 𝓤) (W : Given
     len₆ = e₆;
     below = omega (arith, more-left t l);
     is = is;
-    same = e .0 ∙ ap (turnOn market results) (t .same) ∙ sym (runs-on market results visits seats ys start (t .k) (held t l));
+    same = e ∙ ap (turnOn market results) (t .same) ∙ sym (runs-on market results visits seats ys start (t .k) (held t l));
   }
 
   abbrev Nearer : Here → Here → Type 0
@@ -368,7 +340,7 @@ module _ {M : Type 1} (𝓤 : URA M) (H : Heap 𝓤) (A : Atoms 𝓤) (W : Given
   Nearer-wf = InvImage·wf (λ (t : Here). last - t .k) (Nat·lt-wfRel .wf)
 
   module _ (𝓣 : Tables 𝓤 H) (known : Triple 𝓤 (𝓣 .C #engine·take-turn) (TurnOf 𝓤 H A mem run))
-      (l₀ l₁ l₂ l₃ l₄ l₅ l₆ l₇ l₈ l₉ l₁₀ l₁₁ l₁₂ l₁₃ l₁₄ l₁₅ l₁₆ l₁₇ l₁₈ l₁₉ l₂₀ l₂₁ : ℕ) where
+      (l₀ l₁ l₂ l₃ l₄ l₅ l₆ l₇ l₈ l₉ l₁₀ l₁₁ l₁₂ l₁₃ l₁₄ l₁₅ l₁₆ l₁₇ l₁₈ l₁₉ : ℕ) where
     abbrev C : Calls 𝓤 H
     C = 𝓣 .C
 
@@ -376,26 +348,23 @@ module _ {M : Type 1} (𝓤 : URA M) (H : Heap 𝓤) (A : Atoms 𝓤) (W : Given
     Λ = 𝓣 .Λ
 
     abbrev En : Env 𝓤 H
-    En = (S′.mir, l₀) ∷ (bytes-ty 0, l₁) ∷ (bytes-ty 1, l₂) ∷ (words-ty 2, l₃) ∷ (longs-ty 3, l₄) ∷ (words-ty 4, l₅) ∷ (words-ty 5, l₆) ∷ (states-ty, l₇) ∷
-        (S′.mir, l₈)
-        ∷ (word, l₉) ∷ (word, l₁₀) ∷ (S′.mir, l₁₁) ∷ (S′.mir, l₁₂) ∷ (tyBool, l₁₃) ∷ (ptr-ty, l₁₄) ∷ (sliceTy ptr-ty, l₁₅) ∷ (ptr-ty, l₁₆)
-        ∷ (sliceTy ptr-ty, l₁₇) ∷ (ptr-ty, l₁₈) ∷ (sliceTy ptr-ty, l₁₉) ∷ (states-ptr, l₂₀) ∷ (sliceTy states-ptr, l₂₁) ∷ []
+    En = (S′.mir, l₀) ∷ (bytes-ty 0, l₁) ∷ (bytes-ty 1, l₂) ∷ (shared-words-ty 2, l₃) ∷ (longs-ty 3, l₄) ∷ (words-ty 4, l₅) ∷ (words-ty 5, l₆)
+        ∷ (states-ty, l₇) ∷ (S′.mir, l₈) ∷ (word, l₉) ∷ (word, l₁₀) ∷ (S′.mir, l₁₁) ∷ (S′.mir, l₁₂) ∷ (tyBool, l₁₃) ∷ (ptr-ty, l₁₄) ∷ (sliceTy ptr-ty, l₁₅)
+        ∷ (ptr-ty, l₁₆) ∷ (sliceTy ptr-ty, l₁₇) ∷ (states-ptr, l₁₈) ∷ (sliceTy states-ptr, l₁₉) ∷ []
 
-    -- [the states, the seats, the visits, the index, the case, the book, the table, each with its token; _21; …; room for _0; …]
+    -- [the states, the seats, the visits, the index, the case, the book, the table, each with its token; _19; …; room for _0; …]
     abbrev At : Here → List (Item 𝓤)
-    At t = States (t .zs) ∷ ‵ (flft κ₆ q₆) ∷ Seats (t .us) ∷ ‵ (flft κ₅ q₅) ∷ Visits (t .vs) ∷ ‵ (flft κ₄ q₄) ∷ Index index ∷ ‵ (flft κ₂ q₂) ∷ Case
-        ∷ ‵ (flft κ₀ q₀) ∷ Book ∷ ‵ (flft κ₁ q₁) ∷ Table ∷ ‵ (flft κ₃ q₃) ∷ ‵ (froom (sliceTy states-ptr) l₂₁ 0) ∷ ‵ (fdies (sliceTy states-ptr) l₂₁)
-        ∷ ‵ (froom states-ptr l₂₀ 0) ∷ ‵ (fdies states-ptr l₂₀) ∷ ‵ (froom (sliceTy ptr-ty) l₁₉ 0) ∷ ‵ (fdies (sliceTy ptr-ty) l₁₉)
-        ∷ ‵ (froom ptr-ty l₁₈ 0) ∷ ‵ (fdies ptr-ty l₁₈) ∷ ‵ (froom (sliceTy ptr-ty) l₁₇ 0) ∷ ‵ (fdies (sliceTy ptr-ty) l₁₇) ∷ ‵ (froom ptr-ty l₁₆ 0)
+    At t = States (t .zs) ∷ ‵ (flft κ₆ q₆) ∷ Seats (t .us) ∷ ‵ (flft κ₅ q₅) ∷ Visits (t .vs) ∷ ‵ (flft κ₄ q₄) ∷ Index ∷ ‵ (flft κ₂ q₂) ∷ Case
+        ∷ ‵ (flft κ₀ q₀) ∷ Book ∷ ‵ (flft κ₁ q₁) ∷ Table ∷ ‵ (flft κ₃ q₃) ∷ ‵ (froom (sliceTy states-ptr) l₁₉ 0) ∷ ‵ (fdies (sliceTy states-ptr) l₁₉)
+        ∷ ‵ (froom states-ptr l₁₈ 0) ∷ ‵ (fdies states-ptr l₁₈) ∷ ‵ (froom (sliceTy ptr-ty) l₁₇ 0) ∷ ‵ (fdies (sliceTy ptr-ty) l₁₇) ∷ ‵ (froom ptr-ty l₁₆ 0)
         ∷ ‵ (fdies ptr-ty l₁₆) ∷ ‵ (froom (sliceTy ptr-ty) l₁₅ 0) ∷ ‵ (fdies (sliceTy ptr-ty) l₁₅) ∷ ‵ (froom ptr-ty l₁₄ 0) ∷ ‵ (fdies ptr-ty l₁₄)
         ∷ ‵ (froom tyBool l₁₃ 0) ∷ ‵ (fdies tyBool l₁₃) ∷ ‵ (froom S′.mir l₁₂ 0) ∷ ‵ (fdies S′.mir l₁₂)
         ∷ ‵ (fat fullShare S′.mir l₁₁ 0 (S′.lowered (t .st))) ∷ ‵ (fdies S′.mir l₁₁) ∷ ‵ (fat fullShare word l₁₀ 0 (vint w64 workshops))
         ∷ ‵ (fdies word l₁₀) ∷ ‵ (fat fullShare word l₉ 0 (vint w64 students)) ∷ ‵ (fdies word l₉) ∷ ‵ (fat fullShare S′.mir l₈ 0 (S′.lowered start))
         ∷ ‵ (fdies S′.mir l₈) ∷ ‵ (fat fullShare states-ty l₇ 0 (sv p₆ ys)) ∷ ‵ (fdies states-ty l₇)
         ∷ ‵ (fat fullShare (words-ty 5) l₆ 0 (sv p₅ seats)) ∷ ‵ (fdies (words-ty 5) l₆) ∷ ‵ (fat fullShare (words-ty 4) l₅ 0 (sv p₄ visits))
-        ∷ ‵ (fdies (words-ty 4) l₅)
-        ∷ ‵ (fat fullShare (longs-ty 3) l₄ 0 (sv p₃ table)) ∷ ‵ (fdies (longs-ty 3) l₄) ∷ ‵ (fat fullShare (words-ty 2) l₃ 0 (sv p₂ index)) ∷ ‵ (fdies
-        (words-ty 2) l₃)
+        ∷ ‵ (fdies (words-ty 4) l₅) ∷ ‵ (fat fullShare (longs-ty 3) l₄ 0 (sv p₃ table)) ∷ ‵ (fdies (longs-ty 3) l₄)
+        ∷ ‵ (fat fullShare (shared-words-ty 2) l₃ 0 (sv p₂ index)) ∷ ‵ (fdies (shared-words-ty 2) l₃)
         ∷ ‵ (fat fullShare (bytes-ty 1) l₂ 0 (sv p₁ book)) ∷ ‵ (fdies (bytes-ty 1) l₂) ∷ ‵ (fat fullShare (bytes-ty 0) l₁ 0 (sv p₀ case))
         ∷ ‵ (fdies (bytes-ty 0) l₁) ∷ ‵ (froom S′.mir l₀ 0) ∷ ‵ (fdies S′.mir l₀) ∷ []
 
@@ -411,79 +380,73 @@ module _ {M : Type 1} (𝓤 : URA M) (H : Heap 𝓤) (A : Atoms 𝓤) (W : Given
     more : (t : Here) → ltb 0 (t .st .hand) ≡ true → Sq W (At t) (runs C Λ En code-mir.turn-1 (anyQ (Ended t)))
     unfolding afterTurn
     more t e =
-        assigns ! (bin ! (lit ! tt) (load ! (from ! (fld ! refl (stop !))) (look-in ! 34 (sub ! 0 refl (whole !)))) tt) (from ! (stop !))
-        (init ! 30 refl (tt, tt)) $
-        rewrite ! 30 (λ (y : Bool). ‵ (fat fullShare tyBool l₁₃ 0 (vbool y))) e refl $ stays ! (load ! (from ! (stop !)) (look ! 30 refl)) $
-        assigns ! (addr ! (from ! (fld ! refl (hop ! (look-in ! 50 (sub ! 0 refl (whole !))) (stop !))))) (from ! (stop !)) (init ! 28 refl (tt, tt)) $
-        assigns ! (agg ! (and-then ! (load ! (from ! (stop !)) (look ! 28 refl)) (and-then ! (load ! (from ! (fld ! refl (stop !)))
-        (look-in ! 50 (sub ! 1 refl (whole !)))) (no-more !)))) (from ! (stop !)) (init ! 26 refl (tt, (tt, (record { fits = room₂ .0 }, tt)))) $
-        assigns ! (addr ! (from ! (fld ! refl (hop ! (look-in ! 46 (sub ! 0 refl (whole !))) (stop !))))) (from ! (stop !)) (init ! 24 refl (tt, tt)) $
+        assigns ! (bin ! (lit ! tt) (load ! (from ! (fld ! refl (stop !))) (look-in ! 30 (sub ! 0 refl (whole !)))) tt) (from ! (stop !))
+        (init ! 26 refl (tt, tt)) $
+        rewrite ! 26 (λ (y : Bool). ‵ (fat fullShare tyBool l₁₃ 0 (vbool y))) e refl $ stays ! (load ! (from ! (stop !)) (look ! 26 refl)) $
+        assigns ! (addr ! (from ! (fld ! refl (hop ! (look-in ! 42 (sub ! 0 refl (whole !))) (stop !))))) (from ! (stop !)) (init ! 24 refl (tt, tt)) $
         assigns ! (agg ! (and-then ! (load ! (from ! (stop !)) (look ! 24 refl)) (and-then ! (load ! (from ! (fld ! refl (stop !)))
-        (look-in ! 46 (sub ! 1 refl (whole !)))) (no-more !)))) (from ! (stop !)) (init ! 22 refl (tt, (tt, (record { fits = room₄ .0 }, tt)))) $
-        assigns ! (addr ! (from ! (fld ! refl (hop ! (look-in ! 44 (sub ! 0 refl (whole !))) (stop !))))) (from ! (stop !)) (init ! 20 refl (tt, tt)) $
+        (look-in ! 42 (sub ! 1 refl (whole !)))) (no-more !)))) (from ! (stop !)) (init ! 22 refl (tt, (tt, (record { fits = room₄ .0 }, tt)))) $
+        assigns ! (addr ! (from ! (fld ! refl (hop ! (look-in ! 40 (sub ! 0 refl (whole !))) (stop !))))) (from ! (stop !)) (init ! 20 refl (tt, tt)) $
         assigns ! (agg ! (and-then ! (load ! (from ! (stop !)) (look ! 20 refl)) (and-then ! (load ! (from ! (fld ! refl (stop !)))
-        (look-in ! 44 (sub ! 1 refl (whole !)))) (no-more !)))) (from ! (stop !)) (init ! 18 refl (tt, (tt, (record { fits = room₅ .0 }, tt)))) $
-        assigns ! (addr ! (from ! (fld ! refl (hop ! (look-in ! 42 (sub ! 0 refl (whole !))) (stop !))))) (from ! (stop !)) (init ! 16 refl (tt, tt)) $
+        (look-in ! 40 (sub ! 1 refl (whole !)))) (no-more !)))) (from ! (stop !)) (init ! 18 refl (tt, (tt, (record { fits = room₅ .0 }, tt)))) $
+        assigns ! (addr ! (from ! (fld ! refl (hop ! (look-in ! 38 (sub ! 0 refl (whole !))) (stop !))))) (from ! (stop !)) (init ! 16 refl (tt, tt)) $
         assigns ! (agg ! (and-then ! (load ! (from ! (stop !)) (look ! 16 refl)) (and-then ! (load ! (from ! (fld ! refl (stop !)))
-        (look-in ! 42 (sub ! 1 refl (whole !)))) (no-more !)))) (from ! (stop !)) (init ! 14 refl (tt, (tt, (record { fits = room₆ .0 }, tt)))) $
-        -- all four are lent again, and the case, the book and the table are copied
+        (look-in ! 38 (sub ! 1 refl (whole !)))) (no-more !)))) (from ! (stop !)) (init ! 14 refl (tt, (tt, (record { fits = room₆ .0 }, tt)))) $
+        -- all three are lent again, and the index, the case, the book and the table are copied
         lends-on ! tt T.the-row (named 6) (named 6) κ₆ q₆ (p₆ .γ) (p₆ .b) (p₆ .o) (length ys) (t .zs) (t .len₆) (λ ν₆ δ₆.
         move ! (3 ∷ 4 ∷ []) $ lends-on ! tt u16 (named 5) (named 5) κ₅ q₅ (p₅ .γ) (p₅ .b) (p₅ .o) (length seats) (t .us) (t .len₅) (λ ν₅ δ₅.
         move ! (6 ∷ 7 ∷ []) $ lends-on ! tt u16 (named 4) (named 4) κ₄ q₄ (p₄ .γ) (p₄ .b) (p₄ .o) (length visits) (t .vs) (t .len₄) (λ ν₄ δ₄.
-        move ! (9 ∷ 10 ∷ []) $ lends-on ! tt u16 (named 2) (named 2) κ₂ q₂ (p₂ .γ) (p₂ .b) (p₂ .o) (length index) index refl (λ ν₂ δ₂.
+        move ! (9 ∷ []) $ use1 W (Index ⊛ Index) (shr-slice-copy 𝓤 H A W (named 2) κ₂ u16 .twice (ref p₂ index) (sv p₂ index ∷ [])) $ split ! $
         move ! (12 ∷ []) $ use1 W (Case ⊛ Case) (shr-slice-copy 𝓤 H A W (named 0) κ₀ u8 .twice (ref p₀ case) (sv p₀ case ∷ [])) $ split ! $
         move ! (15 ∷ []) $ use1 W (Book ⊛ Book) (shr-slice-copy 𝓤 H A W (named 1) κ₁ u8 .twice (ref p₁ book) (sv p₁ book ∷ [])) $ split ! $
         move ! (18 ∷ []) $ use1 W (Table ⊛ Table) (shr-slice-copy 𝓤 H A W (named 3) κ₃ u64 .twice (ref p₃ table) (sv p₃ table ∷ [])) $ split ! $
-        -- [the table, the book, the case, each twice; for index, visits, seats and states: the slice lent, its token, what is kept; κ₀'s token; κ₁'s;
-        -- κ₃'s; _21; …]
-        move ! (4 ∷ 18 ∷ 2 ∷ 19 ∷ 6 ∷ 7 ∷ 0 ∷ 20 ∷ 9 ∷ 10 ∷ 12 ∷ 13 ∷ 15 ∷ 16 ∷ []) $ group ! 14 $
-        use1 W (raw (TurnOf 𝓤 H A mem run .pre
-        (to-turn (record { ν = ν₂; δ = δ₂ }) (record { ν = ν₄; δ = δ₄ }) (record { ν = ν₅; δ = δ₅ }) (record { ν = ν₆; δ = δ₆ })
-        (t .vs) (t .us) (t .zs) (t .st)))) (goes (record { ν = ν₂; δ = δ₂ }) (record { ν = ν₄; δ = δ₄ }) (record { ν = ν₅; δ = δ₅ }) (record { ν = ν₆; δ = δ₆ })
+        -- [the table, the book, the case, the index, each twice; for visits, seats and states: the slice lent, its token, what is kept; κ₂'s token; κ₀'s;
+        -- κ₁'s; κ₃'s; _19; …]
+        move ! (4 ∷ 18 ∷ 2 ∷ 19 ∷ 6 ∷ 17 ∷ 0 ∷ 20 ∷ 8 ∷ 9 ∷ 11 ∷ 12 ∷ 14 ∷ 15 ∷ []) $ group ! 14 $
+        use1 W (raw (TurnOf 𝓤 H A mem run .pre (to-turn (record { ν = ν₄; δ = δ₄ }) (record { ν = ν₅; δ = δ₅ }) (record { ν = ν₆; δ = δ₆ })
+        (t .vs) (t .us) (t .zs) (t .st)))) (goes (record { ν = ν₄; δ = δ₄ }) (record { ν = ν₅; δ = δ₅ }) (record { ν = ν₆; δ = δ₆ })
         (t .vs) (t .us) (t .zs) (t .st) (t .is) (ready t in-hand)) $
-        -- [what is asked; the table; the book; the case; what is kept of the index, of the visits, of the seats, of the states; _21; …]
+        -- [what is asked; the table; the book; the case; the index; what is kept of the visits, of the seats, of the states; _19; …]
         calls-out ! fm take-turn.signature (take-turn.spec 𝓤 H A mem run) known
-        (to-turn (record { ν = ν₂; δ = δ₂ }) (record { ν = ν₄; δ = δ₄ }) (record { ν = ν₅; δ = δ₅ }) (record { ν = ν₆; δ = δ₆ }) (t .vs) (t .us)
-        (t .zs) (t .st))
-        (Fin (record { ν = ν₂; δ = δ₂ }) (record { ν = ν₄; δ = δ₄ }) (record { ν = ν₅; δ = δ₅ }) (record { ν = ν₆; δ = δ₆ }) (t .vs) (t .us) (t .zs) (t .st))
+        (to-turn (record { ν = ν₄; δ = δ₄ }) (record { ν = ν₅; δ = δ₅ }) (record { ν = ν₆; δ = δ₆ }) (t .vs) (t .us) (t .zs) (t .st))
+        (Fin (record { ν = ν₄; δ = δ₄ }) (record { ν = ν₅; δ = δ₅ }) (record { ν = ν₆; δ = δ₆ }) (t .vs) (t .us) (t .zs) (t .st))
         (λ r. id⊢ 𝓤 _) S′.lowered (S′.lowers .val-is)
-        (and-then ! (load ! (from ! (stop !)) (look ! 48 refl)) (and-then ! (load ! (from ! (stop !)) (look ! 46 refl)) (and-then ! (load ! (from !
-        (stop !)) (look ! 20 refl)) (and-then ! (load ! (from ! (stop !)) (look ! 42 refl)) (and-then ! (load ! (from ! (stop !)) (look ! 16 refl))
-        (and-then ! (load ! (from ! (stop !)) (look ! 12 refl)) (and-then ! (load ! (from ! (stop !)) (look ! 8 refl)) (and-then ! (load ! (from ! (stop !))
-        (look ! 28 refl)) (and-then ! (load ! (from ! (stop !)) (look ! 32 refl)) (and-then ! (load ! (from ! (stop !)) (look ! 30 refl))
-        (no-more !))))))))))) (λ r made.
+        (and-then ! (load ! (from ! (stop !)) (look ! 44 refl)) (and-then ! (load ! (from ! (stop !)) (look ! 42 refl)) (and-then ! (load ! (from ! (stop !))
+        (look ! 40 refl)) (and-then ! (load ! (from ! (stop !)) (look ! 38 refl)) (and-then ! (load ! (from ! (stop !)) (look ! 16 refl)) (and-then !
+        (load ! (from ! (stop !)) (look ! 12 refl)) (and-then ! (load ! (from ! (stop !)) (look ! 8 refl)) (and-then ! (load ! (from ! (stop !)) (look !
+        24 refl)) (and-then ! (load ! (from ! (stop !)) (look ! 28 refl)) (and-then ! (load ! (from ! (stop !)) (look ! 26 refl)) (no-more !)))))))))))
+        (λ r made.
         pick ! (λ ws. split ! $ move ! (1 ∷ []) $
-        heard ! (Says (t .vs) (t .us) (t .zs) (t .st) r (ws .1 .1 .0) (ws .1 .1 .1 .1 .0) (ws .1 .1 .1 .1 .1 .0) (ws .1 .1 .1 .1 .1 .1 .0)) (λ f.
+        heard ! (Says (t .vs) (t .us) (t .zs) (t .st) r (ws .1 .1 .1 .1 .0) (ws .1 .1 .1 .1 .1 .0) (ws .1 .1 .1 .1 .1 .1 .0)) (λ f.
         -- the last lists are taken out of what is said of the parameters, and the tokens come back
-        fsplit ! $ drop ! $ fsplit ! $ drop ! $ fsplit ! $ fsplit ! $ move ! (1 ∷ []) $ feqL ! (λ e₂. move ! (1 ∷ []) $ fsplit ! $ drop ! $ fsplit ! $
-        fsplit ! $ move ! (1 ∷ []) $
-        feqL ! (λ e₄. move ! (1 ∷ []) $ fsplit ! $ fsplit ! $ move ! (1 ∷ []) $ feqL ! (λ e₅. move ! (1 ∷ []) $ fsplit ! $ move ! (1 ∷ []) $ drop ! $ fsplit ! $
+        fsplit ! $ drop ! $ fsplit ! $ drop ! $ fsplit ! $ drop ! $ fsplit ! $ drop ! $ fsplit ! $ fsplit ! $ move ! (1 ∷ []) $
+        feqL ! (λ e₄. move ! (1 ∷ []) $ fsplit ! $ fsplit ! $ move ! (1 ∷ []) $ feqL ! (λ e₅. move ! (1 ∷ []) $ fsplit ! $ move ! (1 ∷ []) $ drop ! $ fsplit
+        ! $
         move ! (1 ∷ []) $ feqL ! (λ e₆.
-        -- [the states' last list; the seats'; the visits'; the index's; the tokens; …]
-        move ! (4 ∷ []) $ use1 W (‵ (flft κ₀ q₀) ⊛ ‵ (flft κ₁ q₁) ⊛ ‵ (flft (ν₂ ∷ []) fullShare) ⊛ ‵ (flft κ₃ q₃) ⊛ ‵ (flft (ν₄ ∷ []) fullShare) ⊛ ‵ (flft
+        -- [the states' last list; the seats'; the visits'; the tokens; …]
+        move ! (3 ∷ []) $ use1 W (‵ (flft κ₀ q₀) ⊛ ‵ (flft κ₁ q₁) ⊛ ‵ (flft κ₂ q₂) ⊛ ‵ (flft κ₃ q₃) ⊛ ‵ (flft (ν₄ ∷ []) fullShare) ⊛ ‵ (flft
         (ν₅ ∷ []) fullShare)
         ⊛ ‵ (flft (ν₆ ∷ []) fullShare) ⊛ ‵ ftrue) (id⊢ 𝓤 _) $ split ! $ move ! (1 ∷ []) $ split ! $ move ! (1 ∷ []) $ split ! $ move ! (1 ∷ []) $
         split ! $ move ! (1 ∷ []) $ split ! $ move ! (1 ∷ []) $ split ! $ move ! (1 ∷ []) $ split ! $ move ! (1 ∷ []) $ drop ! $
-        -- [the tokens of ν₆, ν₅, ν₄, κ₃, ν₂, κ₁, κ₀; the states' last list; the seats'; the visits'; the index's; the table; the book; the case; what is kept of
-        -- the index, of the visits, of the seats, of the states; _21; …]: the slices come back
-        move ! (4 ∷ 14 ∷ 10 ∷ []) $ back-on ! tt u16 (named 2) κ₂ q₂ (p₂ .γ) (p₂ .b) (p₂ .o) (length index) ν₂ δ₂ index (ws .1 .1 .0) room₂ refl e₂ $
-        rewrite ! 0 (λ (l : List ℕ). Index l) (f .1) refl $
-        move ! (4 ∷ 14 ∷ 10 ∷ []) $ back-on ! tt u16 (named 4) κ₄ q₄ (p₄ .γ) (p₄ .b) (p₄ .o) (length visits) ν₄ δ₄ (t .vs) (ws .1 .1 .1 .1 .0) room₄ (t .len₄)
+        -- [the tokens of ν₆, ν₅, ν₄, κ₃, κ₂, κ₁, κ₀; the states' last list; the seats'; the visits'; the table; the book; the case; the index; what is kept of
+        -- the visits, of the seats, of the states; _19; …]: the slices come back
+        move ! (2 ∷ 14 ∷ 9 ∷ []) $ back-on ! tt u16 (named 4) κ₄ q₄ (p₄ .γ) (p₄ .b) (p₄ .o) (length visits) ν₄ δ₄ (t .vs) (ws .1 .1 .1 .1 .0) room₄ (t .len₄)
         (e₄ ∙ t .len₄) $
-        move ! (5 ∷ 14 ∷ 10 ∷ []) $ back-on ! tt u16 (named 5) κ₅ q₅ (p₅ .γ) (p₅ .b) (p₅ .o) (length seats) ν₅ δ₅ (t .us) (ws .1 .1 .1 .1 .1 .0) room₅ (t .len₅)
+        move ! (3 ∷ 14 ∷ 9 ∷ []) $ back-on ! tt u16 (named 5) κ₅ q₅ (p₅ .γ) (p₅ .b) (p₅ .o) (length seats) ν₅ δ₅ (t .us) (ws .1 .1 .1 .1 .1 .0) room₅ (t
+        .len₅)
         (e₅ ∙ t .len₅) $
-        move ! (6 ∷ 14 ∷ 10 ∷ []) $ back-on ! tt T.the-row (named 6) κ₆ q₆ (p₆ .γ) (p₆ .b) (p₆ .o) (length ys) ν₆ δ₆ (t .zs)
+        move ! (4 ∷ 14 ∷ 9 ∷ []) $ back-on ! tt T.the-row (named 6) κ₆ q₆ (p₆ .γ) (p₆ .b) (p₆ .o) (length ys) ν₆ δ₆ (t .zs)
         (ws .1 .1 .1 .1 .1 .1 .0) room₆ (t .len₆)
         (e₆ ∙ t .len₆) $
-        -- [the states, the seats, the visits, the index, each with its token; κ₃'s token; κ₁'s; κ₀'s; the table; the book; the case; _21; …]
-        move ! (0 ∷ 1 ∷ 2 ∷ 3 ∷ 4 ∷ 5 ∷ 6 ∷ 7 ∷ 13 ∷ 10 ∷ 12 ∷ 9 ∷ 11 ∷ 8 ∷ []) $
-        land ! (from ! (stop !)) (init ! 32 refl (LL.lawful S.the-type S′.the-laws 𝓤 H A W .typed r _ made .0)) $
-        assigns-last ! (of-opd ! (load ! (from ! (stop !)) (look ! 32 refl))) (from ! (stop !))
-        (store ! 34 refl (LL.lawful S.the-type S′.the-laws 𝓤 H A W .typed r _ made .0)) $
-        forget ! 14 refl $ forget ! 16 refl $ forget ! 18 refl $ forget ! 20 refl $ forget ! 22 refl $
-        forget ! 24 refl $ forget ! 26 refl $ forget ! 28 refl $ forget ! 30 refl $ forget ! 32 refl $
-        again ! Nearer At t (next t in-hand r (ws .1 .1 .0) (ws .1 .1 .1 .1 .0) (ws .1 .1 .1 .1 .1 .0) (ws .1 .1 .1 .1 .1 .1 .0) f (e₄ ∙ t .len₄) (e₅ ∙ t .len₅)
-        (e₆ ∙ t .len₆) made) (nearer t in-hand))))))))))))
+        -- [the states, the seats, the visits, each with its token; κ₃'s token; κ₂'s; κ₁'s; κ₀'s; the table; the book; the case; the index; _19; …]
+        move ! (0 ∷ 1 ∷ 2 ∷ 3 ∷ 4 ∷ 5 ∷ 13 ∷ 7 ∷ 12 ∷ 9 ∷ 11 ∷ 8 ∷ 10 ∷ 6 ∷ []) $
+        land ! (from ! (stop !)) (init ! 28 refl (LL.lawful S.the-type S′.the-laws 𝓤 H A W .typed r _ made .0)) $
+        assigns-last ! (of-opd ! (load ! (from ! (stop !)) (look ! 28 refl))) (from ! (stop !))
+        (store ! 30 refl (LL.lawful S.the-type S′.the-laws 𝓤 H A W .typed r _ made .0)) $
+        forget ! 14 refl $ forget ! 16 refl $ forget ! 18 refl $ forget ! 20 refl $ forget ! 22 refl $ forget ! 24 refl $ forget ! 26 refl $ forget ! 28 refl
+        $
+        again ! Nearer At t (next t in-hand r (ws .1 .1 .1 .1 .0) (ws .1 .1 .1 .1 .1 .0) (ws .1 .1 .1 .1 .1 .1 .0) f (e₄ ∙ t .len₄) (e₅ ∙ t .len₅)
+        (e₆ ∙ t .len₆) made) (nearer t in-hand))))))))))
       where
         fm : FmC 𝓤 H (W .laws) C
         fm = fmOf 𝓤 H (W .laws) 𝓣
@@ -495,21 +458,20 @@ module _ {M : Type 1} (𝓤 : URA M) (H : Heap 𝓤) (A : Atoms 𝓤) (W : Given
     ends : (t : Here) → ltb 0 (t .st .hand) ≡ false → Sq W (At t) (runs C Λ En code-mir.turn-1 (anyQ (Ended t)))
     unfolding afterTurn
     ends t e =
-        assigns ! (bin ! (lit ! tt) (load ! (from ! (fld ! refl (stop !))) (look-in ! 34 (sub ! 0 refl (whole !)))) tt) (from ! (stop !))
-        (init ! 30 refl (tt, tt)) $
-        rewrite ! 30 (λ (y : Bool). ‵ (fat fullShare tyBool l₁₃ 0 (vbool y))) e refl $ leaves-loop ! (load ! (from ! (stop !)) (look ! 30 refl)) $
+        assigns ! (bin ! (lit ! tt) (load ! (from ! (fld ! refl (stop !))) (look-in ! 30 (sub ! 0 refl (whole !)))) tt) (from ! (stop !))
+        (init ! 26 refl (tt, tt)) $
+        rewrite ! 26 (λ (y : Bool). ‵ (fat fullShare tyBool l₁₃ 0 (vbool y))) e refl $ leaves-loop ! (load ! (from ! (stop !)) (look ! 26 refl)) $
         exec ! C Λ En code-mir.t-3 (atRet En Post) $
-        assigns ! (of-opd ! (load ! (from ! (stop !)) (look ! 34 refl))) (from ! (stop !))
-        (init ! 56 refl (LL.lawful S.the-type S′.the-laws 𝓤 H A W .typed (t .st) _ (t .is) .0)) $
-        returns ! (look ! 56 refl) $
-        forget ! 30 refl $ forget ! 34 refl $ forget ! 36 refl $ forget ! 38 refl $ forget ! 40 refl $ forget ! 42 refl $ forget ! 44 refl $
-        forget ! 46 refl $ forget ! 48 refl $ forget ! 50 refl $ forget ! 52 refl $ forget ! 54 refl $ forget ! 56 refl $
-        move ! (56 ∷ 57 ∷ []) $ free1 ! $ move ! (54 ∷ 55 ∷ []) $ free1 ! $ move ! (52 ∷ 53 ∷ []) $ free1 ! $ move ! (50 ∷ 51 ∷ []) $ free1 ! $
-        move ! (48 ∷ 49 ∷ []) $ free1 ! $ move ! (46 ∷ 47 ∷ []) $ free1 ! $ move ! (44 ∷ 45 ∷ []) $ free1 ! $ move ! (42 ∷ 43 ∷ []) $ free1 ! $
-        move ! (40 ∷ 41 ∷ []) $ free1 ! $ move ! (38 ∷ 39 ∷ []) $ free1 ! $ move ! (36 ∷ 37 ∷ []) $ free1 ! $ move ! (34 ∷ 35 ∷ []) $ free1 ! $
-        move ! (32 ∷ 33 ∷ []) $ free1 ! $ move ! (30 ∷ 31 ∷ []) $ free1 ! $ move ! (28 ∷ 29 ∷ []) $ free1 ! $ move ! (26 ∷ 27 ∷ []) $ free1 ! $
-        move ! (24 ∷ 25 ∷ []) $ free1 ! $ move ! (22 ∷ 23 ∷ []) $ free1 ! $ move ! (20 ∷ 21 ∷ []) $ free1 ! $ move ! (18 ∷ 19 ∷ []) $ free1 ! $
-        move ! (16 ∷ 17 ∷ []) $ free1 ! $ move ! (14 ∷ 15 ∷ []) $ free1 ! $ free0 ! $
+        assigns ! (of-opd ! (load ! (from ! (stop !)) (look ! 30 refl))) (from ! (stop !))
+        (init ! 52 refl (LL.lawful S.the-type S′.the-laws 𝓤 H A W .typed (t .st) _ (t .is) .0)) $
+        returns ! (look ! 52 refl) $
+        forget ! 26 refl $ forget ! 30 refl $ forget ! 32 refl $ forget ! 34 refl $ forget ! 36 refl $ forget ! 38 refl $ forget ! 40 refl $ forget ! 42 refl
+        $ forget ! 44 refl $ forget ! 46 refl $ forget ! 48 refl $ forget ! 50 refl $ forget ! 52 refl $
+        move ! (52 ∷ 53 ∷ []) $ free1 ! $ move ! (50 ∷ 51 ∷ []) $ free1 ! $ move ! (48 ∷ 49 ∷ []) $ free1 ! $ move ! (46 ∷ 47 ∷ []) $ free1 ! $ move ! (44 ∷
+        45 ∷ []) $ free1 ! $ move ! (42 ∷ 43 ∷ []) $ free1 ! $ move ! (40 ∷ 41 ∷ []) $ free1 ! $ move ! (38 ∷ 39 ∷ []) $ free1 ! $ move ! (36 ∷ 37 ∷ [])
+        $ free1 ! $ move ! (34 ∷ 35 ∷ []) $ free1 ! $ move ! (32 ∷ 33 ∷ []) $ free1 ! $ move ! (30 ∷ 31 ∷ []) $ free1 ! $ move ! (28 ∷ 29 ∷ []) $ free1 !
+        $ move ! (26 ∷ 27 ∷ []) $ free1 ! $ move ! (24 ∷ 25 ∷ []) $ free1 ! $ move ! (22 ∷ 23 ∷ []) $ free1 ! $ move ! (20 ∷ 21 ∷ []) $ free1 ! $ move !
+        (18 ∷ 19 ∷ []) $ free1 ! $ move ! (16 ∷ 17 ∷ []) $ free1 ! $ move ! (14 ∷ 15 ∷ []) $ free1 ! $ free0 ! $
         keep ! (0 ∷ 1 ∷ 2 ∷ 3 ∷ 4 ∷ 5 ∷ 6 ∷ 7 ∷ 8 ∷ 9 ∷ 10 ∷ 11 ∷ 12 ∷ 13 ∷ []) $
         by ! (exits (t .vs) (t .us) (t .zs) (t .st) (t .len₄) (t .len₅) (t .len₆)
         (t .same ∙ runs-out market results visits seats ys start (t .k) last (sym (ap hand-of (t .same)) ∙ none-left) (t .below)) (t .is))
@@ -532,7 +494,7 @@ module _ {M : Type 1} (𝓤 : URA M) (H : Heap 𝓤) (A : Atoms 𝓤) (W : Given
       ∷ sv p₆ ys ∷ S′.lowered start ∷ vint w64 students ∷ vint w64 workshops ∷ []) Post)
   walk 𝓣 known =
       qed W ((‵ (flft κ₀ q₀) ⊛ ‵ (flft κ₁ q₁) ⊛ ‵ (flft κ₂ q₂) ⊛ ‵ (flft κ₃ q₃) ⊛ ‵ (flft κ₄ q₄) ⊛ ‵ (flft κ₅ q₅) ⊛ ‵ (flft κ₆ q₆) ⊛ ‵ ftrue)
-      ∷ ‵ (owns (ShrSlice (named 0) κ₀ u8 ∷ ShrSlice (named 1) κ₁ u8 ∷ MutSlice (named 2) κ₂ u16 ∷ ShrSlice (named 3) κ₃ u64
+      ∷ ‵ (owns (ShrSlice (named 0) κ₀ u8 ∷ ShrSlice (named 1) κ₁ u8 ∷ ShrSlice (named 2) κ₂ u16 ∷ ShrSlice (named 3) κ₃ u64
       ∷ MutSlice (named 4) κ₄ u16 ∷ MutSlice (named 5) κ₅ u16
       ∷ MutSlice (named 6) κ₆ T.the-row ∷ S.the-row ∷ usize ∷ usize ∷ []) x at) ∷ []) ∵
       enter ! (𝓣 .C) (𝓣 .Λ) code.function
@@ -541,25 +503,25 @@ module _ {M : Type 1} (𝓤 : URA M) (H : Heap 𝓤) (A : Atoms 𝓤) (W : Given
       alloc1 ! (λ l₀. alloc1 ! (λ l₁. alloc1 ! (λ l₂. alloc1 ! (λ l₃. alloc1 ! (λ l₄. alloc1 ! (λ l₅. alloc1 ! (λ l₆. alloc1 ! (λ l₇. alloc1 !
       (λ l₈. alloc1 ! (λ l₉.
       alloc1 ! (λ l₁₀. alloc1 ! (λ l₁₁. alloc1 ! (λ l₁₂. alloc1 ! (λ l₁₃. alloc1 ! (λ l₁₄. alloc1 ! (λ l₁₅. alloc1 ! (λ l₁₆. alloc1 ! (λ l₁₇. alloc1 ! (λ l₁₈.
-      alloc1 ! (λ l₁₉. alloc1 ! (λ l₂₀. alloc1 ! (λ l₂₁. alloc0 ! $ params1 ! $
-      pass1 ! (init ! 40 refl (tt, (tt, (record { fits = room₀ .0 }, tt)))) $ pass1 ! (init ! 38 refl (tt, (tt, (record { fits = room₁ .0 }, tt)))) $
-      pass1 ! (init ! 36 refl (tt, (tt, (record { fits = room₂ .0 }, tt)))) $ pass1 ! (init ! 34 refl (tt, (tt, (record { fits = room₃ .0 }, tt)))) $
-      pass1 ! (init ! 32 refl (tt, (tt, (record { fits = room₄ .0 }, tt)))) $ pass1 ! (init ! 30 refl (tt, (tt, (record { fits = room₅ .0 }, tt)))) $
-      pass1 ! (init ! 28 refl (tt, (tt, (record { fits = room₆ .0 }, tt)))) $
-      pass1 ! (init ! 26 refl (LL.lawful S.the-type S′.the-laws 𝓤 H A W .typed start _ start-is .0)) $ pass1 !
-      (init ! 24 refl (tt, record { fits = students-fit })) $
-      pass1 ! (init ! 22 refl (tt, record { fits = workshops-fit })) $ pass0 ! $
-      assigns ! (of-opd ! (load ! (from ! (stop !)) (look ! 26 refl))) (from ! (stop !))
-      (init ! 20 refl (LL.lawful S.the-type S′.the-laws 𝓤 H A W .typed start _ start-is .0)) $
+      alloc1 ! (λ l₁₉. alloc0 ! $ params1 ! $
+      pass1 ! (init ! 36 refl (tt, (tt, (record { fits = room₀ .0 }, tt)))) $ pass1 ! (init ! 34 refl (tt, (tt, (record { fits = room₁ .0 }, tt)))) $
+      pass1 ! (init ! 32 refl (tt, (tt, (record { fits = room₂ .0 }, tt)))) $ pass1 ! (init ! 30 refl (tt, (tt, (record { fits = room₃ .0 }, tt)))) $
+      pass1 ! (init ! 28 refl (tt, (tt, (record { fits = room₄ .0 }, tt)))) $ pass1 ! (init ! 26 refl (tt, (tt, (record { fits = room₅ .0 }, tt)))) $
+      pass1 ! (init ! 24 refl (tt, (tt, (record { fits = room₆ .0 }, tt)))) $
+      pass1 ! (init ! 22 refl (LL.lawful S.the-type S′.the-laws 𝓤 H A W .typed start _ start-is .0)) $ pass1 !
+      (init ! 20 refl (tt, record { fits = students-fit })) $
+      pass1 ! (init ! 18 refl (tt, record { fits = workshops-fit })) $ pass0 ! $
+      assigns ! (of-opd ! (load ! (from ! (stop !)) (look ! 22 refl))) (from ! (stop !))
+      (init ! 16 refl (LL.lawful S.the-type S′.the-laws 𝓤 H A W .typed start _ start-is .0)) $
       -- what the parameters own, and the tokens, one by one
-      move ! (45 ∷ []) $ fsplit ! $ move ! (1 ∷ []) $ fsplit ! $ move ! (1 ∷ []) $ fsplit ! $ move ! (1 ∷ []) $ fsplit ! $ move ! (1 ∷ []) $ fsplit ! $
+      move ! (41 ∷ []) $ fsplit ! $ move ! (1 ∷ []) $ fsplit ! $ move ! (1 ∷ []) $ fsplit ! $ move ! (1 ∷ []) $ fsplit ! $ move ! (1 ∷ []) $ fsplit ! $
       move ! (1 ∷ []) $ fsplit ! $ move ! (1 ∷ []) $ fsplit ! $ move ! (1 ∷ []) $ drop ! $
       -- [states; seats; visits; table; index; book; case; locals; tokens]
-      move ! (51 ∷ []) $ split ! $ move ! (1 ∷ []) $ split ! $ move ! (1 ∷ []) $ split ! $ move ! (1 ∷ []) $ split ! $ move ! (1 ∷ []) $ split ! $
+      move ! (47 ∷ []) $ split ! $ move ! (1 ∷ []) $ split ! $ move ! (1 ∷ []) $ split ! $ move ! (1 ∷ []) $ split ! $ move ! (1 ∷ []) $ split ! $
       move ! (1 ∷ []) $ split ! $ move ! (1 ∷ []) $ split ! $ move ! (1 ∷ []) $ drop ! $
       -- [κ₆; κ₅; κ₄; κ₃; κ₂; κ₁; κ₀; states; seats; visits; table; index; book; case; locals]
       move ! (7 ∷ 0 ∷ 8 ∷ 1 ∷ 9 ∷ 2 ∷ 11 ∷ 4 ∷ 13 ∷ 6 ∷ 12 ∷ 5 ∷ 10 ∷ 3 ∷ []) $
-      looped 𝓣 known l₀ l₁ l₂ l₃ l₄ l₅ l₆ l₇ l₈ l₉ l₁₀ l₁₁ l₁₂ l₁₃ l₁₄ l₁₅ l₁₆ l₁₇ l₁₈ l₁₉ l₂₀ l₂₁
+      looped 𝓣 known l₀ l₁ l₂ l₃ l₄ l₅ l₆ l₇ l₈ l₉ l₁₀ l₁₁ l₁₂ l₁₃ l₁₄ l₁₅ l₁₆ l₁₇ l₁₈ l₁₉
       (record {
         k = 0;
         vs = visits;
@@ -573,7 +535,7 @@ module _ {M : Type 1} (𝓤 : URA M) (H : Heap 𝓤) (A : Atoms 𝓤) (W : Given
         is = start-is;
         same =
             begun;
-      })))))))))))))))))))))))
+      })))))))))))))))))))))
     where
       begun : (visits, (seats, (ys, start))) ≡ after 0
       begun = runs-none market results visits seats ys start
@@ -612,7 +574,7 @@ module _ {M : Type 1} (𝓤 : URA M) (H : Heap 𝓤) (A : Atoms 𝓤) (W : Given
         (
           shr-slice-tells (named 1) (κs .1 .0) u8,
           (
-            mut-slice-tells (named 2) (κs .1 .1 .0) u16,
+            shr-slice-tells (named 2) (κs .1 .1 .0) u16,
             (
               shr-slice-tells (named 3) (κs .1 .1 .1 .0) u64,
               (
@@ -651,7 +613,7 @@ run-all-meets 𝓤 H A W mem run 𝓣 known =
       (
         goes-none-slice 𝓤 H A W 7 (1 ∷ []) tt (plain (λ _. u8)) yes,
         (
-          goes-slice 𝓤 H A W 7 2 tt (plain (λ _. u16)),
+          goes-none-slice 𝓤 H A W 7 (2 ∷ []) tt (plain (λ _. u16)) yes,
           (
             goes-none-slice 𝓤 H A W 7 (3 ∷ []) tt (plain (λ _. u64)) yes,
             (

@@ -1,7 +1,7 @@
 -- `engine::take_turn` meets its contract: a walk of its MIR, by hand. The borrow of the states is opened, the state of the student in hand is copied
--- out of the row, `step` is called with it, the state that it gives is stored in its place, and the borrow is closed. The index, the visits and the
--- seats are lent again for the call, and come back at the list that `step` says; of the case, the book and the table, which are `&`, a copy is passed.
--- All that the proof knows of `step` is that it meets its contract.
+-- out of the row, `turn` is called with it, the state that it gives is stored in its place, and the borrow is closed. The visits and the seats are lent
+-- again for the call, and come back at the list that `turn` says; of the case, the book, the index and the table, which are `&`, a copy is passed.
+-- All that the proof knows of `turn` is that it meets its contract.
 -- Assumes nothing.
 use mathlib.Core.Path.{_≡_, refl, sym}
 use Prim.Native.Nat.{ℕ, _-_, _<_, _≤_, _^_, _*_}
@@ -48,6 +48,7 @@ use denote.Triple.Walked.{walked, walk-meets}
 use Rattle.walks.proofs.Slices.{Spot, spot-of, ref, sv, Loan, anew}
 use Rattle.walks.proofs.Row.{opens-row, closes-row, takes-elem, puts-elem}
 use Rattle.walks.proofs.Calls.{calls-out}
+use Rattle.walks.proofs.Clauses.{says2}
 use Rattle.walks.proofs.Again.{lends-on, back-on}
 use Rattle.lgs.specs.Market.{Market, Results}
 use Rattle.format.specs.Engine.{marketIn, resultsIn}
@@ -62,10 +63,10 @@ use Rattle.model.proofs.Run as S
 use Rattle.model.proofs.Run.Laws as S′
 use Rattle.model.proofs.Turned as U
 use Rattle.model.proofs.Turned.Laws as U′
-use Rattle.answering.proofs.step as step
-use Rattle.answering.proofs.step.Symbol as step-def
-use Rattle.answering.proofs.step.Symbol.{name as #answering·step}
-use Rattle.answering.proofs.step.Met as step-thm
+use Rattle.turning.proofs.turn as turn
+use Rattle.turning.proofs.turn.Symbol as turn-def
+use Rattle.turning.proofs.turn.Symbol.{name as #turning·turn}
+use Rattle.turning.proofs.turn.Met as turn-thm
 use Rattle.engine.specs.Runs.{CanTurn}
 use Rattle.engine.proofs.States.{kind, spot-fits}
 use Rattle.engine.proofs.take_turn.Key.{name as #engine·take-turn}
@@ -79,7 +80,7 @@ stayed = (
   (
     stay-none-slice (1 ∷ []) tt (plain (λ _. u8)) yes,
     (
-      stay-slice (2 ∷ []) tt (plain (λ _. u16)),
+      stay-none-slice (2 ∷ []) tt (plain (λ _. u16)) yes,
       (
         stay-none-slice (3 ∷ []) tt (plain (λ _. u64)) yes,
         (
@@ -97,7 +98,7 @@ stayed = (
   ),
 )
 
--- what is known of the fields of what `step` gives
+-- what is known of the fields of what `turn` gives
 is-state : (r : Turned) → Is U.the-row r (U′.lowered r ∷ []) → Is T.the-row (r .state) (T′.lowered (r .state) ∷ [])
 is-state r made = LL.owed U.the-type U′.the-laws r _ made .0
 
@@ -105,8 +106,8 @@ is-run : (r : Turned) → Is U.the-row r (U′.lowered r ∷ []) → Is S.the-ro
 is-run r made = LL.owed U.the-type U′.the-laws r _ made .1 .0
 
 -- the contract that the proof cites
-abbrev StepOf : {M : Type 1} (𝓤 : URA M) (H : Heap 𝓤) (A : Atoms 𝓤) (mem : Memory → SProp 𝓤) (run : Routine → Fun 𝓤) → Contract 𝓤
-StepOf 𝓤 H A mem run = tripleOf 𝓤 H A step.signature (step.spec 𝓤 H A mem run)
+abbrev TurnOf : {M : Type 1} (𝓤 : URA M) (H : Heap 𝓤) (A : Atoms 𝓤) (mem : Memory → SProp 𝓤) (run : Routine → Fun 𝓤) → Contract 𝓤
+TurnOf 𝓤 H A mem run = tripleOf 𝓤 H A turn.signature (turn.spec 𝓤 H A mem run)
 
 abbrev states-ty : Ty
 states-ty = sliceTy (tyRef (named 6) mut (pointee (T.the-row .written)))
@@ -176,8 +177,8 @@ module _ {M : Type 1} (𝓤 : URA M) (H : Heap 𝓤) (A : Atoms 𝓤) (W : Given
   abbrev Book : Item 𝓤
   Book = ‵ (ShrSlice (named 1) κ₁ u8 .own (ref p₁ book) (sv p₁ book ∷ []))
 
-  abbrev Index : List ℕ → Item 𝓤
-  Index l = ‵ (MutSlice (named 2) κ₂ u16 .own (ref p₂ l) (sv p₂ index ∷ []))
+  abbrev Index : Item 𝓤
+  Index = ‵ (ShrSlice (named 2) κ₂ u16 .own (ref p₂ index) (sv p₂ index ∷ []))
 
   abbrev Table : Item 𝓤
   Table = ‵ (ShrSlice (named 3) κ₃ u64 .own (ref p₃ table) (sv p₃ table ∷ []))
@@ -191,25 +192,25 @@ module _ {M : Type 1} (𝓤 : URA M) (H : Heap 𝓤) (A : Atoms 𝓤) (W : Given
   abbrev States : List StudentState → Item 𝓤
   States l = ‵ (MutSlice (named 6) κ₆ T.the-row .own (ref p₆ l) (sv p₆ ys ∷ []))
 
-  -- ---- the call of `step`, with the index, the visits and the seats lent again
+  -- ---- the call of `turn`, with the visits and the seats lent again
   abbrev Args : Type 0
   Args = RefT (List ℕ) × (RefT (List ℕ) × (RefT (List ℕ) × (RefT (List ℕ) × (RefT (List ℕ) × (RefT (List ℕ)
       × (StudentState × (Run × (ℕ × (ℕ × Unit {0})))))))))
 
-  abbrev passed : Loan → Loan → Loan → Args
-  passed a₂ a₄ a₅ =
-      (ref p₀ case, (ref p₁ book, (anew p₂ a₂ index, (ref p₃ table, (anew p₄ a₄ visits, (anew p₅ a₅ seats, (state, (start, (students, (workshops, tt))))))))))
+  abbrev passed : Loan → Loan → Args
+  passed a₄ a₅ =
+      (ref p₀ case, (ref p₁ book, (ref p₂ index, (ref p₃ table, (anew p₄ a₄ visits, (anew p₅ a₅ seats, (state, (start, (students, (workshops, tt))))))))))
 
-  abbrev lives : Loan → Loan → Loan → (Lft × (Lft × (Lft × (Lft × (Lft × (Lft × Unit {0}))))))
-  lives a₂ a₄ a₅ = (κ₀, (κ₁, (a₂ .ν ∷ [], (κ₃, (a₄ .ν ∷ [], (a₅ .ν ∷ [], tt))))))
+  abbrev lives : Loan → Loan → (Lft × (Lft × (Lft × (Lft × (Lft × (Lft × Unit {0}))))))
+  lives a₄ a₅ = (κ₀, (κ₁, (κ₂, (κ₃, (a₄ .ν ∷ [], (a₅ .ν ∷ [], tt))))))
 
-  abbrev to-step : Loan → Loan → Loan → StepOf 𝓤 H A mem run .Ghost
-  to-step a₂ a₄ a₅ = (
+  abbrev to-turn : Loan → Loan → TurnOf 𝓤 H A mem run .Ghost
+  to-turn a₄ a₅ = (
     (
-      lives a₂ a₄ a₅,
-      (q₀, (q₁, (fullShare, (q₃, (fullShare, (fullShare, tt)))))),
+      lives a₄ a₅,
+      (q₀, (q₁, (q₂, (q₃, (fullShare, (fullShare, tt)))))),
       tt,
-      passed a₂ a₄ a₅,
+      passed a₄ a₅,
       (
         sv p₀ case ∷ [],
         (
@@ -233,23 +234,20 @@ module _ {M : Type 1} (𝓤 : URA M) (H : Heap 𝓤) (A : Atoms 𝓤) (W : Given
     tt,
   )
 
-  abbrev LentIndex : Loan → Item 𝓤
-  LentIndex a = ‵ (MutSlice (named 2) (a .ν ∷ []) u16 .own (anew p₂ a index) (sv p₂ index ∷ []))
-
   abbrev LentVisits : Loan → Item 𝓤
   LentVisits a = ‵ (MutSlice (named 4) (a .ν ∷ []) u16 .own (anew p₄ a visits) (sv p₄ visits ∷ []))
 
   abbrev LentSeats : Loan → Item 𝓤
   LentSeats a = ‵ (MutSlice (named 5) (a .ν ∷ []) u16 .own (anew p₅ a seats) (sv p₅ seats ∷ []))
 
-  abbrev Asked : Loan → Loan → Loan → List (Item 𝓤)
-  Asked a₂ a₄ a₅ = Case ∷ ‵ (flft κ₀ q₀) ∷ Book ∷ ‵ (flft κ₁ q₁) ∷ LentIndex a₂ ∷ ‵ (flft (a₂ .ν ∷ []) fullShare) ∷ Table ∷ ‵ (flft κ₃ q₃) ∷ LentVisits a₄
+  abbrev Asked : Loan → Loan → List (Item 𝓤)
+  Asked a₄ a₅ = Case ∷ ‵ (flft κ₀ q₀) ∷ Book ∷ ‵ (flft κ₁ q₁) ∷ Index ∷ ‵ (flft κ₂ q₂) ∷ Table ∷ ‵ (flft κ₃ q₃) ∷ LentVisits a₄
       ∷ ‵ (flft (a₄ .ν ∷ []) fullShare) ∷ LentSeats a₅ ∷ ‵ (flft (a₅ .ν ∷ []) fullShare) ∷ []
 
-  goes : (a₂ a₄ a₅ : Loan) → Is T.the-row state (T′.lowered state ∷ [])
-      → ent 𝓤 (⋆ 𝓤 H A (Asked a₂ a₄ a₅)) (StepOf 𝓤 H A mem run .pre (to-step a₂ a₄ a₅))
-  goes a₂ a₄ a₅ is-c =
-      qed W (Asked a₂ a₄ a₅) ∵ says ! (can .ready) $
+  goes : (a₄ a₅ : Loan) → Is T.the-row state (T′.lowered state ∷ [])
+      → ent 𝓤 (⋆ 𝓤 H A (Asked a₄ a₅)) (TurnOf 𝓤 H A mem run .pre (to-turn a₄ a₅))
+  goes a₄ a₅ is-c =
+      qed W (Asked a₄ a₅) ∵ says2 ! (can .clean) (can .ready) $
       nothing ! $ move ! (12 ∷ 0 ∷ []) $ join ! $ move ! (10 ∷ 0 ∷ []) $ join ! $ move ! (8 ∷ 0 ∷ []) $ join ! $ move ! (6 ∷ 0 ∷ []) $ join ! $
       move ! (4 ∷ 0 ∷ []) $ join ! $ move !
       (2 ∷ 0 ∷ []) $
@@ -269,29 +267,28 @@ module _ {M : Type 1} (𝓤 : URA M) (H : Heap 𝓤) (A : Atoms 𝓤) (W : Given
   abbrev turned : Left market results
   turned = turnOf market results visits seats state start
 
-  abbrev Says : Turned → List ℕ → List ℕ → List ℕ → Type 0
-  Says r index′ visits′ seats′ = (r ≡ turned .turned) × ((visits′ ≡ turned .visits) × ((seats′ ≡ turned .seats) × (index′ ≡ index)))
-
-  abbrev Fin : Loan → Loan → Loan → Turned → Item 𝓤
-  Fin a₂ a₄ a₅ r = some (λ (ws : Lasts step.ended (lives a₂ a₄ a₅) (passed a₂ a₄ a₅)).
-      ‵ (lasts step.ended (lives a₂ a₄ a₅) (passed a₂ a₄ a₅) ws) ⊛ raw (fact 𝓤 (Says r (ws .1 .1 .0) (ws .1 .1 .1 .1 .0) (ws .1 .1 .1 .1 .1 .0))))
+  abbrev Fin : Loan → Loan → Turned → Item 𝓤
+  Fin a₄ a₅ r = some (λ (ws : Lasts turn.ended (lives a₄ a₅) (passed a₄ a₅)).
+      ‵ (lasts turn.ended (lives a₄ a₅) (passed a₄ a₅) ws) ⊛ raw (fact 𝓤 (r ≡ turned .turned))
+      ⊛ (raw (fact 𝓤 (ws .1 .1 .1 .1 .0 ≡ turned .visits)) ⊛ raw (fact 𝓤 (ws .1 .1 .1 .1 .1 .0 ≡ turned .seats))))
 
   -- ---- what is left when the turn is over
   abbrev stored : Turned → List StudentState
   stored r = set ys place (r .state)
 
-  exits : (index′ vs us : List ℕ) (r : Turned) → length vs ≡ length visits → length us ≡ length seats → Says r index′ vs us → Is U.the-row r (U′.lowered r ∷ [])
-      → ent 𝓤 (⋆ 𝓤 H A (States (stored r) ∷ ‵ (flft κ₆ q₆) ∷ Seats us ∷ ‵ (flft κ₅ q₅) ∷ Visits vs ∷ ‵ (flft κ₄ q₄) ∷ Index index ∷ ‵
+  exits : (vs us : List ℕ) (r : Turned) → length vs ≡ length visits → length us ≡ length seats → r ≡ turned .turned → vs ≡ turned .visits → us ≡ turned .seats
+      → Is U.the-row r (U′.lowered r ∷ [])
+      → ent 𝓤 (⋆ 𝓤 H A (States (stored r) ∷ ‵ (flft κ₆ q₆) ∷ Seats us ∷ ‵ (flft κ₅ q₅) ∷ Visits vs ∷ ‵ (flft κ₄ q₄) ∷ Index ∷ ‵
       (flft κ₂ q₂) ∷ Case ∷ ‵ (flft κ₀ q₀)
       ∷ Book ∷ ‵ (flft κ₁ q₁) ∷ Table ∷ ‵ (flft κ₃ q₃) ∷ [])) (Post (S′.lowered (r .run)))
-  exits index′ vs us r len₄ len₅ e is =
-      qed W (States (stored r) ∷ ‵ (flft κ₆ q₆) ∷ Seats us ∷ ‵ (flft κ₅ q₅) ∷ Visits vs ∷ ‵ (flft κ₄ q₄) ∷ Index index ∷ ‵ (flft κ₂ q₂) ∷ Case ∷ ‵
+  exits vs us r len₄ len₅ er ev eu is =
+      qed W (States (stored r) ∷ ‵ (flft κ₆ q₆) ∷ Seats us ∷ ‵ (flft κ₅ q₅) ∷ Visits vs ∷ ‵ (flft κ₄ q₄) ∷ Index ∷ ‵ (flft κ₂ q₂) ∷ Case ∷ ‵
       (flft κ₀ q₀) ∷ Book
       ∷ ‵ (flft κ₁ q₁) ∷ Table ∷ ‵ (flft κ₃ q₃) ∷ []) ∵
       suffices ! _ (ends-at 𝓤 H A take-turn.ended stayed (take-turn.clauses 𝓤 H A mem run) W ((κs, qs, tt, x, at), tt)
-      (S′.lowered (r .run)) (r .run) (tt, (tt, (index, (tt, (vs, (us, (stored r, (tt, (tt, (tt, tt))))))))))
-      (tt, (tt, (refl, (tt, (len₄, (len₅, (length-set ys place (r .state), (tt, (tt, (tt, tt))))))))))) $
-      says ! ((λ i. (e .1 .0 i, (e .1 .1 .0 i, (stored (e .0 i), e .0 i .run)))), refl) $
+      (S′.lowered (r .run)) (r .run) (tt, (tt, (tt, (tt, (vs, (us, (stored r, (tt, (tt, (tt, tt))))))))))
+      (tt, (tt, (tt, (tt, (len₄, (len₅, (length-set ys place (r .state), (tt, (tt, (tt, tt))))))))))) $
+      says ! (λ i. (ev i, (eu i, (stored (er i), er i .run)))) $
       -- the tokens
       nothing ! $ move ! (2 ∷ 0 ∷ []) $ join ! $ move ! (3 ∷ 0 ∷ []) $ join ! $ move ! (4 ∷ 0 ∷ []) $ join ! $ move ! (11 ∷ 0 ∷ []) $ join ! $
       move ! (5 ∷ 0 ∷ []) $ join ! $ move !
@@ -307,13 +304,13 @@ module _ {M : Type 1} (𝓤 : URA M) (H : Heap 𝓤) (A : Atoms 𝓤) (W : Given
       owned ! S.the-row (Is S.the-row) (LL.makes S.the-type S′.the-plain 𝓤 H A) (r .run) _ (is-run r is) $ move ! (1 ∷ 0 ∷ []) $ done !
 
   -- the MIR
-  walk : (𝓣 : Tables 𝓤 H) → Triple 𝓤 (𝓣 .C #answering·step) (StepOf 𝓤 H A mem run)
+  walk : (𝓣 : Tables 𝓤 H) → Triple 𝓤 (𝓣 .C #turning·turn) (TurnOf 𝓤 H A mem run)
       → ent 𝓤 (onEntry 𝓤 H A take-turn.signature κs qs x at)
       (WpFn 𝓤 H (𝓣 .C) (𝓣 .Λ) code.function (sv p₀ case ∷ sv p₁ book ∷ sv p₂ index ∷ sv p₃ table ∷ sv p₄ visits ∷ sv p₅ seats
       ∷ sv p₆ ys ∷ S′.lowered start ∷ vint w64 students ∷ vint w64 workshops ∷ []) Post)
   walk 𝓣 known =
       qed W ((‵ (flft κ₀ q₀) ⊛ ‵ (flft κ₁ q₁) ⊛ ‵ (flft κ₂ q₂) ⊛ ‵ (flft κ₃ q₃) ⊛ ‵ (flft κ₄ q₄) ⊛ ‵ (flft κ₅ q₅) ⊛ ‵ (flft κ₆ q₆) ⊛ ‵ ftrue)
-      ∷ ‵ (owns (ShrSlice (named 0) κ₀ u8 ∷ ShrSlice (named 1) κ₁ u8 ∷ MutSlice (named 2) κ₂ u16 ∷ ShrSlice (named 3) κ₃ u64
+      ∷ ‵ (owns (ShrSlice (named 0) κ₀ u8 ∷ ShrSlice (named 1) κ₁ u8 ∷ ShrSlice (named 2) κ₂ u16 ∷ ShrSlice (named 3) κ₃ u64
       ∷ MutSlice (named 4) κ₄ u16 ∷ MutSlice (named 5) κ₅ u16
       ∷ MutSlice (named 6) κ₆ T.the-row ∷ S.the-row ∷ usize ∷ usize ∷ []) x at) ∷ []) ∵
       enter ! (𝓣 .C) (𝓣 .Λ) code.function
@@ -322,109 +319,102 @@ module _ {M : Type 1} (𝓤 : URA M) (H : Heap 𝓤) (A : Atoms 𝓤) (W : Given
       alloc1 ! (λ l₀. alloc1 ! (λ l₁. alloc1 ! (λ l₂. alloc1 ! (λ l₃. alloc1 ! (λ l₄. alloc1 ! (λ l₅. alloc1 ! (λ l₆. alloc1 ! (λ l₇. alloc1 !
       (λ l₈. alloc1 ! (λ l₉.
       alloc1 ! (λ l₁₀. alloc1 ! (λ l₁₁. alloc1 ! (λ l₁₂. alloc1 ! (λ l₁₃. alloc1 ! (λ l₁₄. alloc1 ! (λ l₁₅. alloc1 ! (λ l₁₆. alloc1 ! (λ l₁₇. alloc1 ! (λ l₁₈.
-      alloc1 ! (λ l₁₉. alloc1 ! (λ l₂₀. alloc1 ! (λ l₂₁. alloc1 ! (λ l₂₂. alloc0 ! $ params1 ! $
-      pass1 ! (init ! 42 refl (tt, (tt, (record { fits = room₀ .0 }, tt)))) $ pass1 ! (init ! 40 refl (tt, (tt, (record { fits = room₁ .0 }, tt)))) $
-      pass1 ! (init ! 38 refl (tt, (tt, (record { fits = room₂ .0 }, tt)))) $ pass1 ! (init ! 36 refl (tt, (tt, (record { fits = room₃ .0 }, tt)))) $
-      pass1 ! (init ! 34 refl (tt, (tt, (record { fits = room₄ .0 }, tt)))) $ pass1 ! (init ! 32 refl (tt, (tt, (record { fits = room₅ .0 }, tt)))) $
-      pass1 ! (init ! 30 refl (tt, (tt, (record { fits = room₆ .0 }, tt)))) $
-      pass1 ! (init ! 28 refl (LL.lawful S.the-type S′.the-laws 𝓤 H A W .typed start _ start-is .0)) $ pass1 !
-      (init ! 26 refl (tt, record { fits = students-fit })) $
-      pass1 ! (init ! 24 refl (tt, record { fits = workshops-fit })) $ pass0 ! $
+      alloc1 ! (λ l₁₉. alloc1 ! (λ l₂₀. alloc0 ! $ params1 ! $
+      pass1 ! (init ! 38 refl (tt, (tt, (record { fits = room₀ .0 }, tt)))) $ pass1 ! (init ! 36 refl (tt, (tt, (record { fits = room₁ .0 }, tt)))) $
+      pass1 ! (init ! 34 refl (tt, (tt, (record { fits = room₂ .0 }, tt)))) $ pass1 ! (init ! 32 refl (tt, (tt, (record { fits = room₃ .0 }, tt)))) $
+      pass1 ! (init ! 30 refl (tt, (tt, (record { fits = room₄ .0 }, tt)))) $ pass1 ! (init ! 28 refl (tt, (tt, (record { fits = room₅ .0 }, tt)))) $
+      pass1 ! (init ! 26 refl (tt, (tt, (record { fits = room₆ .0 }, tt)))) $
+      pass1 ! (init ! 24 refl (LL.lawful S.the-type S′.the-laws 𝓤 H A W .typed start _ start-is .0)) $ pass1 !
+      (init ! 22 refl (tt, record { fits = students-fit })) $
+      pass1 ! (init ! 20 refl (tt, record { fits = workshops-fit })) $ pass0 ! $
       -- what the parameters own, and the tokens, one by one
-      move ! (47 ∷ []) $ fsplit ! $ move ! (1 ∷ []) $ fsplit ! $ move ! (1 ∷ []) $ fsplit ! $ move ! (1 ∷ []) $ fsplit ! $ move ! (1 ∷ []) $ fsplit ! $
+      move ! (43 ∷ []) $ fsplit ! $ move ! (1 ∷ []) $ fsplit ! $ move ! (1 ∷ []) $ fsplit ! $ move ! (1 ∷ []) $ fsplit ! $ move ! (1 ∷ []) $ fsplit ! $
       move ! (1 ∷ []) $ fsplit ! $ move ! (1 ∷ []) $ fsplit ! $ move ! (1 ∷ []) $ drop ! $
       -- [states; seats; visits; table; index; book; case; locals; tokens]
-      move ! (53 ∷ []) $ split ! $ move ! (1 ∷ []) $ split ! $ move ! (1 ∷ []) $ split ! $ move ! (1 ∷ []) $ split ! $ move ! (1 ∷ []) $ split ! $
+      move ! (49 ∷ []) $ split ! $ move ! (1 ∷ []) $ split ! $ move ! (1 ∷ []) $ split ! $ move ! (1 ∷ []) $ split ! $ move ! (1 ∷ []) $ split ! $
       move ! (1 ∷ []) $ split ! $ move ! (1 ∷ []) $ split ! $ move ! (1 ∷ []) $ drop ! $
       -- [κ₆; κ₅; κ₄; κ₃; κ₂; κ₁; κ₀; states; seats; visits; table; index; book; case; locals]
       move ! (7 ∷ 0 ∷ 8 ∷ 1 ∷ 9 ∷ 2 ∷ 11 ∷ 4 ∷ 13 ∷ 6 ∷ 12 ∷ 5 ∷ 10 ∷ 3 ∷ []) $ opens-row ! tt T.the-row (named 6) κ₆ q₆ (p₆ .γ) (p₆ .b) (p₆ .o) ys $
-      assigns ! (bin ! (load ! (from ! (fld ! refl (stop !))) (look-in ! 42 (sub ! 0 refl (whole !)))) (lit ! tt) some-hand) (from ! (stop !))
-      (init ! 36 refl (tt, record { fits = place-fits })) $
-      assigns ! (addr ! (from ! (fld ! refl (hop ! (look-in ! 52 (sub ! 0 refl (whole !))) (stop !))))) (from ! (stop !)) (init ! 32 refl (tt, tt)) $
-      assigns ! (agg ! (and-then ! (load ! (from ! (stop !)) (look ! 32 refl)) (and-then ! (load ! (from ! (fld ! refl (stop !)))
-      (look-in ! 52 (sub ! 1 refl (whole !)))) (no-more !)))) (from ! (stop !)) (init ! 30 refl (tt, (tt, (record { fits = room₂ .0 }, tt)))) $
-      assigns ! (addr ! (from ! (fld ! refl (hop ! (look-in ! 48 (sub ! 0 refl (whole !))) (stop !))))) (from ! (stop !)) (init ! 28 refl (tt, tt)) $
+      assigns ! (bin ! (load ! (from ! (fld ! refl (stop !))) (look-in ! 38 (sub ! 0 refl (whole !)))) (lit ! tt) some-hand) (from ! (stop !))
+      (init ! 32 refl (tt, record { fits = place-fits })) $
+      assigns ! (addr ! (from ! (fld ! refl (hop ! (look-in ! 44 (sub ! 0 refl (whole !))) (stop !))))) (from ! (stop !)) (init ! 28 refl (tt, tt)) $
       assigns ! (agg ! (and-then ! (load ! (from ! (stop !)) (look ! 28 refl)) (and-then ! (load ! (from ! (fld ! refl (stop !)))
-      (look-in ! 48 (sub ! 1 refl (whole !)))) (no-more !)))) (from ! (stop !)) (init ! 26 refl (tt, (tt, (record { fits = room₄ .0 }, tt)))) $
-      assigns ! (addr ! (from ! (fld ! refl (hop ! (look-in ! 46 (sub ! 0 refl (whole !))) (stop !))))) (from ! (stop !)) (init ! 24 refl (tt, tt)) $
+      (look-in ! 44 (sub ! 1 refl (whole !)))) (no-more !)))) (from ! (stop !)) (init ! 26 refl (tt, (tt, (record { fits = room₄ .0 }, tt)))) $
+      assigns ! (addr ! (from ! (fld ! refl (hop ! (look-in ! 42 (sub ! 0 refl (whole !))) (stop !))))) (from ! (stop !)) (init ! 24 refl (tt, tt)) $
       assigns ! (agg ! (and-then ! (load ! (from ! (stop !)) (look ! 24 refl)) (and-then ! (load ! (from ! (fld ! refl (stop !)))
-      (look-in ! 46 (sub ! 1 refl (whole !)))) (no-more !)))) (from ! (stop !)) (init ! 22 refl (tt, (tt, (record { fits = room₅ .0 }, tt)))) $
-      assigns ! (bin ! (load ! (from ! (stop !)) (look ! 36 refl)) (lit ! tt) (record { fits = spot })) (from ! (stop !))
+      (look-in ! 42 (sub ! 1 refl (whole !)))) (no-more !)))) (from ! (stop !)) (init ! 22 refl (tt, (tt, (record { fits = room₅ .0 }, tt)))) $
+      assigns ! (bin ! (load ! (from ! (stop !)) (look ! 32 refl)) (lit ! tt) (record { fits = spot })) (from ! (stop !))
       (init ! 20 refl (tt, record { fits = spot })) $
-      assigns ! (bin ! (load ! (from ! (fld ! refl (stop !))) (look-in ! 44 (sub ! 0 refl (whole !)))) (load ! (from ! (stop !)) (look ! 20 refl)) tt)
+      assigns ! (bin ! (load ! (from ! (fld ! refl (stop !))) (look-in ! 40 (sub ! 0 refl (whole !)))) (load ! (from ! (stop !)) (look ! 20 refl)) tt)
       (from ! (stop !)) (init ! 18 refl (tt, tt)) $
-      rewrite ! 18 (λ (p : ℕ). ‵ (fat fullShare tyPtr l₂₀ 0 (vptr (p₆ .b) p))) (sym (place-is 16 (p₆ .o) place)) refl $
+      rewrite ! 18 (λ (p : ℕ). ‵ (fat fullShare tyPtr l₁₈ 0 (vptr (p₆ .b) p))) (sym (place-is 16 (p₆ .o) place)) refl $
       takes-elem ! T.the-row kind fullShare ys place zeroState (p₆ .b) (p₆ .o) in-states (λ is-c.
-      -- [states[i]; the others; what is left of the states' reference; the seats; their token; the visits; the index; the case; the book; the table; _22; …]
+      -- [states[i]; the others; what is left of the states' reference; the seats; their token; the visits; the index; the case; the book; the table; _20; …]
       assigns ! (of-opd ! (load ! (from ! (hop ! (look ! 19 refl) (stop !))) (look-raw ! 0 refl))) (from ! (stop !))
       (init ! 17 refl (LL.lawful T.the-type T′.the-laws 𝓤 H A W .typed state _ is-c .0)) $
-      -- the seats, the visits and the index are lent again, and the case and the book are copied
+      -- the seats and the visits are lent again, and the index, the case, the book and the table are copied
       move ! (3 ∷ 4 ∷ []) $ lends-on ! tt u16 (named 5) (named 5) κ₅ q₅ (p₅ .γ) (p₅ .b) (p₅ .o) (length seats) seats refl (λ ν₅ δ₅.
       move ! (6 ∷ 7 ∷ []) $ lends-on ! tt u16 (named 4) (named 4) κ₄ q₄ (p₄ .γ) (p₄ .b) (p₄ .o) (length visits) visits refl (λ ν₄ δ₄.
-      move ! (9 ∷ 10 ∷ []) $ lends-on ! tt u16 (named 2) (named 2) κ₂ q₂ (p₂ .γ) (p₂ .b) (p₂ .o) (length index) index refl (λ ν₂ δ₂.
+      move ! (9 ∷ []) $ use1 W (Index ⊛ Index) (shr-slice-copy 𝓤 H A W (named 2) κ₂ u16 .twice (ref p₂ index) (sv p₂ index ∷ [])) $ split ! $
       move ! (12 ∷ []) $ use1 W (Case ⊛ Case) (shr-slice-copy 𝓤 H A W (named 0) κ₀ u8 .twice (ref p₀ case) (sv p₀ case ∷ [])) $ split ! $
       move ! (15 ∷ []) $ use1 W (Book ⊛ Book) (shr-slice-copy 𝓤 H A W (named 1) κ₁ u8 .twice (ref p₁ book) (sv p₁ book ∷ [])) $ split ! $
       move ! (18 ∷ []) $ use1 W (Table ⊛ Table) (shr-slice-copy 𝓤 H A W (named 3) κ₃ u64 .twice (ref p₃ table) (sv p₃ table ∷ [])) $ split ! $
-      -- [the table, the book, the case, each twice; for index, visits and seats: the slice lent, its token, what is kept; states[i]; the others;
-      -- the states' reference; κ₀'s token; κ₁'s; κ₃'s; _22; …]
-      move ! (4 ∷ 18 ∷ 2 ∷ 19 ∷ 6 ∷ 7 ∷ 0 ∷ 20 ∷ 9 ∷ 10 ∷ 12 ∷ 13 ∷ []) $ group ! 12 $
-      use1 W (raw (StepOf 𝓤 H A mem run .pre (to-step (record { ν = ν₂; δ = δ₂ }) (record { ν = ν₄; δ = δ₄ }) (record { ν = ν₅; δ = δ₅ }))))
-      (goes (record { ν = ν₂; δ = δ₂ }) (record { ν = ν₄; δ = δ₄ }) (record { ν = ν₅; δ = δ₅ }) is-c) $
-      -- [what `step` asks; the table; the book; the case; what is kept of the index, of the visits, of the seats; states[i]; the others; the states' reference; _22; …]
-      calls-out ! fm step.signature (step.spec 𝓤 H A mem run) known (to-step (record { ν = ν₂; δ = δ₂ }) (record { ν = ν₄; δ = δ₄ })
-      (record { ν = ν₅; δ = δ₅ })) (Fin (record { ν = ν₂; δ = δ₂ }) (record { ν = ν₄; δ = δ₄ }) (record { ν = ν₅; δ = δ₅ })) (λ r. id⊢ 𝓤 _) U′.lowered
-      (U′.lowers .val-is)
-      (and-then ! (load ! (from ! (stop !)) (look ! 52 refl)) (and-then ! (load ! (from ! (stop !)) (look ! 50 refl)) (and-then ! (load ! (from ! (stop !))
-      (look ! 26 refl)) (and-then ! (load ! (from ! (stop !)) (look ! 46 refl)) (and-then ! (load ! (from ! (stop !)) (look ! 22 refl)) (and-then ! (load !
-      (from ! (stop !)) (look ! 18 refl)) (and-then ! (load ! (from ! (stop !)) (look ! 12 refl)) (and-then ! (load ! (from ! (stop !)) (look ! 38 refl))
-      (and-then ! (load ! (from ! (stop !)) (look ! 36 refl)) (and-then ! (load ! (from ! (stop !)) (look ! 34 refl)) (no-more !))))))))))) (λ r made.
-      pick ! (λ ws. split ! $ move ! (1 ∷ []) $ heard ! (Says r (ws .1 .1 .0) (ws .1 .1 .1 .1 .0) (ws .1 .1 .1 .1 .1 .0)) (λ f.
+      -- [the table, the book, the case, the index, each twice; for visits and seats: the slice lent, its token, what is kept; states[i]; the others;
+      -- the states' reference; κ₂'s token; κ₀'s; κ₁'s; κ₃'s; _20; …]
+      move ! (4 ∷ 18 ∷ 2 ∷ 19 ∷ 6 ∷ 17 ∷ 0 ∷ 20 ∷ 8 ∷ 9 ∷ 11 ∷ 12 ∷ []) $ group ! 12 $
+      use1 W (raw (TurnOf 𝓤 H A mem run .pre (to-turn (record { ν = ν₄; δ = δ₄ }) (record { ν = ν₅; δ = δ₅ }))))
+      (goes (record { ν = ν₄; δ = δ₄ }) (record { ν = ν₅; δ = δ₅ }) is-c) $
+      -- [what `turn` asks; the table; the book; the case; the index; what is kept of the visits, of the seats; states[i]; the others; the states' reference; _20; …]
+      calls-out ! fm turn.signature (turn.spec 𝓤 H A mem run) known (to-turn (record { ν = ν₄; δ = δ₄ }) (record { ν = ν₅; δ = δ₅ }))
+      (Fin (record { ν = ν₄; δ = δ₄ }) (record { ν = ν₅; δ = δ₅ })) (λ r. id⊢ 𝓤 _) U′.lowered (U′.lowers .val-is)
+      (and-then ! (load ! (from ! (stop !)) (look ! 48 refl)) (and-then ! (load ! (from ! (stop !)) (look ! 46 refl)) (and-then ! (load ! (from ! (stop !))
+      (look ! 44 refl)) (and-then ! (load ! (from ! (stop !)) (look ! 42 refl)) (and-then ! (load ! (from ! (stop !)) (look ! 22 refl)) (and-then ! (load !
+      (from ! (stop !)) (look ! 18 refl)) (and-then ! (load ! (from ! (stop !)) (look ! 12 refl)) (and-then ! (load ! (from ! (stop !)) (look ! 34 refl))
+      (and-then ! (load ! (from ! (stop !)) (look ! 32 refl)) (and-then ! (load ! (from ! (stop !)) (look ! 30 refl)) (no-more !))))))))))) (λ r made.
+      pick ! (λ ws. split ! $ move ! (1 ∷ []) $ split ! $ heard ! (r ≡ turned .turned) (λ er. split ! $ heard ! (ws .1 .1 .1 .1 .0 ≡ turned .visits) (λ ev.
+      heard ! (ws .1 .1 .1 .1 .1 .0 ≡ turned .seats) (λ eu.
       -- the last lists are taken out of what is said of the parameters, and the tokens come back
-      fsplit ! $ drop ! $ fsplit ! $ drop ! $ fsplit ! $ fsplit ! $ move ! (1 ∷ []) $ feqL ! (λ e₂. move ! (1 ∷ []) $ fsplit ! $ drop ! $ fsplit ! $
-      fsplit ! $ move ! (1 ∷ []) $
+      fsplit ! $ drop ! $ fsplit ! $ drop ! $ fsplit ! $ drop ! $ fsplit ! $ drop ! $ fsplit ! $ fsplit ! $ move ! (1 ∷ []) $
       feqL ! (λ e₄. move ! (1 ∷ []) $ fsplit ! $ move ! (1 ∷ []) $ drop ! $ fsplit ! $ move ! (1 ∷ []) $ feqL ! (λ e₅.
-      -- [the seats' last list; the visits'; the index's; the tokens; …]
-      move ! (3 ∷ []) $ use1 W (‵ (flft κ₀ q₀) ⊛ ‵ (flft κ₁ q₁) ⊛ ‵ (flft (ν₂ ∷ []) fullShare) ⊛ ‵ (flft κ₃ q₃) ⊛ ‵ (flft (ν₄ ∷ []) fullShare) ⊛ ‵ (flft (ν₅
+      -- [the seats' last list; the visits'; the tokens; …]
+      move ! (2 ∷ []) $ use1 W (‵ (flft κ₀ q₀) ⊛ ‵ (flft κ₁ q₁) ⊛ ‵ (flft κ₂ q₂) ⊛ ‵ (flft κ₃ q₃) ⊛ ‵ (flft (ν₄ ∷ []) fullShare) ⊛ ‵ (flft (ν₅
       ∷ []) fullShare) ⊛ ‵ ftrue) (id⊢ 𝓤 _) $
       split ! $ move ! (1 ∷ []) $ split ! $ move ! (1 ∷ []) $ split ! $ move ! (1 ∷ []) $ split ! $ move ! (1 ∷ []) $ split ! $ move ! (1 ∷ []) $ split ! $
       move ! (1 ∷ []) $ drop ! $
-      -- [the tokens of ν₅, ν₄, κ₃, ν₂, κ₁, κ₀; the seats' last list; the visits'; the index's; the table; the book; the case; what is kept of the index, of
-      -- the visits, of the seats; states[i]; …]: the slices come back
-      move ! (0 ∷ 14 ∷ 6 ∷ []) $ back-on ! tt u16 (named 5) κ₅ q₅ (p₅ .γ) (p₅ .b) (p₅ .o) (length seats) ν₅ δ₅ seats (ws .1 .1 .1 .1 .1 .0) room₅ refl
+      -- [the tokens of ν₅, ν₄, κ₃, κ₂, κ₁, κ₀; the seats' last list; the visits'; the table; the book; the case; the index; what is kept of the visits, of
+      -- the seats; states[i]; …]: the slices come back
+      move ! (0 ∷ 13 ∷ 6 ∷ []) $ back-on ! tt u16 (named 5) κ₅ q₅ (p₅ .γ) (p₅ .b) (p₅ .o) (length seats) ν₅ δ₅ seats (ws .1 .1 .1 .1 .1 .0) room₅ refl
       e₅ $
-      move ! (2 ∷ 13 ∷ 7 ∷ []) $ back-on ! tt u16 (named 4) κ₄ q₄ (p₄ .γ) (p₄ .b) (p₄ .o) (length visits) ν₄ δ₄ visits (ws .1 .1 .1 .1 .0) room₄ refl
+      move ! (2 ∷ 12 ∷ 7 ∷ []) $ back-on ! tt u16 (named 4) κ₄ q₄ (p₄ .γ) (p₄ .b) (p₄ .o) (length visits) ν₄ δ₄ visits (ws .1 .1 .1 .1 .0) room₄ refl
       e₄ $
-      move ! (5 ∷ 12 ∷ 8 ∷ []) $ back-on ! tt u16 (named 2) κ₂ q₂ (p₂ .γ) (p₂ .b) (p₂ .o) (length index) ν₂ δ₂ index (ws .1 .1 .0) room₂ refl e₂ $
-      rewrite ! 0 (λ (l : List ℕ). Index l) (f .1 .1 .1) refl $
-      -- [the index, the visits, the seats, each with its token; κ₃'s; κ₁'s; κ₀'s; the table; the book; the case; states[i]; the others; the states'
-      -- reference; _22; …]
-      move ! (12 ∷ 13 ∷ 14 ∷ 4 ∷ 5 ∷ 2 ∷ 3 ∷ 0 ∷ 1 ∷ 11 ∷ 8 ∷ 10 ∷ 7 ∷ 9 ∷ 6 ∷ []) $
-      land ! (from ! (stop !)) (init ! 35 refl (LL.lawful U.the-type U′.the-laws 𝓤 H A W .typed r _ made .0)) $
+      -- [the visits, the seats, each with its token; κ₃'s; κ₂'s; κ₁'s; κ₀'s; the table; the book; the case; the index; states[i]; the others; the states'
+      -- reference; _20; …]
+      move ! (12 ∷ 13 ∷ 14 ∷ 2 ∷ 3 ∷ 0 ∷ 1 ∷ 11 ∷ 5 ∷ 10 ∷ 7 ∷ 9 ∷ 6 ∷ 8 ∷ 4 ∷ []) $
+      land ! (from ! (stop !)) (init ! 31 refl (LL.lawful U.the-type U′.the-laws 𝓤 H A W .typed r _ made .0)) $
       -- the place is computed again, and the state is stored
-      assigns ! (bin ! (load ! (from ! (stop !)) (look ! 37 refl)) (lit ! tt) (record { fits = spot })) (from ! (stop !))
+      assigns ! (bin ! (load ! (from ! (stop !)) (look ! 33 refl)) (lit ! tt) (record { fits = spot })) (from ! (stop !))
       (store ! 21 refl (tt, record { fits = spot })) $
-      assigns ! (bin ! (load ! (from ! (fld ! refl (stop !))) (look-in ! 45 (sub ! 0 refl (whole !)))) (load ! (from ! (stop !)) (look ! 21 refl)) tt)
+      assigns ! (bin ! (load ! (from ! (fld ! refl (stop !))) (look-in ! 41 (sub ! 0 refl (whole !)))) (load ! (from ! (stop !)) (look ! 21 refl)) tt)
       (from ! (stop !)) (init ! 15 refl (tt, tt)) $
-      rewrite ! 15 (λ (p : ℕ). ‵ (fat fullShare tyPtr l₂₂ 0 (vptr (p₆ .b) p))) (sym (place-is 16 (p₆ .o) place)) refl $
-      assigns ! (of-opd ! (load ! (from ! (fld ! refl (stop !))) (look-in ! 35 (sub ! 0 refl (whole !))))) (from ! (hop ! (look ! 15 refl) (stop !)))
+      rewrite ! 15 (λ (p : ℕ). ‵ (fat fullShare tyPtr l₂₀ 0 (vptr (p₆ .b) p))) (sym (place-is 16 (p₆ .o) place)) refl $
+      assigns ! (of-opd ! (load ! (from ! (fld ! refl (stop !))) (look-in ! 31 (sub ! 0 refl (whole !))))) (from ! (hop ! (look ! 15 refl) (stop !)))
       (store-raw ! 0 refl (LL.lawful T.the-type T′.the-laws 𝓤 H A W .typed (r .state) _ (is-state r made) .0)) $
       puts-elem ! T.the-row kind ys place (r .state) (p₆ .b) (p₆ .o) in-states (is-state r made) $
       closes-row ! tt T.the-row (named 6) κ₆ q₆ (p₆ .γ) (p₆ .b) (p₆ .o) ys (stored r) room₆ (length-set ys place (r .state)) $
-      -- [the states; their token; …; _22; …]: the run is returned
-      assigns ! (of-opd ! (load ! (from ! (fld ! refl (stop !))) (look-in ! 34 (sub ! 1 refl (whole !))))) (from ! (stop !))
-      (init ! 58 refl (LL.lawful S.the-type S′.the-laws 𝓤 H A W .typed (r .run) _ (is-run r made) .0)) $
-      returns ! (look ! 58 refl) $
+      -- [the states; their token; …; _20; …]: the run is returned
+      assigns ! (of-opd ! (load ! (from ! (fld ! refl (stop !))) (look-in ! 30 (sub ! 1 refl (whole !))))) (from ! (stop !))
+      (init ! 54 refl (LL.lawful S.the-type S′.the-laws 𝓤 H A W .typed (r .run) _ (is-run r made) .0)) $
+      returns ! (look ! 54 refl) $
       forget ! 14 refl $ forget ! 16 refl $ forget ! 18 refl $ forget ! 20 refl $ forget ! 22 refl $ forget ! 24 refl $ forget ! 26 refl $ forget ! 28 refl $
-      forget ! 30 refl $ forget ! 32 refl $ forget ! 34 refl $ forget ! 36 refl $ forget ! 38 refl $ forget ! 40 refl $ forget ! 42 refl $ forget ! 44 refl $
-      forget ! 46 refl $ forget ! 48 refl $ forget ! 50 refl $ forget ! 52 refl $ forget ! 54 refl $ forget ! 56 refl $ forget ! 58 refl $
-      move ! (58 ∷ 59 ∷ []) $ free1 ! $ move ! (56 ∷ 57 ∷ []) $ free1 ! $ move ! (54 ∷ 55 ∷ []) $ free1 ! $ move ! (52 ∷ 53 ∷ []) $ free1 ! $
-      move ! (50 ∷ 51 ∷ []) $ free1 ! $ move ! (48 ∷ 49 ∷ []) $ free1 ! $ move ! (46 ∷ 47 ∷ []) $ free1 ! $ move ! (44 ∷ 45 ∷ []) $ free1 ! $
-      move ! (42 ∷ 43 ∷ []) $ free1 ! $ move ! (40 ∷ 41 ∷ []) $ free1 ! $ move ! (38 ∷ 39 ∷ []) $ free1 ! $ move ! (36 ∷ 37 ∷ []) $ free1 ! $
-      move ! (34 ∷ 35 ∷ []) $ free1 ! $ move ! (32 ∷ 33 ∷ []) $ free1 ! $ move ! (30 ∷ 31 ∷ []) $ free1 ! $ move ! (28 ∷ 29 ∷ []) $ free1 ! $
-      move ! (26 ∷ 27 ∷ []) $ free1 ! $ move ! (24 ∷ 25 ∷ []) $ free1 ! $ move ! (22 ∷ 23 ∷ []) $ free1 ! $ move ! (20 ∷ 21 ∷ []) $ free1 ! $
-      move ! (18 ∷ 19 ∷ []) $ free1 ! $ move ! (16 ∷ 17 ∷ []) $ free1 ! $ move ! (14 ∷ 15 ∷ []) $ free1 ! $ free0 ! $
+      forget ! 30 refl $ forget ! 32 refl $ forget ! 34 refl $ forget ! 36 refl $ forget ! 38 refl $ forget ! 40 refl $ forget ! 42 refl $ forget ! 44
+      refl $ forget ! 46 refl $ forget ! 48 refl $ forget ! 50 refl $ forget ! 52 refl $ forget ! 54 refl $
+      move ! (54 ∷ 55 ∷ []) $ free1 ! $ move ! (52 ∷ 53 ∷ []) $ free1 ! $ move ! (50 ∷ 51 ∷ []) $ free1 ! $ move ! (48 ∷ 49 ∷ []) $ free1 ! $ move ! (46 ∷ 47
+      ∷ []) $ free1 ! $ move ! (44 ∷ 45 ∷ []) $ free1 ! $ move ! (42 ∷ 43 ∷ []) $ free1 ! $ move ! (40 ∷ 41 ∷ []) $ free1 ! $ move ! (38 ∷ 39 ∷ []) $
+      free1 ! $ move ! (36 ∷ 37 ∷ []) $ free1 ! $ move ! (34 ∷ 35 ∷ []) $ free1 ! $ move ! (32 ∷ 33 ∷ []) $ free1 ! $ move ! (30 ∷ 31 ∷ []) $ free1 ! $
+      move ! (28 ∷ 29 ∷ []) $ free1 ! $ move ! (26 ∷ 27 ∷ []) $ free1 ! $ move ! (24 ∷ 25 ∷ []) $ free1 ! $ move ! (22 ∷ 23 ∷ []) $ free1 ! $ move ! (20
+      ∷ 21 ∷ []) $ free1 ! $ move ! (18 ∷ 19 ∷ []) $ free1 ! $ move ! (16 ∷ 17 ∷ []) $ free1 ! $ move ! (14 ∷ 15 ∷ []) $ free1 ! $ free0 ! $
       keep ! (0 ∷ 1 ∷ 2 ∷ 3 ∷ 4 ∷ 5 ∷ 6 ∷ 7 ∷ 8 ∷ 9 ∷ 10 ∷ 11 ∷ 12 ∷ 13 ∷ []) $
-      by ! (exits (ws .1 .1 .0) (ws .1 .1 .1 .1 .0) (ws .1 .1 .1 .1 .1 .0) r e₄ e₅ f made))))))))))))))))))))))))))))))))))
+      by ! (exits (ws .1 .1 .1 .1 .0) (ws .1 .1 .1 .1 .1 .0) r e₄ e₅ er ev eu made))))))))))))))))))))))))))))))))
     where
       fm : FmC 𝓤 H (W .laws) (𝓣 .C)
       fm = fmOf 𝓤 H (W .laws) 𝓣
@@ -442,7 +432,7 @@ module _ {M : Type 1} (𝓤 : URA M) (H : Heap 𝓤) (A : Atoms 𝓤) (W : Given
       spot = spot-fits place (length ys) in-states (room₆ .1)
 
 module _ {M : Type 1} (𝓤 : URA M) (H : Heap 𝓤) (A : Atoms 𝓤) (W : Given 𝓤 H A) (mem : Memory → SProp 𝓤) (run : Routine → Fun 𝓤) where
-  take-turn-walks : (𝓣 : Tables 𝓤 H) → Triple 𝓤 (𝓣 .C #answering·step) (StepOf 𝓤 H A mem run)
+  take-turn-walks : (𝓣 : Tables 𝓤 H) → Triple 𝓤 (𝓣 .C #turning·turn) (TurnOf 𝓤 H A mem run)
       → Walks 𝓤 H A take-turn.ended stayed (WpFn 𝓤 H (𝓣 .C) (𝓣 .Λ) code.function) (take-turn.clauses 𝓤 H A mem run)
   take-turn-walks 𝓣 known = walked 𝓤 H A take-turn.ended stayed (take-turn.clauses 𝓤 H A mem run) (WpFn 𝓤 H (𝓣 .C) (𝓣 .Λ) code.function)
       (λ κs. (
@@ -475,7 +465,7 @@ module _ {M : Type 1} (𝓤 : URA M) (H : Heap 𝓤) (A : Atoms 𝓤) (W : Given
         (
           shr-slice-tells (named 1) (κs .1 .0) u8,
           (
-            mut-slice-tells (named 2) (κs .1 .1 .0) u16,
+            shr-slice-tells (named 2) (κs .1 .1 .0) u16,
             (
               shr-slice-tells (named 3) (κs .1 .1 .1 .0) u64,
               (
@@ -506,7 +496,7 @@ module _ {M : Type 1} (𝓤 : URA M) (H : Heap 𝓤) (A : Atoms 𝓤) (W : Given
       (are .1 .1 .1 .1 .1 .1 .0 .0 .1) can 𝓣 known))
 
 take-turn-meets : {M : Type 1} (𝓤 : URA M) (H : Heap 𝓤) (A : Atoms 𝓤) → Given 𝓤 H A → (mem : Memory → SProp 𝓤) (run : Routine → Fun 𝓤) (𝓣 : Tables 𝓤 H)
-    → Triple 𝓤 (𝓣 .C #answering·step) (StepOf 𝓤 H A mem run)
+    → Triple 𝓤 (𝓣 .C #turning·turn) (TurnOf 𝓤 H A mem run)
     → Meets 𝓤 H A take-turn.signature (WpFn 𝓤 H (𝓣 .C) (𝓣 .Λ) code.function) (take-turn.spec 𝓤 H A mem run)
 take-turn-meets 𝓤 H A W mem run 𝓣 known =
     walk-meets 𝓤 H A take-turn.ended stayed W (
@@ -514,7 +504,7 @@ take-turn-meets 𝓤 H A W mem run 𝓣 known =
       (
         goes-none-slice 𝓤 H A W 7 (1 ∷ []) tt (plain (λ _. u8)) yes,
         (
-          goes-slice 𝓤 H A W 7 2 tt (plain (λ _. u16)),
+          goes-none-slice 𝓤 H A W 7 (2 ∷ []) tt (plain (λ _. u16)) yes,
           (
             goes-none-slice 𝓤 H A W 7 (3 ∷ []) tt (plain (λ _. u64)) yes,
             (
@@ -545,4 +535,4 @@ take-turn-spec 𝓤 H 𝓜 𝓖 𝓡 =
     entered 𝓤 H (tripleOf 𝓤 H (𝓖 .A) take-turn.signature (take-turn.spec 𝓤 H (𝓖 .A) (𝓜 .mem) (𝓡 .run)))
     (tables 𝓤 H 𝓜 𝓡 code.env .C) (tables 𝓤 H 𝓜 𝓡 code.env .Λ) #engine·take-turn code.function (code.unfolded 𝓤 H 𝓜 𝓡)
     (take-turn-meets 𝓤 H (𝓖 .A) (givenOf 𝓤 H 𝓜 𝓖) (𝓜 .mem) (𝓡 .run) (tablesOf 𝓤 H 𝓜 (tables 𝓤 H 𝓜 𝓡 code.env))
-    (cited 𝓤 H (StepOf 𝓤 H (𝓖 .A) (𝓜 .mem) (𝓡 .run)) 𝓜 𝓡 code.env #answering·step step-def.routine code.calls-answering·step (step-thm.met 𝓤 H 𝓜 𝓖 𝓡)))
+    (cited 𝓤 H (TurnOf 𝓤 H (𝓖 .A) (𝓜 .mem) (𝓡 .run)) 𝓜 𝓡 code.env #turning·turn turn-def.routine code.calls-turning·turn (turn-thm.met 𝓤 H 𝓜 𝓖 𝓡)))

@@ -30,9 +30,9 @@ prepared : (start : tie.Start) → Prepared (start .args .case .now) (start .arg
 prepared start =
     let a = start .args in
     record {
-      clean = sound (a .case .now) (a .students) (a .workshops) (start .pre .0);
-      tabled = start .pre .1 .0;
-      from = omega (arith, start .pre .0 .students, start .pre .0 .workshops);
+      clean = sound (a .case .now) (a .students) (a .workshops) (start .pre .clean);
+      tabled = start .pre .tabled;
+      from = omega (arith, start .pre .clean .students, start .pre .clean .workshops);
     }
 
 -- the book has whole records
@@ -40,7 +40,8 @@ whole : (d : tie.Else2) → length (entry d .args .book .now) % 8 ≡ 0
 whole d = sym (low-three _) ∙ d .before .before .before .before .before .if1 .left
 
 -- causes 8 to 10 find nothing when the fill goes through
-fine : (d : tie.Else2) → firstBad (badAny (rows (entry d .args .case .now)) (entries (entry d .args .book .now))) (entryCount (entry d .args .book .now)) ≡ none
+fine : (d : tie.Else2) → firstBad (badAny (rows (entry d .args .case .now)) (entries (entry d .args .book .now))) (entryCount (entry d .args .book .now)) ≡
+    none
 fine d =
     let a = entry d .args in
     let fill = d .before .before .before .fill in
@@ -70,7 +71,7 @@ indexed d =
       paired = all-paired (a .case .now) (a .book .now) (fine d);
       fresh = all-fresh (a .case .now) (a .book .now) (fine d);
       made = made d ∙ ap (λ k. lentIndex (a .case .now) (a .book .now) (entryCount (a .book .now)) k) (sym (as-long d));
-      room = omega (arith, start .pre .1 .1, as-long d);
+      room = omega (arith, start .pre .pairs, start .pre .room, as-long d);
       from = prepared start .from;
     }
 
@@ -86,18 +87,18 @@ returns c =
     let a = start .args in
     let part : length (a .book .now) % 8 ≡ 0 → ⊥ = λ q. c .before .if1 .taken (low-three _ ∙ q) in
     refused-with (a .case .now) (a .book .now) _ 7 0 _ _ _
-    (book-7 (a .case .now) (a .book .now) (whole-some (length (a .book .now) % 8) part)) (c .refused .ensures) (start .pre .1 .1 .2)
+    (book-7 (a .case .now) (a .book .now) (whole-some (length (a .book .now) % 8) part)) (c .refused .ensures) (start .pre .blank)
 
 add-from : tie.Need-add-from
 add-from c =
     let start = c .before .before .before .before .before .before in
     let a = start .args in
-    omega (arith, few (a .case .now) (a .students) (a .workshops) (start .pre .0))
+    omega (arith, few (a .case .now) (a .students) (a .workshops) (start .pre .clean))
 
 fill-requires : tie.Need-fill-requires
 fill-requires c κs =
     let start = c .before .before .before .before .before .before .before in
-    (prepared start, (omega (arith, start .pre .1 .1), start .pre .1 .1 .2))
+    (prepared start, (omega (arith, start .pre .pairs, start .pre .room), start .pre .blank))
 
 book-fault-requires : tie.Need-book-fault-requires
 book-fault-requires c κs =
@@ -107,7 +108,7 @@ book-fault-requires c κs =
     let found = some-by (badAny (rows (a .case .now)) (entries (a .book .now))) (entryCount (a .book .now)) (fill .result) (fill .ensures .0)
     (omega (arith, c .before .if2 .taken, c .before .before .before .before .before .before .before .entry-count .ensures .1)) in
     let multiple = sym (low-three (length (a .book .now))) ∙ c .before .before .before .before .before .before .if1 .left in
-    (prepared start, ((multiple, omega (arith, start .pre .1 .1, fill .kept .1 .1 .1 .1 .0)), found))
+    (prepared start, ((multiple, omega (arith, start .pre .pairs, start .pre .room, fill .kept .1 .1 .1 .1 .0)), found))
 
 same-length : tie.Need-same-length
 same-length c = search needs
@@ -122,7 +123,17 @@ returns-2 c =
     )
 
 first-tie-requires : tie.Need-first-tie-requires
-first-tie-requires c κs = let start = entry (c .before) in (indexed (c .before), (start .pre .1 .0, (start .pre .0 .students, start .pre .0 .workshops)))
+first-tie-requires c κs = let start = entry (c .before) in (
+  indexed (c .before),
+  (
+    start .pre .tabled,
+    (
+      start .pre .clean .students,
+      start .pre .clean
+          .workshops,
+    ),
+  ),
+)
 
 clear-requires : tie.Need-clear-requires
 clear-requires c κs = search needs
@@ -160,8 +171,8 @@ returns-4 c =
     let o = book-clean (a .case .now) (a .book .now) (whole-none _ (whole d))
     (all-paired (a .case .now) (a .book .now) (fine d)) (all-scored (a .case .now) (a .book .now) (fine d))
     (all-fresh (a .case .now) (a .book .now) (fine d)) none-tie in (
-      sym (clean-as (a .case .now) _ (a .students) (a .workshops) (a .pairs) o (start .pre .0 .students) (start .pre .0 .workshops)
-          (start .pre .1 .1 .0)),
+      sym (clean-as (a .case .now) _ (a .students) (a .workshops) (a .pairs) o (start .pre .clean .students) (start .pre .clean .workshops)
+          (start .pre .pairs)),
       rw o (made d),
     )
 

@@ -6,11 +6,6 @@ use Rattle.program.proofs.Files.{case-unread, book-unread, both-read}
 use borrow.Author.Needs.{needs}
 use Rattle.program.proofs.put_program.Statement.{statement}
 use Rattle.program.proofs.put_program.Tie as tie
-use Rattle.program.proofs.put_program.Reads as reads
-use Rattle.program.proofs.put_program.Lts as lts
-use Rattle.printing.proofs.put_unread.Reads as put-unread-reads
-use Rattle.program.proofs.put_text.Reads as put-text-reads
-use Rattle.program.proofs.size.Reads as size-reads
 
 size-requires : tie.Need-size-requires
 size-requires c κs = search needs

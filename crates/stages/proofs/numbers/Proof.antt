@@ -1,6 +1,6 @@
 -- `stages::numbers` meets its contract, case by case.
 use borrow.Author.Needs.{needs}
-use Rattle.api.specs.Stages.{stagesReportOf}
+use Rattle.stages.specs.Answered.{stagesReportOf}
 use Rattle.stages.proofs.numbers.Statement.{statement}
 use Rattle.stages.proofs.numbers.Tie as tie
 

@@ -5,7 +5,7 @@ use native.Mathlib.Omega.{arith}
 use lib.ListN.{length}
 use Rattle.format.specs.Engine.{marketIn}
 use Rattle.tables.proofs.Laws.{blank}
-use Rattle.format.proofs.Stages.{out-case, out-room}
+use Rattle.stages.proofs.Promises.{out-case, out-room}
 use Rattle.case_tests.specs.Checked.{caseRefusal}
 use Rattle.case_tests.proofs.Cases.{as-refused, as-clean}
 use Rattle.stages.proofs.Working.{ready, answered, refused}
@@ -30,9 +30,6 @@ check-case-requires c κs = blank
 
 enum-known-cause : tie.Need-enum-known-cause
 enum-known-cause c = search needs
-
-cast-t12 : tie.Need-cast-t12
-cast-t12 c = search needs
 
 enum-known-students : tie.Need-enum-known-students
 enum-known-students c = search needs
@@ -78,7 +75,6 @@ stages-spec =
     slice-aggregate-check-case
     check-case-requires
     enum-known-cause
-    cast-t12
     enum-known-students
     returns
     slice-aggregate-work-out
