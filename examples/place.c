@@ -75,7 +75,7 @@ int main(void)
     free(places);
     free(book_bytes);
     free(case_bytes);
-    if (fflush(stdout) != 0)
+    if (fflush(stdout) != 0 || ferror(stdout))
         return 2;
     return answer.kind == LGS_REFUSED;
 }

@@ -1,5 +1,5 @@
-/* The placing engine and its parts for programs in C, C++, Rust, Python and others. tools/build makes the library, target/lib/liblgs.a to link or
- * target/lib/liblgs.so to load; docs/FORMAT.md has the case and the book byte by byte; examples/ has complete callers.
+/* The placing engine and its parts for programs in C (C99 or later), C++, Rust, Python and others. tools/build makes the library, target/lib/liblgs.a to
+ * link or target/lib/liblgs.so to load; docs/FORMAT.md has the case and the book byte by byte; examples/ has complete callers.
  *
  *   lgs_place     a case and a book of visit results: the next visit, or the finished placement
  *   lgs_stages    a case: each student's stage
@@ -115,10 +115,11 @@ static inline lgs_lengths lgs_needs(const uint8_t *case_bytes, size_t case_lengt
     size_t students = 0, seats = 0, pairs = 0;
     for (size_t i = 0; i < case_length / 16; i++) {
         const uint8_t *record = case_bytes + 16 * i;
+        size_t low = record[4], high = record[5];
         if (record[0] == 1 && students < LGS_MOST_PLACES)
             students += 1;
         if (record[0] == 2)
-            seats += (size_t)record[4] + 256 * (size_t)record[5];
+            seats += low + 256 * high;
         if (record[0] == 3)
             pairs += 1;
         if (seats > LGS_MOST_SEATS)

@@ -74,8 +74,8 @@ static void only_read(void *bytes, size_t length)
         exit(2);
 }
 
-/* The functions as the machine calls them: the address of the answer's place goes in first, and comes back. So the place is ours, and full of 0xA5: a
- * field that is written only in part shows, and so does what is written behind the last one. */
+/* The functions as the machine calls them on x86-64: the address of the answer's place goes in first, and comes back. So the place is ours, and full of
+ * 0xA5: a field that is written only in part shows, and so does what is written behind the last one. */
 lgs_report *place_into(lgs_report *, const uint8_t *, size_t, const uint8_t *, size_t, uint16_t *, size_t, uint16_t *, size_t,
                        uint16_t *, size_t, uint16_t *, size_t, lgs_student_state *, size_t) __asm__("lgs_place");
 lgs_part_report *stages_into(lgs_part_report *, const uint8_t *, size_t, uint16_t *, size_t) __asm__("lgs_stages");

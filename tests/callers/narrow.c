@@ -1,5 +1,6 @@
 /* lgs_place and lgs_stages with one field of the answer half as wide, to show that calls.c notices it: of the field that the variable NARROW of the
- * environment numbers, as in place:3 or stages:0, only the lower half is written. The library's own functions are here whole_place and whole_stages. */
+ * environment numbers, as in place:3 or stages:0, only the lower half is written. The library's own functions are here whole_place and whole_stages.
+ * As in calls.c, the address of the answer goes in first, x86-64's way. */
 #include "lgs.h"
 
 #include <stdlib.h>

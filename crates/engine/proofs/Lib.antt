@@ -5,5 +5,4 @@ mod Blank
 mod Going
 mod Running
 mod Locals
-mod Clearing
 mod Testing

@@ -6,3 +6,4 @@ pub mod Again
 pub mod Local
 pub mod Consts
 pub mod Spell
+pub mod Zero

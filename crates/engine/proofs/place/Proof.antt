@@ -46,6 +46,7 @@ use denote.Triple.Statement.{Triple}
 use denote.Triple.Table.{entered, cited}
 use denote.Triple.Walked.{says, Stays, stay-slice, stay-none-slice, walkOf, goes-slice, goes-none-slice, Walks, ends-at, walked, walk-meets}
 use Rattle.walks.proofs.Slices.{_⸴_, _⸴′_, Slice, val-of, word, words-ty, bytes-ty, ptr-ty}
+use Rattle.walks.proofs.Zero.{ZeroOf, calls-zero}
 use Rattle.walks.proofs.Spell.{_▸_, val, sets, lands-at, rooms, holds, slice-fits, had, shr, exc, life, on-loan, now-at, kept, lends, backs}
 use Rattle.walks.proofs.Spell.{lends-shr, backs-shr}
 use Rattle.walks.proofs.Consts.{big-lit}
@@ -71,7 +72,6 @@ use Rattle.answering.proofs.test.Symbol.{name as #answering·test}
 use Rattle.answering.proofs.test.Met as test-thm
 use Rattle.engine.proofs.Blank.{entries, zero-table, table-room}
 use Rattle.engine.proofs.Locals.{states-ty, states-ptr, read-ptr, table-ty, table-mut, table-imm, longs-mut, longs-imm}
-use Rattle.engine.proofs.Clearing.{ClearOf, WipeOf, calls-clear, calls-wipe}
 use Rattle.engine.proofs.Testing.{TestOf, table-at, calls-test}
 use Rattle.engine.proofs.Running.{RunOf, calls-run}
 use Rattle.engine.proofs.clear_states.Symbol as clear-def
@@ -205,9 +205,10 @@ module _ {M : Type 1} (𝓤 : URA M) (H : Heap 𝓤) (A : Atoms 𝓤) (W : Given
 
   module _ (room₀ : Room u8 (length case)) (room₁ : Room u8 (length book)) (room₂ : Room u16 (length places)) (room₃ : Room u16 (length visits))
       (room₄ : Room u16 (length seats)) (room₅ : Room u16 (length index)) (room₆ : Room T.the-row (length ys)) where
-    module _ (C : Calls 𝓤 H) (Λ : Loops 𝓤 H) (fm : FmC 𝓤 H (W .laws) C) (known-clear : Triple 𝓤 (C #engine·clear-states) (ClearOf 𝓤 H A mem run)) (known-test
+    module _ (C : Calls 𝓤 H) (Λ : Loops 𝓤 H) (fm : FmC 𝓤 H (W .laws) C) (known-clear : Triple 𝓤 (C #engine·clear-states) (ZeroOf T.the-row zeroState 𝓤 H A))
+        (known-test
         : Triple 𝓤 (C #answering·test) (TestOf 𝓤 H A mem run)) (known-run : Triple 𝓤 (C #engine·run) (RunOf 𝓤 H A mem run)) (known-wipe : Triple 𝓤 (C
-        #records·clear) (WipeOf 𝓤 H A mem run))
+        #records·clear) (ZeroOf u16 0 𝓤 H A))
         (l₀ l₁ l₂ l₃ l₄ l₅ l₆ l₇ l₈ l₉ l₁₀ l₁₁ l₁₂ l₁₃ l₁₄ l₁₅ l₁₆ l₁₇ l₁₈ l₁₉ l₂₀ l₂₁ l₂₂ l₂₃ l₂₄ l₂₅ l₂₆ l₂₇ l₂₈ l₂₉ l₃₀ l₃₁ l₃₂ l₃₃ l₃₄ l₃₅ l₃₆ l₃₇ l₃₈
         l₃₉ l₄₀ l₄₁ l₄₂ : ℕ) where
       -- the locals before the table, between `checked` and the arms' value, and after that
@@ -333,26 +334,21 @@ module _ {M : Type 1} (𝓤 : URA M) (H : Heap 𝓤) (A : Atoms 𝓤) (W : Given
                     },
                   ) $
                   sets ! (addr ! (from ! (fld ! refl (hop ! (look-in ! 86 (sub ! 0 refl (whole !))) (stop !))))) 43 refl (tt, tt) $
-                  sets ! (agg ! (val ! 43 refl ▸ load ! (from ! (fld ! refl (stop !))) (look-in ! 86 (sub ! 1 refl (whole !))) ▸ no-more !)) 41 refl
-                  (slice-fits
+                  sets ! (agg ! (val ! 43 refl ▸ load ! (from ! (fld ! refl (stop !))) (look-in ! 86 (sub ! 1 refl (whole !))) ▸ no-more !)) 41 refl (slice-fits
                   (room₅ .0)) $
                   sets ! (addr ! (from ! (stop !))) 39 refl (tt, tt) $
                   sets ! (agg ! (val ! 39 refl ▸ big-lit ! (record { fits = lit< tt }) ▸ no-more !)) 37 refl (slice-fits (lit< tt)) $
                   sets ! (addr ! (from ! (fld ! refl (hop ! (look-in ! 92 (sub ! 0 refl (whole !))) (stop !))))) 35 refl (tt, tt) $
-                  sets ! (agg ! (val ! 35 refl ▸ load ! (from ! (fld ! refl (stop !))) (look-in ! 92 (sub ! 1 refl (whole !))) ▸ no-more !)) 33 refl
-                  (slice-fits
+                  sets ! (agg ! (val ! 35 refl ▸ load ! (from ! (fld ! refl (stop !))) (look-in ! 92 (sub ! 1 refl (whole !))) ▸ no-more !)) 33 refl (slice-fits
                   (room₂ .0)) $
                   sets ! (addr ! (from ! (fld ! refl (hop ! (look-in ! 90 (sub ! 0 refl (whole !))) (stop !))))) 31 refl (tt, tt) $
-                  sets ! (agg ! (val ! 31 refl ▸ load ! (from ! (fld ! refl (stop !))) (look-in ! 90 (sub ! 1 refl (whole !))) ▸ no-more !)) 29 refl
-                  (slice-fits
+                  sets ! (agg ! (val ! 31 refl ▸ load ! (from ! (fld ! refl (stop !))) (look-in ! 90 (sub ! 1 refl (whole !))) ▸ no-more !)) 29 refl (slice-fits
                   (room₃ .0)) $
                   sets ! (addr ! (from ! (fld ! refl (hop ! (look-in ! 88 (sub ! 0 refl (whole !))) (stop !))))) 27 refl (tt, tt) $
-                  sets ! (agg ! (val ! 27 refl ▸ load ! (from ! (fld ! refl (stop !))) (look-in ! 88 (sub ! 1 refl (whole !))) ▸ no-more !)) 25 refl
-                  (slice-fits
+                  sets ! (agg ! (val ! 27 refl ▸ load ! (from ! (fld ! refl (stop !))) (look-in ! 88 (sub ! 1 refl (whole !))) ▸ no-more !)) 25 refl (slice-fits
                   (room₄ .0)) $
                   sets ! (addr ! (from ! (fld ! refl (hop ! (look-in ! 84 (sub ! 0 refl (whole !))) (stop !))))) 23 refl (tt, tt) $
-                  sets ! (agg ! (val ! 23 refl ▸ load ! (from ! (fld ! refl (stop !))) (look-in ! 84 (sub ! 1 refl (whole !))) ▸ no-more !)) 21 refl
-                  (slice-fits
+                  sets ! (agg ! (val ! 23 refl ▸ load ! (from ! (fld ! refl (stop !))) (look-in ! 84 (sub ! 1 refl (whole !))) ▸ no-more !)) 21 refl (slice-fits
                   (room₆ .0)) $
                   -- the states are lent again, and the index and the table are lent to be read
                   lends ! tt T.the-row (named 6) (named 7) (now-at s₆ zeros) zeros-long (λ a₇.
@@ -384,24 +380,21 @@ module _ {M : Type 1} (𝓤 : URA M) (H : Heap 𝓤) (A : Atoms 𝓤) (W : Given
                   shared-back ! tt u64 l₁₁ νₜ (g .table₁) $
                   move ! (3 ∷ 4 ∷ 1 ∷ 2 ∷ 5 ∷ 6 ∷ 7 ∷ 8 ∷ 9 ∷ 10 ∷ 11 ∷ 12 ∷ 13 ∷ 14 ∷ 0 ∷ []) $
                   lands-at ! 65 refl (EL.lawful N.the-type N′.the-laws 𝓤 H A W tt .typed a _ is .0) $
-                  forget ! 21 refl $ forget ! 23 refl $ forget ! 25 refl $ forget ! 27 refl $ forget ! 29 refl $ forget ! 31 refl $ forget ! 33 refl $ forget
-                  ! 35
+                  forget ! 21 refl $ forget ! 23 refl $ forget ! 25 refl $ forget ! 27 refl $ forget ! 29 refl $ forget ! 31 refl $ forget ! 33 refl $ forget !
+                  35
                   refl $ forget ! 37 refl $ forget ! 39 refl $ forget ! 41 refl $ forget ! 43 refl $ forget ! 67 refl $ forget ! 69 refl $ forget ! 75 refl $
                   -- the index is cleared
                   sets ! (addr ! (from ! (fld ! refl (hop ! (look-in ! 86 (sub ! 0 refl (whole !))) (stop !))))) 17 refl (tt, tt) $
-                  sets ! (agg ! (val ! 17 refl ▸ load ! (from ! (fld ! refl (stop !))) (look-in ! 86 (sub ! 1 refl (whole !))) ▸ no-more !)) 15 refl
-                  (slice-fits
+                  sets ! (agg ! (val ! 17 refl ▸ load ! (from ! (fld ! refl (stop !))) (look-in ! 86 (sub ! 1 refl (whole !))) ▸ no-more !)) 15 refl (slice-fits
                   (room₅ .0)) $
                   move ! (2 ∷ 3 ∷ []) $
-                  calls-wipe (now-at s₅ (g .index₁)) (named 5) ! mem run fm known-wipe room₅ (g .long₅) (λ a₅. (val ! 15 refl ▸ no-more !)) $
+                  calls-zero u16 0 (now-at s₅ (g .index₁)) (named 5) ! fm known-wipe room₅ (g .long₅) (λ a₅. (val ! 15 refl ▸ no-more !)) $
                   move ! (2 ∷ 3 ∷ 0 ∷ 1 ∷ 4 ∷ 5 ∷ 6 ∷ 7 ∷ 8 ∷ 9 ∷ 10 ∷ 11 ∷ 12 ∷ 13 ∷ 14 ∷ []) $
                   lands-at ! 19 refl (tt, tt) $
-                  assigns-last ! (of-opd ! (val ! 65 refl)) (from ! (stop !)) (init ! 45 refl (EL.lawful N.the-type N′.the-laws 𝓤 H A W tt .typed a _ is .0))
-                  $
+                  assigns-last ! (of-opd ! (val ! 65 refl)) (from ! (stop !)) (init ! 45 refl (EL.lawful N.the-type N′.the-laws 𝓤 H A W tt .typed a _ is .0)) $
                   forget ! 15 refl $ forget ! 17 refl $ forget ! 19 refl $ forget ! 65 refl $
                   exec ! C Λ En code-mir.t-16 (atRet En Post) $
-                  leaving pl vs us (replicate (length (g .index₁)) 0) (g .table₁) a is (g .longₜ) e₂ e₃ e₄ (length-replicate (length (g .index₁)) 0 ∙ g
-                  .long₅)
+                  leaving pl vs us (replicate (length (g .index₁)) 0) (g .table₁) a is (g .longₜ) e₂ e₃ e₄ (length-replicate (length (g .index₁)) 0 ∙ g .long₅)
                   (answered-ran case book places visits seats index ys (Passes n m k) (g .seats₁) (g .index₁) (g .table₁) (g .tested) n m k refl
                   a pl vs us (replicate (length (g .index₁)) 0) (g .long₄) (f .0) (ap zero-words (g .long₅)))))))),
               tt,
@@ -460,14 +453,15 @@ module _ {M : Type 1} (𝓤 : URA M) (H : Heap 𝓤) (A : Atoms 𝓤) (W : Given
           sets ! (addr ! (from ! (fld ! refl (hop ! (look-in ! 84 (sub ! 0 refl (whole !))) (stop !))))) 61 refl (tt, tt) $
           sets ! (agg ! (val ! 61 refl ▸ load ! (from ! (fld ! refl (stop !))) (look-in ! 84 (sub ! 1 refl (whole !))) ▸ no-more !)) 59 refl (slice-fits
           (room₆ .0)) $
-          calls-clear s₆ (named 6) ! mem run fm known-clear room₆ refl (λ a₆. (val ! 59 refl ▸ no-more !)) $
+          calls-zero T.the-row zeroState s₆ (named 6) ! fm known-clear room₆ refl (λ a₆. (val ! 59 refl ▸ no-more !)) $
           lands-at ! 63 refl (tt, tt) $
           forget ! 59 refl $ forget ! 61 refl $ forget ! 63 refl $
           testing
 
-    module _ (C : Calls 𝓤 H) (Λ : Loops 𝓤 H) (fm : FmC 𝓤 H (W .laws) C) (known-clear : Triple 𝓤 (C #engine·clear-states) (ClearOf 𝓤 H A mem run)) (known-test
+    module _ (C : Calls 𝓤 H) (Λ : Loops 𝓤 H) (fm : FmC 𝓤 H (W .laws) C) (known-clear : Triple 𝓤 (C #engine·clear-states) (ZeroOf T.the-row zeroState 𝓤 H A))
+        (known-test
         : Triple 𝓤 (C #answering·test) (TestOf 𝓤 H A mem run)) (known-run : Triple 𝓤 (C #engine·run) (RunOf 𝓤 H A mem run)) (known-wipe : Triple 𝓤 (C
-        #records·clear) (WipeOf 𝓤 H A mem run)) where
+        #records·clear) (ZeroOf u16 0 𝓤 H A)) where
       walk : ent 𝓤 (onEntry 𝓤 H A place.signature κs qs a at) (WpFn 𝓤 H C Λ code.function (val-of s₀ ∷ val-of s₁ ∷ val-of s₂ ∷ val-of s₃ ∷ val-of s₄ ∷ val-of
           s₅ ∷ val-of s₆ ∷ []) Post)
       walk =
@@ -495,10 +489,10 @@ module _ {M : Type 1} (𝓤 : URA M) (H : Heap 𝓤) (A : Atoms 𝓤) (W : Given
           l₂₄ l₂₅ l₂₆ l₂₇ l₂₈ l₂₉ l₃₀ l₃₁ l₃₂ l₃₃ l₃₄ l₃₅ l₃₆ l₃₇ l₃₈ l₃₉ l₄₀ l₄₁ l₄₂)))))))))))))))))))))))))))))))))))))))))))
 
 module _ {M : Type 1} (𝓤 : URA M) (H : Heap 𝓤) (A : Atoms 𝓤) (W : Given 𝓤 H A) (mem : Memory → SProp 𝓤) (run : Routine → Fun 𝓤) where
-  place-walks : (C : Calls 𝓤 H) (Λ : Loops 𝓤 H) → FmC 𝓤 H (W .laws) C → Triple 𝓤 (C #engine·clear-states) (ClearOf 𝓤 H A mem run)
+  place-walks : (C : Calls 𝓤 H) (Λ : Loops 𝓤 H) → FmC 𝓤 H (W .laws) C → Triple 𝓤 (C #engine·clear-states) (ZeroOf T.the-row zeroState 𝓤 H A)
       → Triple 𝓤 (C #answering·test) (TestOf 𝓤 H A mem run)
       → Triple 𝓤 (C #engine·run) (RunOf 𝓤 H A mem run)
-      → Triple 𝓤 (C #records·clear) (WipeOf 𝓤 H A mem run)
+      → Triple 𝓤 (C #records·clear) (ZeroOf u16 0 𝓤 H A)
       → Walks 𝓤 H A place.ended stayed (WpFn 𝓤 H C Λ code.function) (place.clauses 𝓤 H A mem run)
   place-walks C Λ fm known-clear known-test known-run known-wipe = walked 𝓤 H A place.ended stayed (place.clauses 𝓤 H A mem run) (WpFn 𝓤 H C Λ code.function)
       (λ κs. (slice-vals ⸴ slice-vals ⸴ slice-vals ⸴ slice-vals ⸴ slice-vals ⸴ slice-vals ⸴ slice-vals ⸴ tt))
@@ -510,10 +504,10 @@ module _ {M : Type 1} (𝓤 : URA M) (H : Heap 𝓤) (A : Atoms 𝓤) (W : Given
       known-wipe))
 
 place-meets : {M : Type 1} (𝓤 : URA M) (H : Heap 𝓤) (A : Atoms 𝓤) → Given 𝓤 H A → (mem : Memory → SProp 𝓤) (run : Routine → Fun 𝓤) (𝓣 : Tables 𝓤 H)
-    → Triple 𝓤 (𝓣 .C #engine·clear-states) (ClearOf 𝓤 H A mem run)
+    → Triple 𝓤 (𝓣 .C #engine·clear-states) (ZeroOf T.the-row zeroState 𝓤 H A)
     → Triple 𝓤 (𝓣 .C #answering·test) (TestOf 𝓤 H A mem run)
     → Triple 𝓤 (𝓣 .C #engine·run) (RunOf 𝓤 H A mem run)
-    → Triple 𝓤 (𝓣 .C #records·clear) (WipeOf 𝓤 H A mem run)
+    → Triple 𝓤 (𝓣 .C #records·clear) (ZeroOf u16 0 𝓤 H A)
     → Meets 𝓤 H A place.signature (WpFn 𝓤 H (𝓣 .C) (𝓣 .Λ) code.function) (place.spec 𝓤 H A mem run)
 place-meets 𝓤 H A W mem run 𝓣 known-clear known-test known-run known-wipe =
     walk-meets 𝓤 H A place.ended stayed W ((goes-none-slice 𝓤 H A W 7 (0 ∷ []) tt (plain (λ _. u8)) yes) ⸴′ (goes-none-slice 𝓤 H A W 7 (1 ∷ []) tt (plain (λ
@@ -528,8 +522,8 @@ place-spec 𝓤 H 𝓜 𝓖 𝓡 =
     entered 𝓤 H (tripleOf 𝓤 H (𝓖 .A) place.signature (place.spec 𝓤 H (𝓖 .A) (𝓜 .mem) (𝓡 .run)))
     (tables 𝓤 H 𝓜 𝓡 code.env .C) (tables 𝓤 H 𝓜 𝓡 code.env .Λ) #engine·place code.function (code.unfolded 𝓤 H 𝓜 𝓡)
     (place-meets 𝓤 H (𝓖 .A) (givenOf 𝓤 H 𝓜 𝓖) (𝓜 .mem) (𝓡 .run) (tablesOf 𝓤 H 𝓜 (tables 𝓤 H 𝓜 𝓡 code.env))
-    (cited 𝓤 H (ClearOf 𝓤 H (𝓖 .A) (𝓜 .mem) (𝓡 .run)) 𝓜 𝓡 code.env #engine·clear-states clear-def.routine code.calls-engine·clear-states (clear-thm.met 𝓤 H 𝓜
+    (cited 𝓤 H (ZeroOf T.the-row zeroState 𝓤 H (𝓖 .A)) 𝓜 𝓡 code.env #engine·clear-states clear-def.routine code.calls-engine·clear-states (clear-thm.met 𝓤 H 𝓜
     𝓖 𝓡))
     (cited 𝓤 H (TestOf 𝓤 H (𝓖 .A) (𝓜 .mem) (𝓡 .run)) 𝓜 𝓡 code.env #answering·test test-def.routine code.calls-answering·test (test-thm.met 𝓤 H 𝓜 𝓖 𝓡))
     (cited 𝓤 H (RunOf 𝓤 H (𝓖 .A) (𝓜 .mem) (𝓡 .run)) 𝓜 𝓡 code.env #engine·run run-def.routine code.calls-engine·run (run-thm.met 𝓤 H 𝓜 𝓖 𝓡))
-    (cited 𝓤 H (WipeOf 𝓤 H (𝓖 .A) (𝓜 .mem) (𝓡 .run)) 𝓜 𝓡 code.env #records·clear wipe-def.routine code.calls-records·clear (wipe-thm.met 𝓤 H 𝓜 𝓖 𝓡)))
+    (cited 𝓤 H (ZeroOf u16 0 𝓤 H (𝓖 .A)) 𝓜 𝓡 code.env #records·clear wipe-def.routine code.calls-records·clear (wipe-thm.met 𝓤 H 𝓜 𝓖 𝓡)))

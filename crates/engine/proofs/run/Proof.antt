@@ -45,6 +45,7 @@ use denote.Triple.Walked.{says, needs, Stays, stay-slice, stay-none-slice, stay-
 use denote.Triple.Walked.{walked, walk-meets}
 use Rattle.walks.proofs.Slices.{_⸴_, _⸴′_, Slice, Loan, ref-of, val-of, word, words-ty, shared-words-ty, bytes-ty, longs-ty, ptr-ty}
 use Rattle.walks.proofs.Calls.{calls-out, calls-plain}
+use Rattle.walks.proofs.Zero.{ZeroOf, calls-zero}
 use Rattle.walks.proofs.Spell.{_▸_, val, sets, lands-at, rooms, holds, slice-fits, had, shr, exc, life, on-loan, now-at, copies, lends, backs}
 use Rattle.lgs.specs.Market.{Results}
 use Rattle.lgs.specs.Rule.{fuel}
@@ -78,7 +79,6 @@ use Rattle.answering.proofs.finish.Met as finish-thm
 use Rattle.engine.specs.Runs.{wholeRun, CanRun}
 use Rattle.engine.proofs.Going.{can-run, as-begun}
 use Rattle.engine.proofs.Locals.{states-ty, states-ptr}
-use Rattle.engine.proofs.Clearing.{ClearOf, calls-clear}
 use Rattle.engine.proofs.clear_states.Symbol as clear-def
 use Rattle.engine.proofs.clear_states.Symbol.{name as #engine·clear-states}
 use Rattle.engine.proofs.clear_states.Met as clear-thm
@@ -376,7 +376,7 @@ module _ {M : Type 1} (𝓤 : URA M) (H : Heap 𝓤) (A : Atoms 𝓤) (W : Given
 
     module _ (𝓣 : Tables 𝓤 H) (known-begin : Triple 𝓤 (𝓣 .C #turning·begin-run) (BeginOf 𝓤 H A mem run)) (known-run : Triple 𝓤 (𝓣 .C #engine·run-all) (RunOf
         𝓤 H A mem run)) (known-to-place : Triple 𝓤 (𝓣 .C #answering·to-place) (ToPlaceOf 𝓤 H A mem run)) (known-read : Triple 𝓤 (𝓣 .C #engine·read-places)
-        (ReadOf 𝓤 H A mem run)) (known-clear : Triple 𝓤 (𝓣 .C #engine·clear-states) (ClearOf 𝓤 H A mem run)) (known-finish : Triple 𝓤 (𝓣 .C
+        (ReadOf 𝓤 H A mem run)) (known-clear : Triple 𝓤 (𝓣 .C #engine·clear-states) (ZeroOf T.the-row zeroState 𝓤 H A)) (known-finish : Triple 𝓤 (𝓣 .C
         #answering·finish) (FinishOf 𝓤 H A mem run))
         (l₀ l₁ l₂ l₃ l₄ l₅ l₆ l₇ l₈ l₉ l₁₀ l₁₁ l₁₂ l₁₃ l₁₄ l₁₅ l₁₆ l₁₇ l₁₈ l₁₉ l₂₀ l₂₁ l₂₂ l₂₃ l₂₄ l₂₅ l₂₆ l₂₇ l₂₈ : ℕ) where
       abbrev C : Calls 𝓤 H
@@ -461,7 +461,7 @@ module _ {M : Type 1} (𝓤 : URA M) (H : Heap 𝓤) (A : Atoms 𝓤) (W : Given
           sets ! (addr ! (from ! (fld ! refl (hop ! (look-in ! 56 (sub ! 0 refl (whole !))) (stop !))))) 22 refl (tt, tt) $
           sets ! (agg ! (val ! 22 refl ▸ load ! (from ! (fld ! refl (stop !))) (look-in ! 56 (sub ! 1 refl (whole !))) ▸ no-more !)) 20 refl (slice-fits
           (room₇ .0)) $
-          calls-clear (now-at s₇ (h .states₂)) (named 7) ! mem run fm known-clear room₇ (h .long₇) (λ a₇. (val ! 20 refl ▸ no-more !)) $
+          calls-zero T.the-row zeroState (now-at s₇ (h .states₂)) (named 7) ! fm known-clear room₇ (h .long₇) (λ a₇. (val ! 20 refl ▸ no-more !)) $
           rewrite ! 0 (λ (m : ℕ). States (replicate m zeroState)) (h .long₇) refl $
           lands-at ! 32 refl (tt, tt) $
           forget ! 20 refl $ forget ! 22 refl $ forget ! 32 refl $
@@ -595,7 +595,7 @@ module _ {M : Type 1} (𝓤 : URA M) (H : Heap 𝓤) (A : Atoms 𝓤) (W : Given
         → Triple 𝓤 (𝓣 .C #engine·run-all) (RunOf 𝓤 H A mem run)
         → Triple 𝓤 (𝓣 .C #answering·to-place) (ToPlaceOf 𝓤 H A mem run)
         → Triple 𝓤 (𝓣 .C #engine·read-places) (ReadOf 𝓤 H A mem run)
-        → Triple 𝓤 (𝓣 .C #engine·clear-states) (ClearOf 𝓤 H A mem run)
+        → Triple 𝓤 (𝓣 .C #engine·clear-states) (ZeroOf T.the-row zeroState 𝓤 H A)
         → Triple 𝓤 (𝓣 .C #answering·finish) (FinishOf 𝓤 H A mem run)
         → ent 𝓤 (onEntry 𝓤 H A run-def.signature κs qs a at) (WpFn 𝓤 H (𝓣 .C) (𝓣 .Λ) code.function (val-of s₀ ∷ val-of s₁ ∷ val-of s₂ ∷ val-of s₃ ∷ val-of s₄
         ∷ val-of s₅ ∷ val-of s₆ ∷ val-of s₇ ∷ vint w64 students ∷ vint w64 workshops ∷ []) Post)
@@ -628,7 +628,7 @@ module _ {M : Type 1} (𝓤 : URA M) (H : Heap 𝓤) (A : Atoms 𝓤) (W : Given
       → Triple 𝓤 (𝓣 .C #engine·run-all) (RunOf 𝓤 H A mem run)
       → Triple 𝓤 (𝓣 .C #answering·to-place) (ToPlaceOf 𝓤 H A mem run)
       → Triple 𝓤 (𝓣 .C #engine·read-places) (ReadOf 𝓤 H A mem run)
-      → Triple 𝓤 (𝓣 .C #engine·clear-states) (ClearOf 𝓤 H A mem run)
+      → Triple 𝓤 (𝓣 .C #engine·clear-states) (ZeroOf T.the-row zeroState 𝓤 H A)
       → Triple 𝓤 (𝓣 .C #answering·finish) (FinishOf 𝓤 H A mem run)
       → Walks 𝓤 H A run-def.ended stayed (WpFn 𝓤 H (𝓣 .C) (𝓣 .Λ) code.function) (run-def.clauses 𝓤 H A mem run)
   run-walks 𝓣 known-begin known-run known-to-place known-read known-clear known-finish = walked 𝓤 H A run-def.ended stayed (run-def.clauses 𝓤 H A mem run)
@@ -651,7 +651,7 @@ run-meets : {M : Type 1} (𝓤 : URA M) (H : Heap 𝓤) (A : Atoms 𝓤) → Giv
     → Triple 𝓤 (𝓣 .C #engine·run-all) (RunOf 𝓤 H A mem run)
     → Triple 𝓤 (𝓣 .C #answering·to-place) (ToPlaceOf 𝓤 H A mem run)
     → Triple 𝓤 (𝓣 .C #engine·read-places) (ReadOf 𝓤 H A mem run)
-    → Triple 𝓤 (𝓣 .C #engine·clear-states) (ClearOf 𝓤 H A mem run)
+    → Triple 𝓤 (𝓣 .C #engine·clear-states) (ZeroOf T.the-row zeroState 𝓤 H A)
     → Triple 𝓤 (𝓣 .C #answering·finish) (FinishOf 𝓤 H A mem run)
     → Meets 𝓤 H A run-def.signature (WpFn 𝓤 H (𝓣 .C) (𝓣 .Λ) code.function) (run-def.spec 𝓤 H A mem run)
 run-meets 𝓤 H A W mem run 𝓣 known-begin known-run known-to-place known-read known-clear known-finish =
@@ -675,7 +675,7 @@ run-spec 𝓤 H 𝓜 𝓖 𝓡 =
     (cited 𝓤 H (ToPlaceOf 𝓤 H (𝓖 .A) (𝓜 .mem) (𝓡 .run)) 𝓜 𝓡 code.env #answering·to-place to-place-def.routine code.calls-answering·to-place (to-place-thm.met
     𝓤 H 𝓜 𝓖 𝓡))
     (cited 𝓤 H (ReadOf 𝓤 H (𝓖 .A) (𝓜 .mem) (𝓡 .run)) 𝓜 𝓡 code.env #engine·read-places read-def.routine code.calls-engine·read-places (read-thm.met 𝓤 H 𝓜 𝓖 𝓡))
-    (cited 𝓤 H (ClearOf 𝓤 H (𝓖 .A) (𝓜 .mem) (𝓡 .run)) 𝓜 𝓡 code.env #engine·clear-states clear-def.routine code.calls-engine·clear-states (clear-thm.met 𝓤 H 𝓜
+    (cited 𝓤 H (ZeroOf T.the-row zeroState 𝓤 H (𝓖 .A)) 𝓜 𝓡 code.env #engine·clear-states clear-def.routine code.calls-engine·clear-states (clear-thm.met 𝓤 H 𝓜
     𝓖 𝓡))
     (cited 𝓤 H (FinishOf 𝓤 H (𝓖 .A) (𝓜 .mem) (𝓡 .run)) 𝓜 𝓡 code.env #answering·finish finish-def.routine code.calls-answering·finish (finish-thm.met 𝓤 H 𝓜 𝓖
     𝓡)))
