@@ -1,25 +1,13 @@
 /* Calls of lgs_place and lgs_stages from C, each buffer between two pages that cannot be touched, and the place of each answer full of 0xA5 before the
  * call. Last line 'N passed, M failed'. */
 #define _GNU_SOURCE
+#include "check.h"
 #include "lgs.h"
 
 #include <pthread.h>
-#include <stdio.h>
 #include <stdlib.h>
 #include <string.h>
 #include <sys/mman.h>
-
-static int passed, failed;
-
-static void check(int good, const char *what)
-{
-    if (good) {
-        passed++;
-    } else {
-        failed++;
-        printf("FAILED %s\n", what);
-    }
-}
 
 /* Example K of document 01; each student's lot, at bytes 8 and 9 of her record, is her number, and each pair's fare, at bytes 10 and 11, is 0. */
 enum { STUDENTS = 3, WORKSHOPS = 2, PAIRS = 6, RECORDS = STUDENTS + WORKSHOPS + PAIRS, SEATS = 2, VISITS = 4 };
@@ -547,6 +535,5 @@ int main(void)
     both();
     threads(many_calls);
     threads(many_stages);
-    printf("%d passed, %d failed\n", passed, failed);
-    return failed != 0;
+    return counted();
 }

@@ -1,25 +1,14 @@
 /* What the header has as code, lgs_needs and lgs_refusal_text, and pointers that are null where the length is 0. To be compiled with sanitizers: each
  * buffer is exactly as long as is said. Last line 'N passed, M failed'. */
+#include "check.h"
 #include "lgs.h"
 
-#include <stdio.h>
 #include <stdlib.h>
 #include <string.h>
 
 enum { MOST_STUDENTS = 512, MOST_WORKSHOPS = 64, MOST_RECORDS = MOST_STUDENTS + MOST_WORKSHOPS + MOST_STUDENTS * MOST_WORKSHOPS };
 static uint8_t case_bytes[16 * MOST_RECORDS];
 static size_t records;
-static int passed, failed;
-
-static void check(int good, const char *what)
-{
-    if (good) {
-        passed++;
-    } else {
-        failed++;
-        printf("FAILED %s\n", what);
-    }
-}
 
 static void add(unsigned kind, unsigned a, unsigned b, unsigned c, unsigned d)
 {
@@ -186,6 +175,5 @@ int main(int count, char **names)
     any_bytes();
     nulls();
     texts();
-    printf("%d passed, %d failed\n", passed, failed);
-    return failed != 0;
+    return counted();
 }

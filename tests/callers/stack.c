@@ -1,9 +1,9 @@
 /* How much of the stack lgs_place and lgs_stages take, by calls on a stack that is filled with a pattern before: arguments case.dat, book.dat of the example.
  * Last line 'N passed, M failed'. */
 #define _GNU_SOURCE
+#include "check.h"
 #include "lgs.h"
 
-#include <stdio.h>
 #include <string.h>
 #include <ucontext.h>
 
@@ -19,7 +19,6 @@ static uint16_t stages[LGS_MOST_STAGES];
 static lgs_report report;
 static lgs_part_report part_report;
 static ucontext_t here, there;
-static int passed, failed;
 
 static size_t read_file(const char *name, uint8_t *bytes)
 {
@@ -60,12 +59,7 @@ static size_t call_on_stack(void (*function)(void))
 static void tell(const char *what, size_t used, int right)
 {
     printf("%s: %zu bytes of stack\n", what, used);
-    if (right && used < LIMIT) {
-        passed++;
-    } else {
-        failed++;
-        printf("FAILED %s\n", what);
-    }
+    check(right && used < LIMIT, what);
 }
 
 /* One call of lgs_place; the answer is of this kind, with this first value. */
@@ -155,6 +149,5 @@ int main(int count, char **names)
     case_bytes[16 + 8] = 0;
     measure("a lot of 0", LGS_REFUSED, LGS_CASE_LOT);
     measure_all_stages();
-    printf("%d passed, %d failed\n", passed, failed);
-    return failed != 0;
+    return counted();
 }

@@ -106,7 +106,8 @@ agrees-k = refl
 
 -- with fares
 agrees-tens : someDiffer (rows tensK) ≡ false
-unfolding someDiffer meets differ matters marketOf rows rowAt word any find tally tabulate tensK faresK caseOf flatMap caseBytes rowBytes words studentsK workshopsK
+unfolding someDiffer meets differ matters marketOf rows rowAt word any find tally tabulate tensK faresK caseOf flatMap caseBytes rowBytes words studentsK
+    workshopsK
 agrees-tens = refl
 
 -- a run on it that lists K's visits, one of them of a pair that is not placed

@@ -27,8 +27,8 @@ unfolding given expected table ownTable neverTable neverK answerNeverK tiedK ans
     faresK tensK answerPaidK faresTable faresOf sumOf
     ample exact shortRooms people countsRefused buffersAfter buffersExpected
     flat placesAfter visitsAfter values
-    texts textsExpected programPrints unread words rowBytes caseBytes flatMap caseOf bookOf studentsK workshopsK pairsK caseWith bookWith K bookK visitsK answerK
-    engine outcomeUnless ruleOutcome outcomeOf refusal causes caseCauses roomCauses bookCauses badTie studentTies badLot badRepeat badScores
+    texts textsExpected programPrints unread words rowBytes caseBytes flatMap caseOf bookOf studentsK workshopsK pairsK caseWith bookWith K bookK visitsK
+    answerK engine outcomeUnless ruleOutcome outcomeOf refusal causes caseCauses roomCauses bookCauses badTie studentTies badLot badRepeat badScores
     badPair badRoom needed allSeats seatsOf badRange badTiers badWorkshop badStudent badCounts badOrder namesNobody notRising badNumber kindFalls
     badForm resultsOf entries entryAt unnamed marketOf rows rowAt signed word firstBad update pick find tally any keep tabulate upto total count
     lazyGaleShapley fuel run step turn apply settle close interviewAll best lowestOf below holders due choices open? unopened declined outscored start

@@ -557,8 +557,8 @@ pub record Computed : Type 0 where
   pub buffers : buffersAfter ≡ buffersExpected
   pub text : texts ≡ textsExpected
 
--- the program's limit, and K is a run with agreeing stages, also where two of the listed visits ended in never, where a lot decides (workshop 2 has 2 before 3),
--- and with fares; K with fares differs from K in nothing else
+-- the program's limit, and K is a run with agreeing stages, also where two of the listed visits ended in never, where a lot decides (workshop 2 has 2 before
+-- 3), and with fares; K with fares differs from K in nothing else
 pub record TablesHold : Type 0 where
   pub computed : Computed
   pub limits : Limits

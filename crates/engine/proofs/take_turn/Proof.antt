@@ -364,7 +364,8 @@ module _ {M : Type 1} (𝓤 : URA M) (H : Heap 𝓤) (A : Atoms 𝓤) (W : Given
       move ! (4 ∷ 18 ∷ 2 ∷ 19 ∷ 6 ∷ 17 ∷ 0 ∷ 20 ∷ 8 ∷ 9 ∷ 11 ∷ 12 ∷ []) $ group ! 12 $
       use1 W (raw (TurnOf 𝓤 H A mem run .pre (to-turn (record { ν = ν₄; δ = δ₄ }) (record { ν = ν₅; δ = δ₅ }))))
       (goes (record { ν = ν₄; δ = δ₄ }) (record { ν = ν₅; δ = δ₅ }) is-c) $
-      -- [what `turn` asks; the table; the book; the case; the index; what is kept of the visits, of the seats; states[i]; the others; the states' reference; _20; …]
+      -- [what `turn` asks; the table; the book; the case; the index; what is kept of the visits, of the seats; states[i]; the others;
+      -- the states' reference; _20; …]
       calls-out ! fm turn.signature (turn.spec 𝓤 H A mem run) known (to-turn (record { ν = ν₄; δ = δ₄ }) (record { ν = ν₅; δ = δ₅ }))
       (Fin (record { ν = ν₄; δ = δ₄ }) (record { ν = ν₅; δ = δ₅ })) (λ r. id⊢ 𝓤 _) U′.lowered (U′.lowers .val-is)
       (and-then ! (load ! (from ! (stop !)) (look ! 48 refl)) (and-then ! (load ! (from ! (stop !)) (look ! 46 refl)) (and-then ! (load ! (from ! (stop !))
