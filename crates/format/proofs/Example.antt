@@ -4,11 +4,11 @@ use Prim.Native.Nat.{ℕ, _≤_, _<_}
 use mathlib.Core.Path.{_≡_, refl, sym, ap, _∙_}
 use mathlib.Core.Logic.{inr, ⊎-elim}
 use mathlib.Core.Bool.{Bool, true, false, not, _&&_, _||_}
-use mathlib.Core.List.{List, [], _∷_, flatMap}
+use mathlib.Core.List.{List, [], _∷_, _++_, flatMap, Memᴰ·append-left as in-left}
 use mathlib.Core.Option.{Option, some, none}
 use native.Mathlib.Omega.{arith}
 use lib.Dec.{eqb, ltb}
-use lib.ListN.{length, getD, List·getD-eq-default}
+use lib.ListN.{length, getD, take, List·getD-eq-default}
 use borrow.Author.Tests.{lt-ltb, le-ltb, eqb-true, eq-eqb, ne-eqb, not-false}
 use Rattle.base.specs.Lists.{any, tabulate, tally, find}
 use Rattle.base.specs.Words.{word, signed}
@@ -19,12 +19,12 @@ use Rattle.lgs.specs.Market.{Market, matters, Rivals, ConsistentStages}
 use Rattle.lgs.specs.Rule.{interviewed}
 use Rattle.lgs.specs.Promises.{matchingOf}
 use Rattle.lgs.proofs.Matters.{matters-true}
-use Rattle.format.specs.Layout.{Row, isPair, ofKind, rowAt, rows, marketOf, entryAt, entries, resultsOf}
-use Rattle.format.specs.Engine.{placed, engine}
-use Rattle.format.specs.Promises.{Example, Preferred, OtherFares, ofFare}
+use Rattle.format.specs.Layout.{Row, Entry, isPair, ofKind, rowAt, rows, marketOf, entryAt, entries, resultsOf}
+use Rattle.format.specs.Engine.{placed, refused, engine, Outcome}
+use Rattle.format.specs.Promises.{Example, SettledExample, Preferred, OtherFares, ofFare}
 use Rattle.format.specs.Encoding.{words, rowBytes, caseBytes}
 use Rattle.format.specs.Table.{caseOf, studentsK, workshopsK, pairsK, caseWith, K, bookK, visitsK, answerK, neverK, answerNeverK, exact}
-use Rattle.format.specs.Table.{bookOf, bookWith, tiedK, answerTiedK, faresK, tensK, answerPaidK, Limits, TablesHold}
+use Rattle.format.specs.Table.{bookOf, bookWith, tiedK, answerTiedK, faresK, tensK, answerPaidK, table, ample, given, expected, Limits, TablesHold}
 use Rattle.format.specs.Printed.{unread, readable, programText, programPrints}
 use Rattle.format.proofs.Positions.{pair-says}
 use Rattle.format.proofs.Table.{computed}
@@ -152,6 +152,37 @@ unfolding marketOf resultsOf rows rowAt entries entryAt word signed any find tal
 preferred-k =
     record { pair = refl; pair′ = refl; met = refl; met′ = refl; tier = refl; above = inr (refl, omega arith) }
 
+-- K after two visits, and two books that go on from there: the answers are rows of the table
+row : ℕ → List Outcome → Outcome
+row i answers = getD answers i (refused 0 0)
+
+-- the records after the first two
+rest-k : (book : List ℕ) → List Entry
+rest-k book = entryAt book 2 ∷ entryAt book 3 ∷ []
+
+more-k : (entries bookK ≡ entries (take 16 bookK) ++ rest-k bookK)
+    × (entries (bookWith 5 4 7 4 6) ≡ entries (take 16 bookK) ++ rest-k (bookWith 5 4 7 4 6))
+unfolding rest-k entries entryAt word signed tabulate bookK bookWith bookOf flatMap words
+more-k = (refl, refl)
+
+settled-k : SettledExample K (take 16 bookK) bookK (bookWith 5 4 7 4 6) ample 2 1 2
+unfolding row given expected table answerK marketOf rows rowAt word any find tally tabulate K caseWith caseOf flatMap caseBytes rowBytes words studentsK
+    workshopsK pairsK
+settled-k =
+    record {
+      consistent = stages-agree (rows K) agrees-k;
+      stops = (2, (1, 1) ∷ (1, 2) ∷ [], 0, ap (row 2) (computed .answers));
+      more′ = λ e m. rw (more-k .0) (in-left (rest-k bookK) m);
+      more″ = λ e m. rw (more-k .1) (in-left (rest-k (bookWith 5 4 7 4 6)) m);
+      places′ = 1 ∷ 0 ∷ 2 ∷ [];
+      places″ = 1 ∷ 2 ∷ 0 ∷ [];
+      answer′ = (visitsK, 0, ap (row 0) (computed .answers));
+      answer″ = (visitsK, 0, ap (row 3) (computed .answers));
+      student = (omega arith, omega arith);
+      earlier = omega arith;
+      unsettled = λ e. omega arith;
+    }
+
 -- K with fares is K but for these: no other byte differs
 differs : ℕ → Bool
 differs k = not (ofFare K k) && not (eqb (getD tensK k 0) (getD K k 0))
@@ -205,4 +236,5 @@ tables-hold =
       agreeingFares = example-fares-k;
       otherwisePaid = other-k;
       parted = preferred-k;
+      settling = settled-k;
     }

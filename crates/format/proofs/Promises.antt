@@ -16,7 +16,7 @@ use Rattle.lgs.specs.Market.{Market, Results, outscored}
 use Rattle.lgs.specs.Profiles.{Profile, StudentOptimal, Fits, flip}
 use Rattle.lgs.specs.Rule.{Interview, Step, going, stopped, finished, interviewed, below}
 use Rattle.lgs.specs.Fares.{faresOf}
-use Rattle.lgs.specs.Promises.{Listed, Placed, NextInterview, interviewsIn}
+use Rattle.lgs.specs.Promises.{Listed, Placed, NextInterview, interviewsIn, matchingOf}
 use Rattle.lgs.proofs.Valid.{by-lower-score, by-higher-lot, outscored-apart}
 use Rattle.lgs.proofs.Sides.{real}
 use Rattle.lgs.proofs.Minimal.{revealed-fits}
@@ -24,13 +24,14 @@ use Rattle.lgs.proofs.Undetermined.{reveals-itself}
 use Rattle.lgs.proofs.Agreement.{unlisted-finished, unlisted-stopped}
 use Rattle.lgs.proofs.Optimal.{optimal-unique}
 use Rattle.lgs.proofs.OptimalExists.{optimal-exists as optimal-for}
-use Rattle.lgs.proofs.Promises.{fits-exists, listed-length}
+use Rattle.lgs.proofs.Settled.{earlier-settled}
+use Rattle.lgs.proofs.Promises.{fits-exists, listed-length, same-place}
 use Rattle.format.specs.Layout.{rows, rowAt, resultsOf, ofKind}
 use Rattle.format.specs.Refusals.{Room, refusal, needed}
 use Rattle.format.specs.Engine.{placed, next, refused, engine, marketIn, resultsIn, Outcome, outcomeOf, ruleOutcome, outcomeUnless}
 use Rattle.format.specs.Promises.{Valid, Refused, withPlaces, withNext, RunEnds, Demand1, FitsBook, interviewsOf, ByRule, Demand2Placed}
 use Rattle.format.specs.Promises.{Demand2Next, Demand2, Demand3, FitExists, OptimalExists, SameListed, UnlistedUnused, HeadsFit, Promised}
-use Rattle.format.specs.Promises.{LotsDiffer, Preferred, LotsPart}
+use Rattle.format.specs.Promises.{LotsDiffer, Preferred, LotsPart, SettledForGood}
 use Rattle.format.proofs.Positions.{lot-at}
 use Rattle.format.proofs.Lots.{lot-range, lots-apart}
 use Rattle.format.proofs.Reading.{clean}
@@ -186,6 +187,23 @@ unlisted-unused =
       whenNext = λ case book book′ room s w vs fares e valid′ same unmet.
           next-again case book book′ room valid′ s w vs fares (when-next case book room s w vs fares e) same unmet;
     }
+
+-- the matching of a placement, student by student
+place-of : (case book : List ℕ) (room : Room) (places : List ℕ) (vs : List Interview) (fares : ℕ) (f : Finished case book room places vs fares) (t : ℕ)
+    → matchingOf places t ≡ f .matching t
+place-of case book room places vs fares f t =
+    rw (f .whole) (same-place (marketIn case) (wf case book room (f .valid)) (resultsIn book) (distinct case book room (f .valid)) (f .matching) vs (f .run) t)
+
+pub settled-for-good : SettledForGood
+settled-for-good case book book′ book″ room s w vs fares agree e more′ more″ places′ places″ vs′ vs″ fares′ fares″ e′ e″ t l =
+    let f : Stopped case book room s w vs fares = when-next case book room s w vs fares e in
+    let f′ : Finished case book′ room places′ vs′ fares′ = when-placed case book′ room places′ vs′ fares′ e′ in
+    let f″ : Finished case book″ room places″ vs″ fares″ = when-placed case book″ room places″ vs″ fares″ e″ in
+    let same : f′ .matching t ≡ f″ .matching t =
+    earlier-settled (marketIn case) agree (resultsIn book) s w vs (f .run) (resultsIn book′) (resultsIn book″)
+    (extends case book book′ (passed case book′ room (f′ .valid)) more′) (extends case book book″ (passed case book″ room (f″ .valid)) more″)
+    (f′ .matching) (f″ .matching) vs′ vs″ (f′ .run) (f″ .run) t l in
+    place-of case book′ room places′ vs′ fares′ f′ t ∙ (same ∙ sym (place-of case book″ room places″ vs″ fares″ f″ t))
 
 module _ (case book : List ℕ) (room : Room) where
   -- the listed interviews are no more than the pair records

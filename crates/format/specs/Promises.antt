@@ -256,6 +256,22 @@ pub record ShiftCounts : Type 0 where
   -- "rounded down"
   pub down : (len : ℕ) → (8 * shifted len 3 ≤ len) × (len < 8 * shifted len 3 + 8)
 
+-- ---- Settled for good, while visits still go on: where the stages agree and the next visit is one of student s, each student of an earlier stage has the
+-- same place after any two books that have every record of this one and bring a placement. What the visits to come tell does not move her.
+abbrev pub SettledForGood : Type 0
+SettledForGood =
+    (case book book′ book″ : List ℕ) (room : Room) (s w : ℕ) (vs : List Interview) (fares : ℕ)
+    → ConsistentStages (marketIn case) (marketIn case .stage)
+    → engine case book room ≡ next s w vs fares
+    → ExtendsBook book book′
+    → ExtendsBook book book″
+    → (places′ places″ : List ℕ) (vs′ vs″ : List Interview) (fares′ fares″ : ℕ)
+    → engine case book′ room ≡ placed places′ vs′ fares′
+    → engine case book″ room ≡ placed places″ vs″ fares″
+    → (t : ℕ)
+    → marketIn case .stage t < marketIn case .stage s
+    → matchingOf places′ t ≡ matchingOf places″ t
+
 -- ---- That these say something.
 
 -- a valid book has a full order that fits the groups and the book
@@ -336,3 +352,18 @@ pub record Example (case book : List ℕ) (room : Room) : Type 0 where
   pub answer : engine case book room ≡ placed places interviews fares
   pub consistent : ConsistentStages (marketIn case) (marketIn case .stage)
   pub listedUnplaced : (s : ℕ) × (w : ℕ) × (interviewed interviews s w ≡ true) × (matchingOf places s ≡ w → ⊥)
+
+-- a case with agreeing stages, a book after which the next interview is one of student s, and two books with its records that bring placements: student t is of
+-- an earlier stage, and student u gets different places
+pub record SettledExample (case book book′ book″ : List ℕ) (room : Room) (s t u : ℕ) : Type 0 where
+  pub consistent : ConsistentStages (marketIn case) (marketIn case .stage)
+  pub stops : (w : ℕ) × (vs : List Interview) × (fares : ℕ) × (engine case book room ≡ next s w vs fares)
+  pub more′ : ExtendsBook book book′
+  pub more″ : ExtendsBook book book″
+  pub places′ : List ℕ
+  pub places″ : List ℕ
+  pub answer′ : (vs : List Interview) × (fares : ℕ) × (engine case book′ room ≡ placed places′ vs fares)
+  pub answer″ : (vs : List Interview) × (fares : ℕ) × (engine case book″ room ≡ placed places″ vs fares)
+  pub student : (1 ≤ t) × (t ≤ marketIn case .students)
+  pub earlier : marketIn case .stage t < marketIn case .stage s
+  pub unsettled : matchingOf places′ u ≡ matchingOf places″ u → ⊥

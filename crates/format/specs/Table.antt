@@ -14,7 +14,7 @@ use Rattle.format.specs.Refusals.{Room, badCounts}
 use Rattle.format.specs.Engine.{placed, next, refused, engine, Outcome}
 use Rattle.format.specs.Buffers.{placesAfter, visitsAfter, scratchAfter, values}
 use Rattle.format.specs.Printed.{ascii, printed, unread, programRoom, programPrints}
-use Rattle.format.specs.Promises.{Example, Preferred, OtherFares}
+use Rattle.format.specs.Promises.{Example, SettledExample, Preferred, OtherFares}
 
 -- ---- bytes from fields
 
@@ -558,7 +558,7 @@ pub record Computed : Type 0 where
   pub text : texts ≡ textsExpected
 
 -- the program's limit, and K is a run with agreeing stages, also where two of the listed visits ended in never, where a lot decides (workshop 2 has 2 before
--- 3), and with fares; K with fares differs from K in nothing else
+-- 3), and with fares; K with fares differs from K in nothing else; after two visits to K student 1 is settled, and student 2 is not
 pub record TablesHold : Type 0 where
   pub computed : Computed
   pub limits : Limits
@@ -568,3 +568,4 @@ pub record TablesHold : Type 0 where
   pub agreeingFares : Example tensK bookK exact
   pub otherwisePaid : OtherFares K tensK
   pub parted : Preferred K tiedK 2 2 3
+  pub settling : SettledExample K (take 16 bookK) bookK (bookWith 5 4 7 4 6) ample 2 1 2

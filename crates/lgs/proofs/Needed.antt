@@ -61,26 +61,25 @@ module _ (M : Market) where
       rw e (λ u m. ⊎-elim (λ (q : u ≡ s). omega (arith, ap (M .stage) q)) (λ k. d .0 u k) (insert-in (M .stage) s ts u m), insert-sorted s ts (d .1)))
       (bool-cases (ltb (M .stage s) (M .stage t)))
 
-  staged-sorted : (n : ℕ) → Sorted (byStage (M .stage) n)
+  pub staged-sorted : (n : ℕ) → Sorted (byStage (M .stage) n)
   unfolding byStage
   staged-sorted zero = tt
   staged-sorted (suc n) = insert-sorted (suc n) (byStage (M .stage) n) (staged-sorted n)
 
-module _ (M : Market) (agree : ConsistentStages M (M .stage)) (Vs : ℕ → ℕ → Bool) where
-  rivals : (σ : State) (w s t : ℕ) → Seen M Vs σ s w → Seen M Vs σ t w → Rivals M w s t
-  rivals σ w s t a b = record { first = matters-is M w s (a .seats) (a .pair) (a .outside); second = matters-is M w t (b .seats) (b .pair) (b .outside) }
+module _ (M : Market) (agree : ConsistentStages M (M .stage)) where
+  -- of two rivals, the one of the later stage is in no better tier, and the one in a worse tier of no earlier stage
+  later-worse : (w s t : ℕ) → Rivals M w t s → M .stage s ≤ M .stage t → M .workshopTier w s ≤ M .workshopTier w t
+  later-worse w s t r l =
+      ⊎-elim (λ less. absurd (omega (arith, agree .earlier w t s r less))) (λ le. le) (less? (M .workshopTier w t) (M .workshopTier w s))
 
-  -- of two whom a workshop has interviewed, the one of the later stage is in no better tier, and the one in a worse tier of no earlier stage
-  later-worse : (σ : State) (w s t : ℕ) → Seen M Vs σ s w → Seen M Vs σ t w → M .stage s ≤ M .stage t → M .workshopTier w s ≤ M .workshopTier w t
-  later-worse σ w s t a b l =
-      ⊎-elim (λ less. absurd (omega (arith, agree .earlier w t s (rivals σ w t s b a) less))) (λ le. le)
-      (less? (M .workshopTier w t) (M .workshopTier w s))
+  pub worse-later : (w s t : ℕ) → Rivals M w s t → M .workshopTier w s ≤ M .workshopTier w t → M .stage s ≤ M .stage t
+  worse-later w s t r l =
+      ⊎-elim (λ e. omega (arith, agree .together w s t r e)) (λ less. omega (arith, agree .earlier w s t r less)) (eq-or-lt-of-le l)
 
-  worse-later : (σ : State) (w s t : ℕ) → Seen M Vs σ s w → Seen M Vs σ t w → M .workshopTier w s ≤ M .workshopTier w t → M .stage s ≤ M .stage t
-  worse-later σ w s t a b l =
-      ⊎-elim (λ e. omega (arith, agree .together w s t (rivals σ w s t a b) e))
-      (λ less. omega (arith, agree .earlier w s t (rivals σ w s t a b) less))
-      (eq-or-lt-of-le l)
+-- two whom a workshop has interviewed are rivals
+rivals : (M : Market) (Vs : ℕ → ℕ → Bool) (σ : State) (w s t : ℕ) → Seen M Vs σ s w → Seen M Vs σ t w → Rivals M w s t
+rivals M Vs σ w s t a b =
+    record { first = matters-is M w s (a .seats) (a .pair) (a .outside); second = matters-is M w t (b .seats) (b .pair) (b .outside) }
 
 module _ (M : Market) (B : Results) (O : Profile) (Vs : ℕ → ℕ → Bool) (E : Setting M B O Vs) where
   start-needed : Needed M (start M B)
@@ -188,7 +187,7 @@ module _ (M : Market) (B : Results) (O : Profile) (Vs : ℕ → ℕ → Bool) (E
     -- whoever has had an interview with the workshop that the student applies to is in her tier there or a better one
     module _ (c : ℕ) (pos : 0 < c) (k : Chosen M B O Vs σ s c) where
       no-better : (t : ℕ) → interviewed (σ .interviews) t c ≡ true → M .workshopTier c t ≤ M .workshopTier c s
-      no-better t v = later-worse M agree Vs σ c t s (I .seen t c v) (I .seen s c (k .real pos .0)) (N .early t c s v (in-first wait))
+      no-better t v = later-worse M agree c t s (rivals M Vs σ c s t (I .seen s c (k .real pos .0)) (I .seen t c v)) (N .early t c s v (in-first wait))
 
       sits-needed : seated M (update (σ .held) s c) c ≤ M .quota c → Needed M (close M B (joinedState M B σ s rest c) c)
       sits-needed fits =
@@ -216,7 +215,7 @@ module _ (M : Market) (B : Results) (O : Profile) (Vs : ℕ → ℕ → Bool) (E
 
         hand-before : M .stage s ≤ M .stage x
         hand-before =
-            worse-later M agree Vs σ c s x (I .seen s c (k .real pos .0)) x-seen
+            worse-later M agree c s x (rivals M Vs σ c s x (I .seen s c (k .real pos .0)) x-seen)
             (workshop-no-worse M B O Vs E c s x (real (flip (M .paired) c) s (I .seen s c (k .real pos .0) .pair)) (real (flip (M .paired) c) x (x-seen .pair))
             (low .low s (update-at (σ .held) s c s refl)))
 

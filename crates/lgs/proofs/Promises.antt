@@ -59,7 +59,7 @@ module _ (M : Market) (wf : WellFormed M) (B : Results) (distinct : Distinct M B
     unplaced s out = ⊎-elim (λ l. absurd (out (placed-student s l))) (λ le. omega arith) (less? 0 (p s))
 
     -- the places stand for the matching
-    same-place : (s : ℕ) → matchingOf places s ≡ p s
+    pub same-place : (s : ℕ) → matchingOf (map p (upto (M .students))) s ≡ p s
     same-place zero = sym (unplaced zero (λ r. omega arith))
     same-place (suc s) = ⊎-elim inside beyond (less? s (M .students))
       where

@@ -121,3 +121,20 @@ pub record NextInterview (M : Market) (B : Results) (s w : ℕ) (vs : List Inter
       → Extends B B′
       → B′ .met s w ≡ true
       → Begins (vs ++ ((s, w) ∷ [])) (interviewsIn (lazyGaleShapley M B′))
+
+-- Settled for good. Where the stages agree and the rule stops at an interview of student s, each student of an earlier stage has the same place in any
+-- two finished runs with fuller results: nothing that the interviews to come may tell moves her. (From bytes: `SettledForGood` of the crate format.)
+abbrev pub EarlierSettled : Market → Type 0
+EarlierSettled M =
+    ConsistentStages M (M .stage)
+    → (B : Results) (s w : ℕ) (vs : List Interview)
+    → lazyGaleShapley M B ≡ stopped s w vs
+    → (B′ B″ : Results)
+    → Extends B B′
+    → Extends B B″
+    → (p′ p″ : ℕ → ℕ) (vs′ vs″ : List Interview)
+    → lazyGaleShapley M B′ ≡ finished p′ vs′
+    → lazyGaleShapley M B″ ≡ finished p″ vs″
+    → (t : ℕ)
+    → M .stage t < M .stage s
+    → p′ t ≡ p″ t
