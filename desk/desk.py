@@ -1,21 +1,28 @@
 #!/usr/bin/env python3
-"""The college desk's tool around the programs `place` and `stages`.
+"""The college desk's tool around the placing engine.
 
     python3 desk.py new       writes students.csv, workshops.csv, pairs.csv and visits.csv with a small example
     python3 desk.py lots      draws a lot for each student in students.csv who has none, and writes it there
     python3 desk.py stages    works the students' stages out from the first three files, and writes them in students.csv
     python3 desk.py           checks the four files and says whom to send where next, or who goes where, and what the visits cost
+    python3 desk.py --csv DIR the same, and writes it as tables in the folder DIR: next.csv, placement.csv
+    python3 desk.py why STUDENT WORKSHOP
+                              says why the student is not placed at the workshop
 
 It works in the current folder. It only reads the four files, but for the lots, which `desk.py lots` writes, and the stages, which `desk.py stages`
-writes. Several may work in one folder at the same time: an answer is of the four files as they were at one moment, `place` and `stages` read what is
-made for them in a folder of each run's own, and only one run at a time writes.
-The program is the one that --place or the variable PLACE names; else the one beside desk.py; else the one on the PATH. So is `stages`, with --stages
-or the variable STAGES.
+writes. Several may work in one folder at the same time: an answer is of the four files as they were at one moment, and only one run at a time writes.
+Beside desk.py are lgs.py and liblgs.so, the engine.
 Exit status: 0 for an answer, 1 where something is to be corrected, 2 for a wrong command.
 Python 3.8 or later, no other packages.
 """
+import signal
+
+if __name__ == "__main__" and signal.getsignal(signal.SIGINT) == signal.default_int_handler:
+    signal.signal(signal.SIGINT, signal.SIG_DFL)    # Ctrl-C ends quietly, from the first moment
+
 import argparse
 import bisect
+import codecs
 import contextlib
 import csv
 import difflib
@@ -25,16 +32,17 @@ import io
 import os
 import re
 import secrets
-import shutil
-import signal
 import stat
-import struct
-import subprocess
 import sys
-import tempfile
 import time
 import unicodedata
 from dataclasses import dataclass, field
+
+sys.dont_write_bytecode = True    # the desk's folder stays as it is
+try:
+    import lgs
+except ModuleNotFoundError:
+    sys.exit("lgs.py is not in the folder of desk.py. Copy it there, with liblgs.so.")
 
 # ---------------------------------------------------------------- the columns
 
@@ -67,8 +75,7 @@ STAGE = Number("stage", 1, 512, help=' "python3 desk.py stages" works it out.')
 LOT = Number("lot", 1, 512, help=' "python3 desk.py lots" draws it.', help_column='\n"python3 desk.py lots" adds it and draws a lot for each student.')
 FARE = Number("fare", 0, 65535, optional=True, unit=" of pence", help=" Write 0 where there is nothing to pay.")
 
-# Each file's columns. Their order is that of the fields in the records of case.dat and book.dat (docs/FORMAT.md);
-# in the files the columns may stand in any order.
+# Each file's columns. Their order is that of the fields in lgs.py; in the files the columns may stand in any order.
 COLUMNS = {
     STUDENTS: [Name("student"), STAGE, Number("line group", 1, 65), LOT],
     WORKSHOPS: [Name("workshop"), Number("quota", 0, 512), Number("line group", 1, 513)],
@@ -79,7 +86,8 @@ COLUMNS = {
              Number("mark from workshop", NEVER, 1000, zero=False, word="never")],
 }
 MOST = {STUDENTS: 512, WORKSHOPS: 64}
-MOST_CASE_RECORDS = 4096    # case.dat has at most 65,536 bytes
+MOST_BYTES = 32 << 20    # of a table: 1,024 bytes for each of 32,768 pairs
+ENDS = {signal.SIGINT, signal.SIGHUP, signal.SIGTERM}    # what ends a run
 # Seconds: how long a run waits for others in the same folder, with which pauses, and for how long after a change a table may be half written still.
 MOMENT, PAUSE, AT_REST = 3.0, 0.05, 0.05
 
@@ -93,22 +101,11 @@ EXAMPLE = {
     VISITS: [],
 }
 
-# What each refusal means, and in which file its record is: "" where it names none. In the order of testing. NO_STAGES has words of its own.
-NO_STAGES = 12
-CASE_RECORDS = "case.dat"
-REFUSALS = {
-    1: ("", "the length of case.dat is no multiple of 16"),
-    2: (CASE_RECORDS, "a kind is not 1 to 3, or a byte that should be zero is not"),
-    3: (CASE_RECORDS, "a number is out of sequence, or a pair names nobody"),
-    4: ("", "there is no student, no workshop, or too many of them"),
-    5: (CASE_RECORDS, "a stage, quota, group or line group is out of range"),
-    13: (CASE_RECORDS, "a lot is not 1 to 512, or an earlier student has it already"),
-    6: ("", "a buffer of the program is too short"),
-    7: ("", "the length of book.dat is no multiple of 8"),
-    8: (VISITS, "this visit has no row in pairs.csv"),
-    9: (VISITS, "a mark is 0, below -1000 or above 1000"),
-    10: (VISITS, "this visit stands in an earlier row already"),
-    11: (VISITS, "a student gave the same mark twice in one group. Ask her which of the two is better, and change one mark"),
+# What `desk.py --csv` writes: a row to be filled in for the next visit, and everybody's place.
+NEXT_TABLE, PLACEMENT_TABLE = "next.csv", "placement.csv"
+OUT = {
+    NEXT_TABLE: [column.heading for column in COLUMNS[VISITS]],
+    PLACEMENT_TABLE: ["student", "workshop", "group from student", "group from workshop"],
 }
 
 # ---------------------------------------------------------------- what is wrong
@@ -167,6 +164,7 @@ class Reading:
 
 def read_file(file):
     try:
+        check_kind(file, os.stat(file))
         with open(file, "rb") as f:
             there = os.fstat(f.fileno())
             age = abs(time.time() - there.st_ctime)    # before it is read, which may take long
@@ -176,6 +174,14 @@ def read_file(file):
         raise Missing(f'{file} is not in this folder ({os.getcwd()}). "python3 desk.py new" writes an example to start from.')
     except OSError as e:
         raise Stop(f"{file} cannot be read: {e.strerror}.")
+
+
+def check_kind(file, there):
+    """A table is an ordinary file, and not endless."""
+    if not stat.S_ISREG(there.st_mode):
+        raise Stop(f"{file} is no ordinary file. Save the table under this name, as CSV.")
+    if there.st_size > MOST_BYTES:
+        raise Stop(f"{file} has {there.st_size} bytes; a table has at most {MOST_BYTES}. Is this the right file?")
 
 
 def read_tables(files):
@@ -199,8 +205,16 @@ def read_tables(files):
         time.sleep(PAUSE)
 
 
+# How files begin that are no text, and what they are.
+NO_TEXT = [(rb"PK\x03\x04.{26}mimetypeapplication/vnd\.oasis", "an .ods workbook"), (rb"PK\x03\x04", "an .xlsx workbook"),
+           (rb"\xd0\xcf\x11\xe0", "an .xls workbook"), (rb"%PDF", "a PDF file"), (rb"\xff\xfe|\xfe\xff", "a text in UTF-16")]
+
+
 def text_of(file, data):
     """The text of a file as spreadsheets write it."""
+    for form, what in NO_TEXT:
+        if re.match(form, data, re.DOTALL):
+            raise Stop(f'{file} is {what} under the name of a CSV file. Open it with your spreadsheet, and save it as "CSV UTF-8".')
     try:
         return data.decode("utf-8-sig")
     except UnicodeDecodeError as e:
@@ -208,15 +222,20 @@ def text_of(file, data):
         raise Stop(f'{file}, row {row}: a letter is not stored as UTF-8. Save the file again as "CSV UTF-8".')
 
 
+def lead_of(text):
+    """The line `sep=;` that some spreadsheets write and read before the headings; it is no row. Mostly there is none."""
+    return re.match(r'("?sep=[;,\t]"?(\r\n|\r|\n))?', text, re.IGNORECASE)[0]
+
+
 def delimiter_of(text):
-    """Semicolon, comma or tab: the one that the heading row has most of."""
-    heading = text.split("\n", 1)[0]
+    """Semicolon, comma or tab: the one that the first line names, else the one that the heading row has most of."""
+    heading = (lead_of(text) or text).split("\n", 1)[0]
     return max(";,\t", key=heading.count)
 
 
 def split_rows(text):
     """The rows, each as the list of its cells."""
-    return csv.reader(io.StringIO(text, newline=""), delimiter=delimiter_of(text), strict=True)
+    return csv.reader(io.StringIO(text[len(lead_of(text)):], newline=""), delimiter=delimiter_of(text), strict=True)
 
 
 def read_cells(file, data):
@@ -396,10 +415,18 @@ def is_held(row, problems):
 class Year:
     students: list      # rows, the number of a student is her place in this list, from 1
     workshops: list
-    pairs: list         # in the order of case.dat
+    pairs: list         # rising by student and workshop
     visits: list        # those held
     planned: dict       # those without marks, by student and workshop
     names: dict         # by file: the number of each name
+    comma: str = ","    # what stands between the cells of students.csv
+
+    def __post_init__(self):
+        self.pair_of = {couple_of(row): row for row in self.pairs}
+        self.visit_of = {couple_of(row): row for row in self.visits}
+        self.pairs_at = {row.cells["workshop"]: [] for row in self.workshops}
+        for row in self.pairs:
+            self.pairs_at[row.cells["workshop"]].append(row)
 
     def student(self, number):
         return self.students[number - 1].cells["student"]
@@ -451,14 +478,10 @@ def read_year(tables, for_stages=False):
     by_couple = read_pairs(tables, names, problems)
     visits, planned = ([], {}) if for_stages else read_visits(tables, names, by_couple, problems)
     pairs = sorted(by_couple.values(), key=lambda row: numbers_of(row, PAIRS, names)[:2])
-    records = len(students) + len(workshops) + len(pairs)
-    if records > MOST_CASE_RECORDS:
-        raise Stop(f"{STUDENTS}, {WORKSHOPS} and {PAIRS} have {records} rows together; {MOST_CASE_RECORDS} is the most that the program takes.\n"
-                   "Leave out pairs that cannot come about. Nothing was written.")
-    return Year(students, workshops, pairs, visits, planned, names)
+    return Year(students, workshops, pairs, visits, planned, names, delimiter_of(text_of(STUDENTS, tables[STUDENTS])))
 
 
-# ---------------------------------------------------------------- what `place` and `stages` read
+# ---------------------------------------------------------------- asking the engine
 
 
 def numbers_of(row, file, names):
@@ -467,17 +490,30 @@ def numbers_of(row, file, names):
             for column in COLUMNS[file]]
 
 
-def case_record(kind, fields):
-    return struct.pack("<BB7H", kind, 0, *(fields + [0] * (7 - len(fields))))
-
-
 def case_bytes(year):
-    lists = [(1, STUDENTS, year.students), (2, WORKSHOPS, year.workshops), (3, PAIRS, year.pairs)]
-    return b"".join(case_record(kind, numbers_of(row, file, year.names)) for kind, file, rows in lists for row in rows)
+    students = [numbers_of(row, STUDENTS, year.names)[1:] for row in year.students]
+    workshops = [numbers_of(row, WORKSHOPS, year.names)[1:] for row in year.workshops]
+    return lgs.pack_case(students, workshops, [numbers_of(row, PAIRS, year.names) for row in year.pairs])
 
 
 def book_bytes(year):
-    return b"".join(struct.pack("<HHhh", *numbers_of(row, VISITS, year.names)) for row in year.visits)
+    return lgs.pack_book(numbers_of(row, VISITS, year.names) for row in year.visits)
+
+
+def ask(year, function, *files):
+    """What a function of lgs.py says of these bytes."""
+    try:
+        return function(*files)
+    except lgs.Refused as refused:
+        raise Stop(explain_refusal(year, refused))
+    except OSError as e:
+        raise Stop(f"The engine cannot be used: {f'{e.filename}: {e.strerror}' if e.filename else e}.\n"
+                   "desk.py, lgs.py and liblgs.so of one version belong in one folder, on Linux with an Intel or AMD processor (x86-64).")
+
+
+def find_answer(year):
+    """The next visit, or the placement."""
+    return ask(year, lgs.place, case_bytes(year), book_bytes(year))
 
 
 # ---------------------------------------------------------------- writing, one run at a time
@@ -494,13 +530,13 @@ LOCK = Lock()
 
 
 @contextlib.contextmanager
-def one_at_a_time(command):
-    """Of all runs that write students.csv only one at a time is in here; a second one waits a moment, and then says who is. Without a lock one may read.
+def one_at_a_time(command, table=STUDENTS):
+    """Of all runs that write this table only one at a time is in here; a second one waits a moment, and then says who is. Without a lock one may read.
     The operating system locks a file beside the table, and frees it when the run ends, in whatever way: a file that was left there stops nobody."""
-    folder, name = os.path.split(os.path.realpath(STUDENTS))
+    folder, name = os.path.split(os.path.realpath(table))
     path = os.path.join(folder, f".{name}.lock")
     try:
-        LOCK.file = take_lock(path)
+        LOCK.file = take_lock(path, table)
     except OSError as e:
         LOCK.reason = f"{e.strerror} ({path})"
     try:
@@ -514,7 +550,7 @@ def one_at_a_time(command):
             LOCK.file = None
 
 
-def take_lock(path):
+def take_lock(path, table):
     """The file, locked. One that this run may not write in, left by somebody else, is made anew where that is allowed."""
     end = time.monotonic() + MOMENT
     while True:
@@ -524,7 +560,7 @@ def take_lock(path):
         holder = holder_of(lock)
         lock.close()
         if time.monotonic() > end:
-            raise Stop(f"{STUDENTS} is in use: {holder}.\nNothing was written. Type the command again when that has ended.")
+            raise Stop(f"{table} is in use: {holder}.\nNothing was written. Type the command again when that has ended.")
         time.sleep(PAUSE)
 
 
@@ -598,14 +634,25 @@ def write_files(contents, last_look=lambda: None):
                 f.flush()
                 os.fsync(f.fileno())
         last_look()
-        for name, part in parts.items():
-            os.replace(part, paths[name])
+        with undisturbed():
+            for name, part in parts.items():
+                os.replace(part, paths[name])
     except OSError as e:
         raise Stop(f"{' and '.join(contents)} cannot be written in this folder: {e.strerror}.")
     finally:
         for part in parts.values():
             if os.path.exists(part):
                 os.remove(part)
+
+
+@contextlib.contextmanager
+def undisturbed():
+    """A signal that comes in here is heeded afterwards: of several files all take their places, or none."""
+    before = signal.pthread_sigmask(signal.SIG_BLOCK, ENDS)
+    try:
+        yield
+    finally:
+        signal.pthread_sigmask(signal.SIG_SETMASK, before)
 
 
 def keep_rights(path, part):
@@ -630,14 +677,15 @@ def with_cells(data, heading, numbers):
     """The bytes of students.csv with these numbers in one column, by row number. The column is added where it is missing. All else is as it was,
     byte for byte."""
     text = data.decode("utf-8-sig")
-    mark = data[:len(data) - len(text.encode())]    # the byte order mark, or nothing
+    lead = lead_of(text)
+    mark = data[:len(data) - len(text.encode())] + lead.encode()    # the byte order mark and the line `sep=;`, or nothing
     delimiter, headings = delimiter_of(text), first_row(text)
     place = (headings + [heading]).index(heading)
     added = {} if heading in headings else {1: heading}
     texts = {**added, **{at: str(number) for at, number in numbers.items()}}
     cell = re.compile(rf'("[^"]*(?:""[^"]*)*"|[^{delimiter}\r\n]*)({delimiter}|\r\n|\r|\n|\Z)')
     parts, at, column = [], 1, 0
-    for found in cell.finditer(text):
+    for found in cell.finditer(text[len(lead):]):
         inside, end = found.groups()
         if at in texts and column == place:
             inside = f'"{texts[at]}"' if inside.startswith('"') else texts[at]
@@ -662,6 +710,11 @@ def check_only_cells(old, new, place, texts):
                    "Save the table again with your spreadsheet, as CSV, and type the command again.")
 
 
+def check_closed(name):
+    if is_open(name):
+        raise Stop(f"{name} is open in a spreadsheet: save and close it there, then type the command again. Nothing was written.")
+
+
 def is_open(name):
     """LibreOffice has its lock file beside this file, or beside the one behind it where the name is a link."""
     return any(os.path.lexists(os.path.join(folder, f".~lock.{file}#")) for folder, file in map(os.path.split, (name, os.path.realpath(name))))
@@ -670,8 +723,7 @@ def is_open(name):
 def write_cells(data, heading, numbers):
     """Writes these numbers in one column, if students.csv is not open in LibreOffice and still has these bytes."""
     new = with_cells(data, heading, numbers)
-    if is_open(STUDENTS):
-        raise Stop(f"{STUDENTS} is open in a spreadsheet: save and close it there, then type the command again. Nothing was written.")
+    check_closed(STUDENTS)
     if not (os.access(STUDENTS, os.W_OK) and os.stat(STUDENTS).st_mode & 0o222):
         raise Stop(f"{STUDENTS} is protected against writing. Nothing was written.")
 
@@ -682,135 +734,32 @@ def write_cells(data, heading, numbers):
     write_files({STUDENTS: new}, last_look)
 
 
-# ---------------------------------------------------------------- running `place` and `stages`
-
-
-def find_program(name, option):
-    """The path of the program `place` or `stages`."""
-    beside = os.path.join(os.path.dirname(os.path.abspath(__file__)), name)
-    named = option or os.environ.get(name.upper())
-    path = named or (beside if os.path.isfile(beside) else shutil.which(name))
-    if not path:
-        raise Stop(f"The program `{name}` was not found. Copy it to {beside}, or name it: --{name} PATH.")
-    path = os.path.abspath(path)
-    if not os.path.isfile(path):
-        raise Stop(f"There is no program {path}.")
-    if not os.access(path, os.X_OK):
-        raise Stop(f"{path} may not be run. This allows it: chmod +x {path}")
-    return path
-
-
-def ask(program, option, files):
-    """What `place` or `stages` prints for these files. It reads them in a folder of this run's own, where no other run changes them."""
-    path = find_program(program, option)
-    try:
-        with tempfile.TemporaryDirectory(prefix="desk-") as folder:
-            for name, data in files.items():
-                with open(os.path.join(folder, name), "wb") as f:
-                    f.write(data)
-            text = run_program(path, folder)
-    except OSError as e:
-        raise Stop(f"{' and '.join(files)} cannot be written for `{program}` among the temporary files: {e.strerror}. Nothing was written.")
-    if text == "unread\n":
-        raise Stop(f"`{program}` could not read {' and '.join(files)}, which desk.py made for it. Nothing was written.")
-    return text
-
-
-def run_program(path, folder):
-    """What the program prints, if it did not fail."""
-    try:
-        done = subprocess.run([path], cwd=folder, stdin=subprocess.DEVNULL, capture_output=True)
-    except OSError as e:
-        raise Stop(f"{path} cannot be run: {e.strerror}. It needs Linux on x86-64 (Intel or AMD).")
-    text = done.stdout.decode("ascii", "replace")
-    own = 1 if text.startswith("refused ") else 2 if text == "unread\n" else 0    # how `stages` ends after this text; `place` has 0 always
-    if done.returncode not in (0, own):
-        said = done.stderr.decode("utf-8", "replace").strip()
-        raise Stop(f"{path} ended with status {done.returncode}. {said}")
-    return text
-
-
-@dataclass
-class Answer:
-    next: tuple = None          # student, workshop
-    refused: tuple = None       # number, place
-    places: list = field(default_factory=list)
-    visits: list = field(default_factory=list)
-    fares: int = None           # the fares of these visits together
-
-
-def read_answer(text, year):
-    """The program's lines as numbers. Anything but a whole answer stops here; a line without its end does not count, and `fares` is the last one."""
-    answer, count = Answer(), None
-    for line in text.split("\n")[:-1]:
-        word, *numbers = line.split(" ")
-        if answer.fares is not None or not is_known(word, numbers, year):
-            raise Stop(f"`place` printed what desk.py does not know: {line}")
-        numbers = tuple(int(number) for number in numbers)
-        if word == "visits":
-            count = numbers[0]
-        elif word == "fares":
-            answer.fares = numbers[0]
-        elif word == "visit":
-            answer.visits.append(numbers)
-        elif word == "place":
-            answer.places.append(numbers)
-        elif word == "next":
-            answer.next = numbers
-        else:
-            answer.refused = numbers
-    placed = not answer.next and len(answer.places) == len(year.students)
-    whole = answer.refused or (count == len(answer.visits) and (answer.next or placed))
-    if not whole:
-        raise Stop("The answer of `place` was cut off. Run desk.py again.")
-    if answer.fares is None and not answer.refused:
-        raise Stop(f"The answer of `place` ends without the fares. Run desk.py again. Where that does not help, {too_old('place')}")
-    return answer
-
-
-def too_old(program):
-    return f"this `{program}` is older than desk.py and knows no fares: get the one that belongs to it."
-
-
-def is_known(word, numbers, year):
-    """A line of the program: a known word, with numbers of people that there are."""
-    if not all(re.fullmatch("[0-9]{1,9}", number) for number in numbers):
-        return False
-    if word in ("visits", "fares"):
-        return len(numbers) == 1
-    if word == "refused":
-        return len(numbers) == 2
-    lowest = 0 if word == "place" else 1    # workshop 0 is no place
-    return (word in ("place", "next", "visit") and len(numbers) == 2
-            and 1 <= int(numbers[0]) <= len(year.students) and lowest <= int(numbers[1]) <= len(year.workshops))
-
-
-def read_stages(text, year):
-    """Each student's stage, or the refusal's number and place. Anything but a whole answer stops here."""
-    refused = re.fullmatch("refused ([0-9]{1,9}) ([0-9]{1,9})\n", text)
-    if refused:
-        return [], (int(refused[1]), int(refused[2]))
-    stages = []
-    for line in text.split("\n")[:-1]:
-        found = re.fullmatch(f"stage {len(stages) + 1} ([0-9]{{1,3}})", line)
-        if not found or len(stages) == len(year.students) or not 1 <= int(found[1]) <= 512:
-            raise Stop(f"`stages` printed what desk.py does not know: {line}")
-        stages.append(int(found[1]))
-    if len(stages) != len(year.students):
-        raise Stop("The answer of `stages` was cut off. Nothing was written. Run desk.py stages again.")
-    return stages, None
-
-
 # ---------------------------------------------------------------- telling the answer
 
 
+def tell_answer(year, answer):
+    return tell_next(year, answer) if isinstance(answer, lgs.NextVisit) else tell_placement(year, answer)
+
+
 def tell_next(year, answer):
-    student, workshop = year.student(answer.next[0]), year.workshop(answer.next[1])
+    student, workshop = year.student(answer.student), year.workshop(answer.workshop)
     planned = year.planned.get((student, workshop))
     where = f"in {VISITS}, row {planned.at}" if planned else f"in a new row of {VISITS}"
     return [f"Next visit: {student} goes to {workshop}.",
             f"When it was held, write both marks {where}, save, and run desk.py again.",
+            tell_standing(year, answer),
             f"Visits so far: {len(answer.visits)}."] + tell_fares(year, answer) + tell_unused(year, answer)
+
+
+def tell_standing(year, answer):
+    """Which stage is in hand, and who is settled: with stages that agree, those of earlier stages. Who is dropped by a workshop is in hand next, also from
+    an earlier stage, so the stage in hand is the last one of which somebody was asked for a visit."""
+    stages = [row.cells["stage"] for row in year.students]
+    hand = max(stages[s - 1] for s, _ in [*answer.visits, answer[:2]])
+    settled = sum(stage < hand for stage in stages)
+    known = (f"{settled}; waiting: {len(stages) - settled}." if not disagreements(year)
+             else "not known before the end, because the stages do not agree.")
+    return f"Stage in hand: {hand} (the last is {max(stages)}). Students settled for good: {known}"
 
 
 def tell_fares(year, answer):
@@ -826,14 +775,41 @@ def tell_unused(year, answer):
 
 
 def tell_placement(year, answer):
-    goes = {year.student(s): year.workshop(w) if w else "no place" for s, w in answer.places}
+    goes = {year.student(s): year.workshop(w) if w else "no place" for s, w in enumerate(answer.places, 1)}
     width = max(len(name) for name in goes)
     lines = ["The placement is finished.", ""] + [f"  {name:{width}}  {place}" for name, place in goes.items()] + [""]
-    for row in year.workshops:
-        name = row.cells["workshop"]
-        taken = [student for student, place in zip(goes, answer.places) if place[1] and year.workshop(place[1]) == name]
-        lines.append(f"{name}, {len(taken)} of {row.cells['quota']}: {', '.join(taken) or 'nobody'}")
-    return lines + ["", f"Visits held for it: {len(answer.visits)}."] + tell_fares(year, answer) + tell_unused(year, answer)
+    for number, row in enumerate(year.workshops, 1):
+        taken = [student for student, place in zip(goes, answer.places) if place == number]
+        lines.append(f"{row.cells['workshop']}, {len(taken)} of {row.cells['quota']}: {', '.join(taken) or 'nobody'}")
+    return (lines + ["", tell_groups(year, answer), tell_seats(year, answer),
+                     f"Stage in hand: none, all are done. Students settled for good: {len(goes)}; waiting: 0.",
+                     f"Visits held for it: {len(answer.visits)}."] + tell_fares(year, answer) + tell_unused(year, answer))
+
+
+def tell_groups(year, answer):
+    """How many students have a workshop of their first, second, .. group. Numbers may be left out: the first is the best one that the student has."""
+    own = {row.cells["student"]: set() for row in year.students}
+    for row in year.pairs:
+        own[row.cells["student"]].add(row.cells["group from student"])
+    ranks = []
+    for number, place in enumerate(answer.places, 1):
+        if place:
+            student = year.student(number)
+            ranks.append(sorted(own[student]).index(year.pair_of[student, year.workshop(place)].cells["group from student"]) + 1)
+    counts = [f"{'' if rank == 1 else 'of their '}{ordinal(rank)} group: {ranks.count(rank)}" for rank in range(1, max(ranks, default=0) + 1)]
+    placed = [f"Students with a workshop of their {', '.join(counts)}."] if counts else []
+    return " ".join(placed + [f"Students without a place: {answer.places.count(0)}."])
+
+
+def ordinal(number):
+    words = ["first", "second", "third", "fourth", "fifth", "sixth"]
+    ends = {1: "st", 2: "nd", 3: "rd"}
+    return words[number - 1] if number <= len(words) else f"{number}{'th' if number in (11, 12, 13) else ends.get(number % 10, 'th')}"
+
+
+def tell_seats(year, answer):
+    seats, taken = sum(row.cells["quota"] for row in year.workshops), sum(place > 0 for place in answer.places)
+    return f"Seats filled: {taken} of {seats}."
 
 
 def tell_visits(year, answer):
@@ -845,30 +821,45 @@ def tell_visits(year, answer):
 
 def groups_that_count(year, workshop):
     """The workshop's groups of its students, by name, without those above its line group; none if its quota is 0."""
-    there = {row.cells["student"]: row.cells["group from workshop"] for row in year.pairs if row.cells["workshop"] == workshop.cells["workshop"]}
+    there = {row.cells["student"]: row.cells["group from workshop"] for row in year.pairs_at[workshop.cells["workshop"]]}
     return {name: group for name, group in there.items() if workshop.cells["quota"] and group <= workshop.cells["line group"]}
 
 
-def disagreement(year, workshop):
-    """Two students whose stages do not go with their groups at this workshop."""
+def disagreements(year):
+    """The workshops with whose groups the stages do not agree, each with two students there."""
     stage = {row.cells["student"]: row.cells["stage"] for row in year.students}
-    seen = sorted((group, stage[name], name) for name, group in groups_that_count(year, workshop).items())
-    for one, two in zip(seen, seen[1:]):
-        if (one[0] < two[0]) != (one[1] < two[1]):
-            return one[2], two[2]
-    return None
+    found = []
+    for row in year.workshops:
+        seen = sorted((group, stage[name], name) for name, group in groups_that_count(year, row).items())
+        two = next(((one[2], two[2]) for one, two in zip(seen, seen[1:]) if (one[0] < two[0]) != (one[1] < two[1])), None)
+        found += [(row.cells["workshop"], *two)] if two else []
+    return found
 
 
 def tell_stages(year):
     """A note where the list of visits may be longer than needed."""
-    found = [(row.cells["workshop"], disagreement(year, row)) for row in year.workshops]
-    lines = [f"  {name}: {who[0]} and {who[1]}" for name, who in found if who]
+    lines = [f"  {name}: {one} and {two}" for name, one, two in disagreements(year)]
     if len(lines) > 3:
         lines = lines[:3] + [f"  and {len(lines) - 3} more workshops"]
     if not lines:
         return []
     return (["", "Note: at these workshops the stages do not agree with the groups, so more visits may be asked for than needed:"] + lines
             + ['"python3 desk.py stages" works out stages that agree, if there are any.'])
+
+
+def tell_unfinished(year):
+    """Notes on tables that look as if rows were still to come."""
+    if not year.pairs:
+        return ["", f"Note: {PAIRS} has no rows yet, so nobody can be placed."]
+    notes = [] if any(row.cells["quota"] for row in year.workshops) else [f"Note: every quota in {WORKSHOPS} is 0, so nobody can be placed."]
+    for rows, heading in ((year.students, "student"), (year.workshops, "workshop")):
+        there = {row.cells[heading] for row in year.pairs}
+        missing = [row.cells[heading] for row in rows if row.cells[heading] not in there]
+        if missing:
+            more = f" and {len(missing) - 5} more" if len(missing) > 5 else ""
+            notes.append(f"Note: no row in {PAIRS} has {'this' if len(missing) == 1 else 'these'} {heading}{'s' * (len(missing) > 1)}: "
+                         f"{', '.join(missing[:5])}{more}.")
+    return [""] + notes if notes else []
 
 
 def tell_worked_out(year, stages, before):
@@ -943,22 +934,24 @@ def way_back(counts, orders, start):
     return steps if start in came else []
 
 
-def explain_refusal(year, program, number, place):
-    """What the program refused, with the row that it points to."""
-    where, words = REFUSALS.get(number, ("", "desk.py does not know this number"))
-    file, row = row_at(year, where, place)
+def explain_refusal(year, refused):
+    """What was refused, with the row that it points to."""
+    if refused.number == lgs.Cause.NO_STAGES:
+        return explain_no_stages(year)
+    file, row = row_at(year, refused)
     if row is None:
-        return f"`{program}` refused the files, number {number}: {words}."
-    lines = equal_marks(year, row) if number == 11 else []
-    if number == 2 and row.cells.get(FARE.heading):
-        lines = [f"  This row has a fare: {too_old(program)}"]
-    return "\n".join([f"{file}, row {row.at}: {words}."] + lines)
+        return f"The engine refused the tables, number {refused.number}: {refused.text}"
+    if refused.number == lgs.Cause.BOOK_TIE:
+        return "\n".join([f"{file}, row {row.at}: a student gave the same mark twice in one group. Ask her which of the two is better, and change one mark."]
+                         + equal_marks(year, row))
+    return f"{file}, row {row.at}: the engine refused it, number {refused.number}: {refused.text}"
 
 
-def row_at(year, where, place):
-    """The row from which a record of case.dat or book.dat was made."""
-    lists = {CASE_RECORDS: [(STUDENTS, year.students), (WORKSHOPS, year.workshops), (PAIRS, year.pairs)], VISITS: [(VISITS, year.visits)]}
-    for file, rows in lists.get(where, []):
+def row_at(year, refused):
+    """The row from which the record was made that a refusal names, if it names one."""
+    case, book = [(STUDENTS, year.students), (WORKSHOPS, year.workshops), (PAIRS, year.pairs)], [(VISITS, year.visits)]
+    lists, place = {2: case, 3: case, 5: case, 13: case, 8: book, 9: book, 10: book, 11: book}.get(refused.number, []), refused.place
+    for file, rows in lists:
         if place < len(rows):
             return file, rows[place]
         place -= len(rows)
@@ -967,11 +960,108 @@ def row_at(year, where, place):
 
 def equal_marks(year, row):
     """The earlier visits in which the same student gave the same mark in the same group."""
-    groups = {couple_of(pair): pair.cells["group from student"] for pair in year.pairs}
+    groups = {couple: pair.cells["group from student"] for couple, pair in year.pair_of.items()}
     student, mark = row.cells["student"], row.cells["mark from student"]
     same = [early for early in year.visits[:year.visits.index(row)] if early.cells["student"] == student
             and early.cells["mark from student"] == mark and groups[couple_of(early)] == groups[couple_of(row)]]
     return [f'  {student} gave {mark} in row {early.at} too, column "mark from student".' for early in same]
+
+
+# ---------------------------------------------------------------- why a student is not at a workshop
+
+
+@dataclass
+class Side:
+    """A pair as one of the two sees it: its group, its line group, and its mark if they have met."""
+    group: int
+    line: int
+    mark: object = None
+
+    def is_beyond(self):
+        """It would rather have none."""
+        return self.group > self.line or (self.group == self.line and self.mark is not None and self.mark < 0)
+
+    def is_above(self, other):
+        """This one is better than another: in a better group, or in the same one with a higher mark, where both are known."""
+        return self.group < other.group or (self.group == other.group and None not in (self.mark, other.mark) and self.mark > other.mark)
+
+
+def side(year, student, workshop, who):
+    """How this pair looks from the student or the workshop."""
+    file, name = (STUDENTS, student) if who == "student" else (WORKSHOPS, workshop)
+    rows = year.students if file == STUDENTS else year.workshops
+    visit = year.visit_of.get((student, workshop))
+    return Side(year.pair_of[student, workshop].cells[f"group from {who}"], rows[year.names[file][name] - 1].cells["line group"],
+                visit and visit.cells[f"mark from {who}"])
+
+
+def find_name(year, file, typed):
+    """The name that was typed. Small letters for capitals, and letters without their accents, will do where only one name is meant."""
+    names, name = year.names[file], clean(typed)
+    for read in (str, str.lower, lambda text: plain_letters(text).lower()):
+        alike = [other for other in names if read(other) == read(name)]
+        if len(alike) > 1:
+            raise Stop(f'"{name}" may be {" or ".join(alike)}. Type the name as it stands in {file}.')
+        if alike:
+            return alike[0]
+    raise Stop(f'There is no "{name}" in {file}.' + hint(name, names, Problems()))
+
+
+def reasons(year, answer, student, workshop):
+    """Why the student is not at the workshop: each reason that holds, in a sentence, the first one to be told."""
+    if (student, workshop) not in year.pair_of:
+        yield f"{student} and {workshop} have no row in {PAIRS}, so they cannot be placed together."
+        return
+    hers, its = side(year, student, workshop, "student"), side(year, student, workshop, "workshop")
+    never = [name for name, one in ((student, hers), (workshop, its)) if one.mark == NEVER]
+    if never:
+        yield f"Their visit ended in never: {' and '.join(never)} said that they cannot be placed together."
+        return
+    place = 0 if isinstance(answer, lgs.NextVisit) else answer.places[year.names[STUDENTS][student] - 1]
+    if place:
+        yield from likes_better(year, student, workshop, year.workshop(place), hers)
+    if hers.is_beyond():
+        yield beyond(student, workshop, hers, "she would rather have no place")
+    if its.is_beyond():
+        yield beyond(workshop, student, its, "it would rather leave a seat empty")
+    if not year.workshops[year.names[WORKSHOPS][workshop] - 1].cells["quota"]:
+        yield f"{workshop} takes nobody: its quota is 0."
+    elif isinstance(answer, lgs.Placement):
+        yield from is_full(year, answer, student, workshop, its)
+
+
+def beyond(one, other, its, rather):
+    if its.group > its.line:
+        return f"{one} has {other} in group {its.group}, beyond the line group {its.line}: {rather}."
+    return f"{one} has {other} in the line group {its.line} and gave the mark {its.mark}, below 0: {rather}."
+
+
+def likes_better(year, student, workshop, other, hers):
+    better = side(year, student, other, "student")
+    if better.is_above(hers) and better.group < hers.group:
+        yield f"{student} has {other}, which she likes better: it is in her group {better.group}, and {workshop} in her group {hers.group}."
+    elif better.is_above(hers):
+        yield (f"{student} has {other}, which she likes better: both are in her group {hers.group}, "
+               f"and she gave {other} the mark {better.mark} and {workshop} the mark {hers.mark}.")
+
+
+def is_full(year, answer, student, workshop, its):
+    """The workshop has no free seat, and the lowest of those who are there stands above her."""
+    number = year.names[WORKSHOPS][workshop]
+    there = [year.student(s) for s, w in enumerate(answer.places, 1) if w == number]
+    if len(there) < year.workshops[number - 1].cells["quota"]:
+        return
+    lot = {row.cells["student"]: row.cells["lot"] for row in year.students}
+    seen = {name: side(year, name, workshop, "workshop") for name in there}
+    lowest = max(there, key=lambda name: (seen[name].group, -seen[name].mark, lot[name]))
+    above, full = seen[lowest], f"{workshop} is full ({len(there)} of {len(there)}), and the lowest there, {lowest}, stands above {student}"
+    if above.group < its.group:
+        yield f"{full} by group: {above.group} before {its.group}."
+    elif above.is_above(its):
+        yield f"{full} by mark: both are in its group {its.group}, and it gave {lowest} the mark {above.mark} and {student} the mark {its.mark}."
+    elif above.group == its.group and above.mark == its.mark and lot[lowest] < lot[student]:
+        yield (f"{full} by lot: both are in its group {its.group} with the mark {its.mark}, "
+               f"and the lot {lot[lowest]} of {lowest} is lower than the lot {lot[student]} of {student}.")
 
 
 # ---------------------------------------------------------------- drawing lots
@@ -1008,31 +1098,91 @@ def example_rows(file):
     return [(*row, lot) for row, lot in zip(rows, draw_lots(len(rows)))] if file == STUDENTS else rows
 
 
+def table_bytes(rows, comma):
+    """The bytes of a table, as spreadsheets read it."""
+    text = io.StringIO()
+    csv.writer(text, delimiter=comma).writerows(rows)
+    return text.getvalue().encode("utf-8-sig")
+
+
 @one_at_a_time("new")
 def new(semicolon):
     """Writes the four files with the example, where none of them is."""
     there = [file for file in COLUMNS if os.path.exists(file)]
     if there:
         raise Stop(f"{' and '.join(there)} {'is' if len(there) == 1 else 'are'} in this folder already. Nothing was written.")
-    contents = {}
-    for file in EXAMPLE:
-        text = io.StringIO()
-        writer = csv.writer(text, delimiter=";" if semicolon else ",")
-        writer.writerow([column.heading for column in COLUMNS[file]])
-        writer.writerows(example_rows(file))
-        contents[file] = text.getvalue().encode("utf-8-sig")
+    contents = {file: table_bytes([[column.heading for column in COLUMNS[file]], *example_rows(file)], ";" if semicolon else ",") for file in EXAMPLE}
     write_files(contents)
     return [f"Wrote {', '.join(contents)}. The lots are drawn at random.", "Put your own year in them with a spreadsheet, or try the example: python3 desk.py"]
 
 
-def answer(place, list_visits):
-    """Checks the four files, runs the program, and tells its answer."""
+def answer(list_visits, out):
+    """Checks the four files, asks the engine, and tells its answer; as tables, too, in the folder `out`, if one is named."""
+    if out is None:
+        return find_and_tell(list_visits)
+    make_folder(out)
+    with one_at_a_time("--csv", os.path.join(out, PLACEMENT_TABLE)):
+        return find_and_tell(list_visits, out)
+
+
+def find_and_tell(list_visits, out=None):
     year = read_year(read_tables(COLUMNS))
-    found = read_answer(ask("place", place, {"case.dat": case_bytes(year), "book.dat": book_bytes(year)}), year)
-    if found.refused:
-        raise Stop(explain_refusal(year, "place", *found.refused))
-    lines = tell_next(year, found) if found.next else tell_placement(year, found)
-    return lines + (tell_visits(year, found) if list_visits else []) + tell_stages(year)
+    found = find_answer(year)
+    lines = tell_answer(year, found) + (tell_visits(year, found) if list_visits else []) + tell_stages(year) + tell_unfinished(year)
+    if out is None:
+        return lines
+    contents = {os.path.join(out, name): table_bytes([OUT[name], *rows], year.comma) for name, rows in out_rows(year, found).items()}
+    for path in contents:
+        check_ours(path)
+        check_closed(path)
+    write_files(contents)
+    return lines + ["", f"Wrote {' and '.join(contents)}."]
+
+
+def make_folder(path):
+    try:
+        os.makedirs(path, exist_ok=True)
+    except OSError as e:
+        raise Stop(f"There is no folder {path}, and it cannot be made: {e.strerror}. Nothing was written.")
+
+
+def out_rows(year, answer):
+    """The rows of next.csv and placement.csv: one of the two has only its headings."""
+    rows = {NEXT_TABLE: [], PLACEMENT_TABLE: []}
+    if isinstance(answer, lgs.NextVisit):
+        rows[NEXT_TABLE] = [(year.student(answer.student), year.workshop(answer.workshop), "", "")]
+        return rows
+    for number, place in enumerate(answer.places, 1):
+        couple = (year.student(number), year.workshop(place) if place else "")
+        groups = [year.pair_of[couple].cells[heading] if place else "" for heading in OUT[PLACEMENT_TABLE][2:]]
+        rows[PLACEMENT_TABLE].append((*couple, *groups))
+    return rows
+
+
+def check_ours(path):
+    """A file of this name that desk.py did not write stays."""
+    with contextlib.suppress(Missing):
+        text = text_of(path, read_file(path).data)
+        if next(split_rows(text), None) != OUT[os.path.basename(path)]:
+            raise Stop(f"{path} is there already, and has other headings than desk.py writes. Nothing was written. Name another folder.")
+
+
+def why(typed_student, typed_workshop):
+    """Why the student is not at the workshop, in one or two sentences."""
+    year = read_year(read_tables(COLUMNS))
+    student, workshop = find_name(year, STUDENTS, typed_student), find_name(year, WORKSHOPS, typed_workshop)
+    found = find_answer(year)
+    finished = isinstance(found, lgs.Placement)
+    if finished and found.places[year.names[STUDENTS][student] - 1] == year.names[WORKSHOPS][workshop]:
+        return [f"{student} is placed at {workshop}."]
+    reason = next(reasons(year, found, student, workshop), None)
+    if reason is None and finished:
+        raise Stop(f"desk.py found no reason why {student} is not at {workshop}. That should not be: please tell those who made desk.py, with the four tables.")
+    if reason is None:
+        couple = year.student(found.student), year.workshop(found.workshop)
+        reason = ("It is not decided yet: " + ("this visit is the next one to be held." if couple == (student, workshop)
+                                               else f"the next visit is {couple[0]} at {couple[1]}."))
+    return [f"{student} is not placed at {workshop}.", reason] if finished else [reason]
 
 
 @one_at_a_time("lots")
@@ -1051,16 +1201,14 @@ def fill_in_lots():
 
 
 @one_at_a_time("stages")
-def work_out_stages(program):
-    """Checks students, workshops and pairs, runs `stages`, writes what it found in students.csv, and tells it."""
+def work_out_stages():
+    """Checks students, workshops and pairs, asks the engine for the stages, writes them in students.csv, and tells them."""
     tables = read_tables([STUDENTS, WORKSHOPS, PAIRS])
     year = read_year(tables, for_stages=True)
     before = [row.cells["stage"] for row in year.students]
     for row in year.students:
-        row.cells["stage"] = row.cells["stage"] or 1    # any will do: `stages` only checks its range
-    stages, refused = read_stages(ask("stages", program, {"case.dat": case_bytes(year)}), year)
-    if refused:
-        raise Stop(explain_no_stages(year) if refused[0] == NO_STAGES else explain_refusal(year, "stages", *refused))
+        row.cells["stage"] = row.cells["stage"] or 1    # any will do: only its range is checked
+    stages = ask(year, lgs.stages, case_bytes(year))
     changed = {row.at: new for row, old, new in zip(year.students, before, stages) if old != new}
     lines = tell_worked_out(year, stages, before) + [""]
     if not changed:
@@ -1070,34 +1218,62 @@ def work_out_stages(program):
 
 
 def tell(lines):
-    """Prints the answer. A full disk, where it goes to a file, is told."""
+    """Prints the answer. A full disk, where it goes to a file, is told; whoever reads no further has seen enough."""
     try:
         print("\n".join(lines), flush=True)
     except OSError as e:
         os.dup2(os.open(os.devnull, os.O_WRONLY), sys.stdout.fileno())
-        raise Stop(f"The answer could not be written: {e.strerror}.")
+        if not isinstance(e, BrokenPipeError):
+            raise Stop(f"The answer could not be written: {e.strerror}.")
 
 
-def main():
+LETTERS = dict(zip("ßæøłđðþœıÆØŁĐÐÞŒ", "ss ae o l d d th oe i AE O L D D Th OE".split()))    # those that are no letter with an accent
+
+
+def plain_letters(text):
+    """Letters without their accents."""
+    return "".join(LETTERS.get(letter) or unicodedata.normalize("NFKD", letter)[0] for letter in unicodedata.normalize("NFC", text))
+
+
+def shown(error):
+    """What is shown for a letter that the terminal does not know: the letter without its accent, else its number."""
+    letter = error.object[error.start]
+    plain = plain_letters(letter)
+    return plain if plain.isascii() else f"(U+{ord(letter):04X})", error.start + 1
+
+
+def read_command():
     parser = argparse.ArgumentParser(description=__doc__, formatter_class=argparse.RawDescriptionHelpFormatter)
-    parser.add_argument("command", nargs="?", default="next", choices=["next", "new", "lots", "stages"],
-                        help="next, the same as none, or new, or lots, or stages")
-    parser.add_argument("--place", metavar="PATH", help="next: the program `place`")
-    parser.add_argument("--stages", metavar="PATH", help="stages: the program `stages`")
+    parser.add_argument("command", nargs="?", default="next", choices=["next", "new", "lots", "stages", "why"],
+                        help="next, the same as none, or new, lots, stages, why")
+    parser.add_argument("names", nargs="*", metavar="NAME", help="why: the student, and the workshop")
+    parser.add_argument("--csv", metavar="DIR", help="next: write the answer as tables in this folder, too")
     parser.add_argument("--visits", action="store_true", help="next: list the visits held, too")
     parser.add_argument("--semicolon", action="store_true", help="new: semicolons between the cells, not commas")
     options = parser.parse_args()
-    sys.stdout.reconfigure(errors="replace")
-    sys.stderr.reconfigure(errors="replace")
-    for number in (signal.SIGHUP, signal.SIGTERM):    # so that what is to be removed is removed
+    if len(options.names) != (2 if options.command == "why" else 0):
+        parser.error('why takes two names: desk.py why "Anna Berg" "Dye house"' if options.command == "why" else f"{options.command} takes no names")
+    for name, given, command in (("--csv", options.csv is not None, "next"), ("--visits", options.visits, "next"), ("--semicolon", options.semicolon, "new")):
+        if given and options.command != command:
+            parser.error(f"{options.command} takes no {name}")
+    return options
+
+
+def main():
+    codecs.register_error("desk", shown)
+    sys.stdout.reconfigure(errors="desk")
+    sys.stderr.reconfigure(errors="desk")
+    options = read_command()
+    for number in ENDS:    # so that what is to be removed is removed
         if signal.getsignal(number) == signal.SIG_DFL:
             signal.signal(number, lambda number, _: sys.exit(128 + number))
-    commands = {"new": lambda: new(options.semicolon), "lots": fill_in_lots, "stages": lambda: work_out_stages(options.stages),
-                "next": lambda: answer(options.place, options.visits)}
+    commands = {"new": lambda: new(options.semicolon), "lots": fill_in_lots, "stages": work_out_stages, "why": lambda: why(*options.names),
+                "next": lambda: answer(options.visits, options.csv)}
     try:
         tell(commands[options.command]())
     except Stop as stop:
-        print(stop, file=sys.stderr)
+        with contextlib.suppress(BrokenPipeError):
+            print(stop, file=sys.stderr, flush=True)
         return 1
     return 0
 

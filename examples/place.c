@@ -4,37 +4,48 @@
  *   tools/build
  *   gcc -O2 -Iinclude -o target/bin/example examples/place.c target/lib/liblgs.a
  *
- * Exit status: 0 for an answer, 1 for a refusal, 2 where a file cannot be read, memory is short, or the text cannot be written. */
+ * Exit status: 0 for an answer, 1 for a refusal, 2 where a file cannot be read, memory is short, or the text cannot be written; an error message says which. */
 #include "lgs.h"
 
 #include <inttypes.h>
 #include <stdio.h>
 #include <stdlib.h>
 
+/* Says what failed, and the system's reason. */
+static void fail(const char *what)
+{
+    perror(what);
+    exit(2);
+}
+
 /* count entries of this size, all zero; for none it may be null. */
 static void *lend(size_t count, size_t size)
 {
     void *entries = calloc(count, size);
     if (entries == NULL && count > 0)
-        exit(2);
+        fail("memory for the buffers");
     return entries;
 }
 
-/* The bytes of a file, and how many. */
+/* All bytes of a file, and how many. */
 static uint8_t *read_file(const char *name, size_t *length)
 {
     FILE *file = fopen(name, "rb");
-    if (file == NULL || fseek(file, 0, SEEK_END) != 0)
-        exit(2);
-    long end = ftell(file);
-    rewind(file);
-    if (end < 0)
-        exit(2);
-    uint8_t *bytes = lend((size_t)end, 1);
-    *length = fread(bytes, 1, (size_t)end, file);
-    if (*length != (size_t)end)
-        exit(2);
+    if (file == NULL)
+        fail(name);
+    uint8_t *bytes = NULL;
+    size_t room = 0, used = 0;
+    while (used == room) {
+        room = room == 0 ? 65536 : 2 * room;
+        bytes = realloc(bytes, room);
+        if (bytes == NULL)
+            fail(name);
+        used += fread(bytes + used, 1, room - used, file);
+    }
+    if (ferror(file))
+        fail(name);
     fclose(file);
+    *length = used;
     return bytes;
 }
 
@@ -68,6 +79,8 @@ int main(void)
             printf("visit %u %u\n", visits[2 * i], visits[2 * i + 1]);
         printf("fares %" PRIu64 "\n", answer.fares);
     }
+    if (fflush(stdout) != 0 || ferror(stdout))
+        fail("the text could not be written");
     free(states);
     free(index);
     free(seats);
@@ -75,7 +88,5 @@ int main(void)
     free(places);
     free(book_bytes);
     free(case_bytes);
-    if (fflush(stdout) != 0 || ferror(stdout))
-        return 2;
     return answer.kind == LGS_REFUSED;
 }

@@ -38,7 +38,10 @@ static const unsigned FARES[PAIRS] = {1, 256, 65535, 4660, 65535, 16};
 static const uint64_t COST[VISITS + 1] = {0, 1, 257, 4917, 4933};
 static uint8_t K_FARES[sizeof K_CASE]; /* K with these fares, from the start of main on */
 
-enum { PAGE = 4096, PAGES = 20, ROOM = PAGE * PAGES };
+/* The largest case. */
+enum { ALL = 512, SHOPS = 64, LARGE_PAIRS = ALL * SHOPS, LARGE_RECORDS = ALL + SHOPS + LARGE_PAIRS };
+
+enum { PAGE = 4096, PAGES = 16 * LARGE_RECORDS / PAGE + 1, ROOM = PAGE * PAGES };
 
 /* Bytes that start right behind a forbidden page, or end right before one. */
 static void *guarded(size_t length, int at_end)
@@ -54,11 +57,11 @@ static void give_back(void *bytes, size_t length, int at_end)
     munmap((uint8_t *)bytes - PAGE - (at_end ? ROOM - length : 0), ROOM + 2 * PAGE);
 }
 
-/* Bytes within one page may not be written any more. */
+/* The pages of these bytes may not be written any more. */
 static void only_read(void *bytes, size_t length)
 {
-    uintptr_t page = (uintptr_t)bytes / PAGE * PAGE;
-    if (length > PAGE || mprotect((void *)page, length == 0 ? 0 : PAGE, PROT_READ) != 0)
+    uintptr_t first = (uintptr_t)bytes / PAGE * PAGE, end = ((uintptr_t)bytes + length + PAGE - 1) / PAGE * PAGE;
+    if (mprotect((void *)first, end - first, PROT_READ) != 0)
         exit(2);
 }
 
@@ -78,7 +81,7 @@ typedef struct {
 typedef struct {
     lgs_report report;
     uint8_t behind[64];
-    uint16_t places[512], visits[8192];
+    uint16_t places[LGS_MOST_PLACES], visits[2 * LARGE_RECORDS];
     int zero;   /* all scratch is zero */
     int within; /* the answer's address came back, and what is behind it is as it was */
 } result;
@@ -503,6 +506,91 @@ static void both(void)
     check(is(r.report, LGS_PLACED, 0, 0, VISITS, 0) && memcmp(r.places, K_PLACES, sizeof K_PLACES) == 0, "the engine with these stages");
 }
 
+/* 512 students, lots downward, 64 workshops of 512 seats, and all pairs. */
+static uint8_t LARGE[16 * LARGE_RECORDS], LARGE_BOOK[8 * LARGE_PAIRS];
+
+/* The next record. */
+static void add(size_t *record, uint8_t kind, size_t a, size_t b, size_t c, size_t d, unsigned fare)
+{
+    const size_t field[4] = {a, b, c, d};
+    LARGE[16 * *record] = kind;
+    for (size_t i = 0; i < 4; i++)
+        put(LARGE, *record, 2 * i + 2, (unsigned)field[i]);
+    put(LARGE, *record, 10, fare);
+    *record += 1;
+}
+
+/* The students have the workshops in groups by their numbers, or all in one; the workshops have all students in one. */
+static void large_case(int one_group, unsigned fare)
+{
+    size_t record = 0;
+    for (size_t s = 1; s <= ALL; s++)
+        add(&record, 1, s, 1, 65, ALL + 1 - s, 0);
+    for (size_t w = 1; w <= SHOPS; w++)
+        add(&record, 2, w, 512, 513, 0, 0);
+    for (size_t i = 0; i < LARGE_PAIRS; i++)
+        add(&record, 3, i / SHOPS + 1, i % SHOPS + 1, one_group ? 1 : i % SHOPS + 1, 1, fare);
+}
+
+/* The visits of all students to the first so many workshops, by student; her mark is the workshop's number. The book's length. */
+static size_t large_book(size_t shops)
+{
+    for (size_t i = 0; i < ALL * shops; i++) {
+        const uint8_t visit[8] = {(uint8_t)((i / shops + 1) & 255), (uint8_t)((i / shops + 1) >> 8), (uint8_t)(i % shops + 1), 0,
+                                  (uint8_t)(i % shops + 1), 0, 1, 0};
+        memcpy(LARGE_BOOK + 8 * i, visit, 8);
+    }
+    return 8 * ALL * shops;
+}
+
+/* The large case and so much of this book: its visits are listed, and after the last of all of them each student is at the last of these workshops. */
+static void large_place(size_t shops, size_t book_length, uint64_t fares, const char *what, int at_end)
+{
+    loan l = {LARGE, LARGE_BOOK, sizeof LARGE, book_length, LGS_MOST_PLACES, 2 * LARGE_RECORDS, LGS_MOST_SEATS, LARGE_RECORDS, LGS_MOST_STATES};
+    result r = call(l, at_end);
+    size_t visits = book_length / 8, wrong = 0;
+    int whole = visits == ALL * shops;
+    for (size_t i = 0; i < visits; i++)
+        wrong += r.visits[2 * i] != i / shops + 1 || r.visits[2 * i + 1] != i % shops + 1;
+    for (size_t i = 0; i < ALL; i++)
+        wrong += r.places[i] != (whole ? shops : 0xA5A5);
+    check(whole ? is(r.report, LGS_PLACED, 0, 0, visits, fares) : is(r.report, LGS_NEXT, visits / shops + 1, visits % shops + 1, visits, fares), what);
+    check(wrong == 0 && as_lent(r.visits, 2 * visits, l.visits), "places and visits of the largest case");
+    check(r.zero && r.within, "scratch is zero after the largest case, and nothing is written behind the answer");
+}
+
+/* The workshops have the students in groups downward, or the last one has them from the middle on. */
+static void large_groups(int turned)
+{
+    for (size_t i = 0; i < LARGE_PAIRS; i++) {
+        size_t s = i / SHOPS + 1, w = i % SHOPS + 1;
+        put(LARGE, ALL + SHOPS + i, 8, (unsigned)(turned ? (s + (w == SHOPS ? 256 : 0)) % ALL + 1 : ALL + 1 - s));
+    }
+}
+
+static void large_stages(int at_end)
+{
+    large_groups(0);
+    stages_result r = call_stages(LARGE, sizeof LARGE, LGS_MOST_STAGES, at_end);
+    size_t wrong = 0;
+    for (size_t i = 0; i < ALL; i++)
+        wrong += r.stages[i] != ALL - i;
+    check(is_part(r.report, LGS_DONE, ALL, 0) && wrong == 0 && r.within, "a chain of 512 stages");
+    large_groups(1);
+    stages_refusal(LARGE, sizeof LARGE, LGS_MOST_STAGES, LGS_NO_STAGES, 0, "one workshop of 64 turned", at_end);
+}
+
+static void large(int at_end)
+{
+    large_case(0, 0);
+    large_place(1, large_book(1), 0, "512 x 64, a visit each", at_end);
+    large_case(1, 65535);
+    size_t length = large_book(SHOPS);
+    large_place(SHOPS, length, 2147450880, "the largest total", at_end);
+    large_place(SHOPS, length - 8, 2147385345, "the largest total, one visit before", at_end);
+    large_stages(at_end);
+}
+
 static void *many_stages(void *number)
 {
     size_t wrong = 0;
@@ -530,6 +618,7 @@ int main(void)
         lots(at_end);
         fares(at_end);
         stages(at_end);
+        large(at_end);
     }
     overlap();
     both();

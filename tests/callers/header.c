@@ -31,7 +31,8 @@ ASSERT(offsetof(lgs_part_report, first) == 8 && sizeof(((lgs_part_report *)0)->f
 ASSERT(offsetof(lgs_part_report, second) == 16 && sizeof(((lgs_part_report *)0)->second) == 8);
 ASSERT(LGS_DONE == 0 && LGS_NO_STAGES == 12 && LGS_MOST_STAGES == 512);
 
-/* The prototypes again: another type in the header is an error here. The order among equal types is tested by from_python.py. */
+/* The prototypes again: another type in the header is an error here. The order of the names is tested by header_facts.c and
+ * from_python.py. */
 #ifdef __cplusplus
 extern "C" {
 #endif

@@ -44,22 +44,47 @@ static void *lend(size_t count, size_t size)
     return entries == NULL ? NULL : memset(entries, 0xA5, count * size);
 }
 
-/* The refusal of lgs_place with an empty book and these lengths, or 0 for an answer. */
-static uint64_t place(const uint8_t *bytes, size_t length, lgs_lengths l)
+/* The answer of lgs_place with these lengths. */
+static lgs_report placed(const uint8_t *bytes, size_t length, const uint8_t *book, size_t book_length, lgs_lengths l)
 {
     uint16_t *places = lend(l.places, 2), *visits = lend(l.visits, 2), *seats = lend(l.seats, 2), *index = lend(l.index, 2);
     lgs_student_state *states = lend(l.states, sizeof *states);
-    lgs_report r = lgs_place(bytes, length, NULL, 0, places, l.places, visits, l.visits, seats, l.seats, index, l.index, states, l.states);
+    lgs_report r = lgs_place(bytes, length, book, book_length, places, l.places, visits, l.visits, seats, l.seats, index, l.index, states, l.states);
     free(places), free(visits), free(seats), free(index), free(states);
+    return r;
+}
+
+/* The answer of lgs_stages with these lengths. */
+static lgs_part_report staged(const uint8_t *bytes, size_t length, lgs_lengths l)
+{
+    uint16_t *lent = lend(l.stages, 2);
+    lgs_part_report r = lgs_stages(bytes, length, lent, l.stages);
+    free(lent);
+    return r;
+}
+
+/* The refusal of lgs_place with a null book, or 0 for an answer. */
+static uint64_t place(const uint8_t *bytes, size_t length, lgs_lengths l)
+{
+    lgs_report r = placed(bytes, length, NULL, 0, l);
     return r.kind == LGS_REFUSED ? r.first : 0;
 }
 
 static uint64_t stages(const uint8_t *bytes, size_t length, lgs_lengths l)
 {
-    uint16_t *lent = lend(l.stages, 2);
-    lgs_part_report r = lgs_stages(bytes, length, lent, l.stages);
-    free(lent);
+    lgs_part_report r = staged(bytes, length, l);
     return r.kind == LGS_REFUSED ? r.first : 0;
+}
+
+/* The answer is this refusal, which names no record. */
+static int refused(lgs_report r, uint64_t number)
+{
+    return r.kind == LGS_REFUSED && r.first == number && r.second == 0 && r.visits == 0 && r.fares == 0;
+}
+
+static int part_refused(lgs_part_report r, uint64_t number)
+{
+    return r.kind == LGS_REFUSED && r.first == number && r.second == 0;
 }
 
 /* With one entry less, where there is one, the case is refused for it. */
@@ -136,15 +161,20 @@ static void any_bytes(void)
 /* Null with the length 0, for what is read, for what is written, and for all. */
 static void nulls(void)
 {
+    static const uint8_t BOOK[8] = {1, 0, 1, 0, 1, 0, 1, 0};
     lgs_lengths none = lgs_needs(NULL, 0), all;
     check(none.places + none.visits + none.seats + none.index + none.states + none.stages == 0, "no case, no lengths");
-    check(place(NULL, 0, none) == LGS_CASE_COUNTS && stages(NULL, 0, none) == LGS_CASE_COUNTS, "everything null");
+    check(refused(placed(NULL, 0, NULL, 0, none), LGS_CASE_COUNTS), "everything null");
+    check(part_refused(staged(NULL, 0, none), LGS_CASE_COUNTS), "case and stages null");
     make(3, 2, 1, 2);
-    check(place(case_bytes, 16 * records, none) == LGS_SHORT_BUFFER && stages(case_bytes, 16 * records, none) == LGS_SHORT_BUFFER, "every buffer null");
-    check(place(case_bytes, 15, none) == LGS_CASE_LENGTH, "every buffer null, half a case");
+    check(refused(placed(case_bytes, 16 * records, BOOK, sizeof BOOK, none), LGS_SHORT_BUFFER), "every buffer null");
+    check(refused(placed(case_bytes, 16 * records, NULL, 0, none), LGS_SHORT_BUFFER), "every buffer and the book null");
+    check(part_refused(staged(case_bytes, 16 * records, none), LGS_SHORT_BUFFER), "the stages null");
+    check(refused(placed(case_bytes, 15, NULL, 0, none), LGS_CASE_LENGTH), "every buffer null, half a case");
     all = lgs_needs(case_bytes, 16 * records);
-    check(place(NULL, 0, all) == LGS_CASE_COUNTS && stages(NULL, 0, all) == LGS_CASE_COUNTS, "the case null");
-    check(place(case_bytes, 16 * records, all) == 0, "the book null");
+    check(refused(placed(NULL, 0, BOOK, sizeof BOOK, all), LGS_CASE_COUNTS) && part_refused(staged(NULL, 0, all), LGS_CASE_COUNTS), "the case null");
+    lgs_report r = placed(case_bytes, 16 * records, NULL, 0, all);
+    check(r.kind == LGS_NEXT && r.first == 1 && r.second == 1 && r.visits == 0 && r.fares == 0, "the book null");
     make(3, 2, 0, 0);
     check(place(case_bytes, 16 * records, lgs_needs(case_bytes, 16 * records)) == 0, "the book, the visits, the seats and the index null");
 }

@@ -1,7 +1,7 @@
 """Tests of desk.py: example K to the byte, visits that end in never, lots drawn, equal marks parted by them, fares added up, years driven visit by
-visit, wrong inputs, a withdrawal, stages worked out, several who work in one folder at once.
+visit, whole colleges, who is settled, answers as tables, wrong inputs, a withdrawal, stages worked out, several who work in one folder at once.
 
-    python3 desk_tests.py DESK.PY PLACE STAGES
+    LGS_LIBRARY=LIBLGS.SO python3 desk_tests.py DESK.PY
 """
 import contextlib
 import csv
@@ -13,7 +13,6 @@ import os
 import random
 import re
 import resource
-import shlex
 import shutil
 import signal
 import stat
@@ -25,7 +24,7 @@ import time
 from concurrent.futures import ThreadPoolExecutor
 from types import SimpleNamespace
 
-DESK, PLACE, STAGES = sys.argv[1:4]
+DESK, LIBRARY = sys.argv[1], os.environ["LGS_LIBRARY"]
 tally = {"passed": 0, "failed": 0}
 
 
@@ -35,10 +34,10 @@ def check(name, good, detail=""):
         print(f"FAILED {name}\n{detail}")
 
 
-def desk(folder, *words, place=PLACE, stages=STAGES, first=None, **more):
+def desk(folder, *words, first=None, **more):
     """Runs desk.py in the folder as a clerk does: status, what it printed, what it complained of. `more` is for the environment."""
-    env = {**os.environ, "PLACE": place, "STAGES": stages, **more}
-    done = subprocess.run([sys.executable, DESK, *words], cwd=folder, env=env, capture_output=True, stdin=subprocess.DEVNULL, preexec_fn=first)
+    done = subprocess.run([sys.executable, DESK, *words], cwd=folder, env={**os.environ, **more}, capture_output=True, stdin=subprocess.DEVNULL,
+                          preexec_fn=first, timeout=60)
     return done.returncode, done.stdout.decode(), done.stderr.decode()
 
 
@@ -60,19 +59,21 @@ def add(folder, name, text):
     write(folder, name, read(folder, name) + text.encode())
 
 
-def program(folder, name, lines):
-    """A program of these lines of the shell."""
-    write(folder, name, f"#!/bin/sh\n{lines}\n")
-    path = os.path.join(folder, name)
-    os.chmod(path, stat.S_IRWXU)
-    return path
-
-
 def made(folder):
-    """case.dat and book.dat, as desk.py makes them for `place` from the tables in this folder."""
-    with tempfile.TemporaryDirectory() as other:
-        desk(folder, place=program(other, "copy", f"cp case.dat book.dat {other}"))
-        return read(other, "case.dat"), read(other, "book.dat")
+    """The case and the book, as desk.py makes them from the tables in this folder."""
+    real, found = InProcess().module.lgs.place, []
+
+    def place(case, book):
+        found.extend((case, book))
+        return real(case, book)
+
+    InProcess().run(folder, lgs=engine(place=place))
+    return tuple(found)
+
+
+def engine(**others):
+    """lgs.py, with some of its functions exchanged."""
+    return SimpleNamespace(**{**vars(InProcess().module.lgs), **others})
 
 
 def answers(name, given, wanted):
@@ -139,6 +140,9 @@ K_PLACED = """The placement is finished.
 Dye house, 1 of 1: Anna Berg
 Weaving mill, 1 of 1: Carla Roth
 
+Students with a workshop of their first group: 1, of their second group: 1. Students without a place: 1.
+Seats filled: 2 of 2.
+Stage in hand: none, all are done. Students settled for good: 3; waiting: 0.
 Visits held for it: 4.
 Fares of these visits: 1335 pence (13.35 pounds).
 """
@@ -204,6 +208,7 @@ def guide(folder):
     shows(text, locked(os.path.join(folder, LOCK), GUIDE_HOLDER.encode(), lambda: desk(folder, "lots"))[2])
     for shown in (NEW_SAYS, first, K_PLACED, NEVER_PLACED + NEVER_LIST, NO_FARES):
         shows(text, shown)
+    show_reasons(text)
     for visits in (K_VISITS[1:], NEVER_VISITS):
         check("the guide shows what is asked for", asked_after(visits) in text, asked_after(visits))
 
@@ -227,6 +232,28 @@ def show_lots(folder, text):
     shows(text, desk(folder)[2])
     for name, data in before.items():
         write(folder, name, data)
+
+
+def show_reasons(text):
+    """The guide's block, its table of reasons, the line on where we stand, and the note."""
+    def show(folder, visits, change, names):
+        add_visits(folder, visits)
+        if change:
+            write(folder, change[0], read(folder, change[0]).decode().replace(*change[1:]))
+        reason = desk(folder, "why", *names)[1].split("\n")[-2]
+        check("the guide shows the reason", f" | {reason} |\n" in text, reason)
+
+    for visits, change, names in REASONS:
+        in_new_folder(lambda folder: show(folder, visits, change, names))
+
+    def rest(folder):
+        add_visits(folder, K_VISITS[:3])
+        shows(text, next(line for line in desk(folder)[1].split("\n") if line.startswith("Stage in hand")))
+        add_visits(folder, K_VISITS[3:])
+        shows(text, desk(folder, "why", "Ben Olsen", "Dye house")[1])
+        shows(text, UNFINISHED[3][3].strip("\n"))
+
+    in_new_folder(rest)
 
 
 def asked_after(visits):
@@ -259,6 +286,9 @@ NEVER_PLACED = """The placement is finished.
 Dye house, 1 of 1: Carla Roth
 Weaving mill, 1 of 1: Anna Berg
 
+Students with a workshop of their first group: 2. Students without a place: 1.
+Seats filled: 2 of 2.
+Stage in hand: none, all are done. Students settled for good: 3; waiting: 0.
 Visits held for it: 4.
 Fares of these visits: 730 pence (7.30 pounds).
 """
@@ -269,6 +299,17 @@ The visits:
   Ben Olsen at Dye house
   Carla Roth at Dye house
 """
+
+# The guide's reasons: the visits, what is changed in a table, the two names.
+REASONS = [
+    (K_VISITS, (), ("Anna Berg", "Weaving mill")),
+    (K_VISITS, (), ("Ben Olsen", "Weaving mill")),
+    (NEVER_VISITS[:1], (), ("Anna Berg", "Dye house")),
+    ([("Ben Olsen", "Dye house", -4, 2)], ("pairs.csv", "Ben Olsen,Dye house,1", "Ben Olsen,Dye house,2"), ("Ben Olsen", "Dye house")),
+    ([], ("workshops.csv", "Dye house,1", "Dye house,0"), ("Anna Berg", "Dye house")),
+    ([], ("pairs.csv", "Anna Berg,Dye house,1,1,240\r\n", ""), ("Anna Berg", "Dye house")),
+    (K_VISITS[:3], (), ("Ben Olsen", "Weaving mill")),
+]
 
 # The two marks of a visit as they are written, their bytes in the book, and whether it ended in never.
 ENDS = [
@@ -328,6 +369,9 @@ BEN_PLACED = """The placement is finished.
 Dye house, 1 of 1: Anna Berg
 Weaving mill, 1 of 1: Ben Olsen
 
+Students with a workshop of their first group: 2. Students without a place: 1.
+Seats filled: 2 of 2.
+Stage in hand: none, all are done. Students settled for good: 3; waiting: 0.
 Visits held for it: 4.
 Fares of these visits: 1335 pence (13.35 pounds).
 """
@@ -822,14 +866,14 @@ def drive(desk_once, folder, year):
         if status == 0 and out.startswith("The placement is finished.\n"):
             return out, held
         couple = asked_for(out, year)
-        if couple is None or couple in held:
+        if couple is None or couple in held or not stands(year, held, couple, out):
             return out + err, None
         held.add(couple)
         add(folder, "visits.csv", csv_text([(*couple, *year.marks(*couple))]))
 
 
-def whole_year(seed, share, prepare=lambda folder, year: None, **shape):
-    year = HiddenYear(seed, share, **shape)
+def whole_year(seed, share, prepare=lambda folder, year: None, students=100, **shape):
+    year = HiddenYear(seed, share, students=students, **shape)
     with tempfile.TemporaryDirectory() as folder:
         write_year(folder, year)
         prepare(folder, year)
@@ -840,7 +884,8 @@ def whole_year(seed, share, prepare=lambda folder, year: None, **shape):
         place = placed_by(out, year)
         check(f"year {seed} is stable", year.stable(place), out)
         check(f"year {seed} is the best for the students", place == year.best_for_students(), out)
-        check(f"year {seed}: whether lots decide", lots_decide(year) == shape.get("equal", False))
+        check(f"year {seed} is summed up", summary(year, place) in out, out)
+        check(f"year {seed}: whether lots decide", students < 100 or lots_decide(year) == shape.get("equal", False))
         check(f"year {seed} holds only visits that were called for", f"Visits held for it: {len(held)}.\n" in out, out)
         check(f"year {seed}: the stages agree", "Note" not in out, out)
         status, again, err = desk(folder)
@@ -851,7 +896,7 @@ def whole_year(seed, share, prepare=lambda folder, year: None, **shape):
         names = {f"  {s} at {w}": (s, w) for s, w in year.couples}
         check(f"year {seed} tells the fares of the visits listed", year.fares([names[line.replace(" (never)", "")] for line in listed]) in out, out)
         met = {year.never[couple] for couple in held if couple in year.never}
-        check(f"year {seed} meets all kinds of never", len(met) == (len(NEVER_MARKS) if share else 0), str(met))
+        check(f"year {seed} meets all kinds of never", students < 100 or len(met) == (len(NEVER_MARKS) if share else 0), str(met))
         print(f"year {seed}: {len(held)} of {len(year.couples)} pairs visited, {len(ended)} ended in never, "
               f"{sum(w is not None for w in place.values())} of {len(place)} placed. {year.fares(held)}", end="")
 
@@ -878,8 +923,7 @@ class InProcess:
         os.chdir(folder)
         vars(self.module).update({"AT_REST": 0, **settings})
         try:
-            commands = {"answer": lambda: self.module.answer(PLACE, False), "stages": lambda: self.module.work_out_stages(STAGES),
-                        "lots": self.module.fill_in_lots}
+            commands = {"answer": lambda: self.module.answer(False, None), "stages": self.module.work_out_stages, "lots": self.module.fill_in_lots}
             lines = commands[command]()
             return 0, "\n".join(lines) + "\n", ""
         except self.module.Stop as stop:
@@ -1041,38 +1085,17 @@ ACCEPTED = [
     ("a student's never twice", VISIT_HEAD + "Ben Olsen,Dye house,never,3\nBen Olsen,Weaving mill,never,3\n"),
 ]
 
-TOO_OLD = "is older than desk.py and knows no fares: get the one that belongs to it.\n"
-WITHOUT_FARES = "The answer of `place` ends without the fares. Run desk.py again. Where that does not help, this `place` " + TOO_OLD
-
-# What a program that is not `place` prints, and the message.
-PRINTED = [
-    ("refused 3 1", "students.csv, row 3: a number is out of sequence, or a pair names nobody.\n"),
-    ("refused 5 4", "workshops.csv, row 3: a stage, quota, group or line group is out of range.\n"),
-    ("refused 5 7", "pairs.csv, row 4: a stage, quota, group or line group is out of range.\n"),
-    ("refused 13 2", "students.csv, row 4: a lot is not 1 to 512, or an earlier student has it already.\n"),
-    ("refused 8 0", "visits.csv, row 2: this visit has no row in pairs.csv.\n"),
-    ("refused 4 0", "`place` refused the files, number 4: there is no student, no workshop, or too many of them.\n"),
-    ("refused 99 0", "`place` refused the files, number 99: desk.py does not know this number.\n"),
-    ("unread", "`place` could not read case.dat and book.dat, which desk.py made for it. Nothing was written.\n"),
-    ("hello", "`place` printed what desk.py does not know: hello\n"),
-    ("next 4 1", "`place` printed what desk.py does not know: next 4 1\n"),
-    ("visit 1 0", "`place` printed what desk.py does not know: visit 1 0\n"),
-    ("refused 5 11", "`place` refused the files, number 5: a stage, quota, group or line group is out of range.\n"),
-    ("place 1 1", "The answer of `place` was cut off. Run desk.py again.\n"),
-    ("next 1 1", "The answer of `place` was cut off. Run desk.py again.\n"),
-    ("next 1 1; echo visits 1; echo fares 0", "The answer of `place` was cut off. Run desk.py again.\n"),
-    ("place 1 1; echo visits 0; echo fares 0", "The answer of `place` was cut off. Run desk.py again.\n"),
-    ("fares 0", "The answer of `place` was cut off. Run desk.py again.\n"),
-    ("next 1 1; echo visits 0", WITHOUT_FARES),
-    ("place 1 1; echo place 2 0; echo place 3 2; echo visits 0", WITHOUT_FARES),
-    ("next 1 1; echo visits 0; printf 'fares 24'", WITHOUT_FARES),
-    *((f"next 1 1; echo visits 0; echo '{line}'", f"`place` printed what desk.py does not know: {line}\n")
-      for line in ("fares", "fares ", "fares x", "fares -1", "fares 2.40", "fares 1 2", "fares 1234567890", "fare 0")),
-    ("next 1 1; echo fares 0; echo visits 0", "`place` printed what desk.py does not know: visits 0\n"),
-    ("next 1 1; echo visits 0; echo fares 0; echo fares 0", "`place` printed what desk.py does not know: fares 0\n"),
-    ("refused 2 5", "pairs.csv, row 2: a kind is not 1 to 3, or a byte that should be zero is not.\n  This row has a fare: this `place` " + TOO_OLD),
-    ("refused 2 9", "pairs.csv, row 6: a kind is not 1 to 3, or a byte that should be zero is not.\n"),
-    ("refused 2 1", "students.csv, row 3: a kind is not 1 to 3, or a byte that should be zero is not.\n"),
+# Refusals that no table leads to, as if the engine gave them: number and place, and the message.
+NOT_FROM_TABLES = [
+    ((3, 1), "students.csv, row 3: the engine refused it, number 3: A record of the case is out of order, or a pair names nobody."),
+    ((5, 4), "workshops.csv, row 3: the engine refused it, number 5: A stage, quota, group or line group in the case is out of range."),
+    ((5, 7), "pairs.csv, row 4: the engine refused it, number 5: A stage, quota, group or line group in the case is out of range."),
+    ((13, 2), "students.csv, row 4: the engine refused it, number 13: A lot in the case is not from 1 to 512, or an earlier student has it."),
+    ((8, 0), "visits.csv, row 2: the engine refused it, number 8: A visit in the book is of two who are no pair of the case."),
+    ((4, 0), "The engine refused the tables, number 4: The case has no student, over 512 students, no workshop, or over 64 workshops."),
+    ((5, 11), "The engine refused the tables, number 5: A stage, quota, group or line group in the case is out of range."),
+    ((8, 1), "The engine refused the tables, number 8: A visit in the book is of two who are no pair of the case."),
+    ((99, 0), "The engine refused the tables, number 99: No refusal has this number."),
 ]
 
 
@@ -1092,15 +1115,6 @@ def wrong_inputs():
         in_new_folder(lambda folder: wrong_input(folder, name, file, content, message))
 
 
-def too_many_pairs(folder):
-    write(folder, "students.csv", students("".join(f"S{n},1,2\n" for n in range(200))))
-    write(folder, "workshops.csv", "workshop,quota,line group\n" + "".join(f"W{n},1,2\n" for n in range(20)))
-    write(folder, "pairs.csv", pairs("".join(f"S{s},W{w},1,1\n" for s in range(200) for w in range(20))))
-    status, out, err = desk(folder)
-    check("too many pairs", err == "students.csv, workshops.csv and pairs.csv have 4220 rows together; 4096 is the most that the program takes.\n"
-          "Leave out pairs that cannot come about. Nothing was written.\n", out + err)
-
-
 def refusals(folder):
     for name, visits, message in REFUSED:
         write(folder, "visits.csv", visits)
@@ -1111,34 +1125,43 @@ def refusals(folder):
         check(name, status == 0 and out.startswith("Next visit: Anna Berg goes to "), out + err)
 
 
-def other_programs(folder):
+def other_refusals(folder):
     add_visits(folder, K_VISITS[:1])
-    for printed, message in PRINTED:
-        fake = program(folder, "fake", f"echo {printed}")
-        answers(f"a program that prints {printed}", desk(folder, place=fake), (1, "", message))
-    program(folder, "fake", "echo no such library >&2\nexit 3")
-    answers("a program that fails", desk(folder, place=fake), (1, "", f"{fake} ended with status 3. no such library\n"))
-    os.chmod(fake, 0)
-    answers("not allowed to run", desk(folder, place=fake)[2], f"{fake} may not be run. This allows it: chmod +x {fake}\n")
-    answers("no such program", desk(folder, "--place", "nobody")[2], f"There is no program {os.path.realpath(folder)}/nobody.\n")
+    lgs = InProcess().module.lgs
+
+    def refuses(*_):
+        raise lgs.Refused(*refused)
+
+    for refused, message in NOT_FROM_TABLES:
+        answers(f"refused {refused}", InProcess().run(folder, lgs=engine(place=refuses)), (1, "", message))
 
 
-def finding_place(folder):
-    """Beside desk.py, on the PATH, nowhere."""
-    own = os.path.join(folder, "desk.py")
+def parts_of_the_desk(folder):
+    """desk.py alone, with lgs.py, and with both; beside it, or named. Tables are made and lots are drawn without the library."""
+    own, env = os.path.join(folder, "desk.py"), {name: value for name, value in os.environ.items() if name != "LGS_LIBRARY"}
+    folder = os.path.realpath(folder)
+
+    def run(*words, **more):
+        done = subprocess.run([sys.executable, own, *words], cwd=folder, env={**env, **more}, capture_output=True)
+        return done.returncode, done.stdout.decode(), done.stderr.decode()
+
+    def no_engine(why):
+        return 1, "", (f"The engine cannot be used: {why}.\ndesk.py, lgs.py and liblgs.so of one version belong in one folder, "
+                       "on Linux with an Intel or AMD processor (x86-64).\n")
+
     shutil.copy(DESK, own)
-    env = {name: value for name, value in os.environ.items() if name != "PLACE"}
-
-    def run(path):
-        done = subprocess.run([sys.executable, own], cwd=folder, env={**env, "PATH": path}, capture_output=True)
-        return done.stdout.decode() + done.stderr.decode()
-
-    with tempfile.TemporaryDirectory() as other:
-        shutil.copy(PLACE, os.path.join(other, "place"))
-        check("place on the PATH", run(other).startswith("Next visit: Anna Berg"), run(other))
-        answers("no place", run("/nowhere"), f"The program `place` was not found. Copy it to {os.path.realpath(folder)}/place, or name it: --place PATH.\n")
-    shutil.copy(PLACE, os.path.join(folder, "place"))
-    check("place beside desk.py", run("/nowhere").startswith("Next visit: Anna Berg"), run("/nowhere"))
+    answers("desk.py alone", run(), (1, "", "lgs.py is not in the folder of desk.py. Copy it there, with liblgs.so.\n"))
+    shutil.copy(os.path.join(os.path.dirname(DESK), "lgs.py"), folder)
+    for words in ((), ("stages",), ("why", "Anna Berg", "Dye house")):
+        answers(f"no library {words}", run(*words), no_engine(
+            f"{folder}/liblgs.so: No such file or directory (liblgs.so belongs in the folder of lgs.py, or LGS_LIBRARY names it)"))
+    check("no library: lots", run("lots")[1].endswith(LOTS_THERE), str(run("lots")))
+    check("a library that is named", run(LGS_LIBRARY=LIBRARY)[1].startswith("Next visit: Anna Berg"), str(run(LGS_LIBRARY=LIBRARY)))
+    write(folder, "liblgs.so", read(os.path.dirname(LIBRARY), "liblgs.so").replace(b"liblgs.so.1\0", b"liblgs.so.9\0"))
+    answers("a library of another version", run(), no_engine(f"{folder}/liblgs.so is no liblgs.so of version 1, which belongs to this lgs.py"))
+    shutil.copy(LIBRARY, os.path.join(folder, "liblgs.so"))
+    check("the three in one folder", run()[1].startswith("Next visit: Anna Berg"), str(run()))
+    check("no other files", sorted(os.listdir(folder)) == sorted([*NEW_FILES, "desk.py", "lgs.py", "liblgs.so"]), str(os.listdir(folder)))
 
 
 def other_folders(folder):
@@ -1147,15 +1170,9 @@ def other_folders(folder):
             (1, "", "students.csv and workshops.csv and pairs.csv and visits.csv are in this folder already. Nothing was written.\n"))
     check("new leaves what is there", before == read_all(folder))
     with tempfile.TemporaryDirectory() as other:
-        small_files = lambda: resource.setrlimit(resource.RLIMIT_FSIZE, (100, 100))
-        answers("no room for the whole case", desk(folder, first=small_files, TMPDIR=other),
-                (1, "", "case.dat and book.dat cannot be written for `place` among the temporary files: File too large. Nothing was written.\n"))
-        for name in ("case.dat", "book.dat"):
-            before[name] = b"as it was"
-            write(folder, name, before[name])
-        check("files of that name in the folder are not read", desk(folder, TMPDIR=other)[1].startswith("Next visit: Anna Berg goes to Dye house.\n"))
-        check("and not written", read_all(folder) == before)
-        check("nothing is left behind", os.listdir(other) == [], str(os.listdir(other)))
+        no_files = lambda: resource.setrlimit(resource.RLIMIT_FSIZE, (0, 0))
+        check("without room for a file", desk(folder, first=no_files, TMPDIR=other)[1].startswith("Next visit: Anna Berg goes to Dye house.\n"))
+        check("nothing is written, here or there", read_all(folder) == before and os.listdir(other) == [], str(os.listdir(other)))
     os.remove(os.path.join(folder, "visits.csv"))
     answers("a file is missing", desk(folder)[2], f"visits.csv is not in this folder ({os.path.realpath(folder)}). "
           '"python3 desk.py new" writes an example to start from.\n')
@@ -1240,30 +1257,6 @@ CONTRADICTIONS = [
      ["Dye house: Anna Berg before Ben Olsen", "Forge: Ben Olsen in the same group as Carla Roth", "Weaving mill: Carla Roth before Anna Berg"]),
 ]
 
-# What a program that is not `stages` prints, its status, and the message.
-STAGES_PRINTED = [
-    ("refused 5 4", 1, "workshops.csv, row 3: a stage, quota, group or line group is out of range."),
-    ("refused 13 1", 1, "students.csv, row 3: a lot is not 1 to 512, or an earlier student has it already."),
-    ("refused 2 0", 0, "students.csv, row 2: a kind is not 1 to 3, or a byte that should be zero is not."),
-    ("refused 2 10", 1, "pairs.csv, row 7: a kind is not 1 to 3, or a byte that should be zero is not.\n  This row has a fare: this `stages` "
-     + TOO_OLD.rstrip("\n")),
-    ("refused 4 0", 1, "`stages` refused the files, number 4: there is no student, no workshop, or too many of them."),
-    ("refused 6 0", 1, "`stages` refused the files, number 6: a buffer of the program is too short."),
-    ("refused 99 0", 1, "`stages` refused the files, number 99: desk.py does not know this number."),
-    ("refused 12 0", 1, NO_STAGES.format("").rstrip("\n")),
-    ("unread", 2, "`stages` could not read case.dat, which desk.py made for it. Nothing was written."),
-    ("hello", 0, "`stages` printed what desk.py does not know: hello"),
-    ("stage 2 1", 0, "`stages` printed what desk.py does not know: stage 2 1"),
-    ("stage 1 0", 0, "`stages` printed what desk.py does not know: stage 1 0"),
-    ("stage 1 513", 0, "`stages` printed what desk.py does not know: stage 1 513"),
-    ("stage 1 1; echo stage 2 2; echo stage 3 2; echo stage 4 2", 0, "`stages` printed what desk.py does not know: stage 4 2"),
-    ("stage 1 1; echo stage 2 2; echo refused 12 0", 0, "`stages` printed what desk.py does not know: refused 12 0"),
-    ("stage 1 1; echo stage 2 2", 0, "The answer of `stages` was cut off. Nothing was written. Run desk.py stages again."),
-    ("stage 1 1; echo stage 2 2; printf 'stage 3 2'", 0, "The answer of `stages` was cut off. Nothing was written. Run desk.py stages again."),
-    ("stage 1 1; echo stage 2 2; echo stage 3 2", 2, "{fake} ended with status 2. "),
-    ("refused 12 0", 139, "{fake} ended with status 139. "),
-]
-
 
 def stages_of_k(folder):
     """The stage column right, wrong, and without numbers; whatever is in visits.csv, and without it."""
@@ -1326,40 +1319,17 @@ def no_stages(folder):
             check(f"{name}, with {what}", status == 0 and "Wrote" in out, out + err)
 
 
-def other_stages_programs(folder):
+def changed_meanwhile(folder):
+    """Somebody adds a student while the stages are worked out."""
     write(folder, "students.csv", students("Anna Berg,,2\nBen Olsen,,2\nCarla Roth,,2\n"))
-    for printed, status, message in STAGES_PRINTED:
-        fake = program(folder, "fake", f"echo {printed}\nexit {status}")
-        before = read_all(folder)
-        answers(f"stages that prints {printed}", desk(folder, "stages", stages=fake), (1, "", message.format(fake=fake) + "\n"))
-        check(f"stages that prints {printed}: nothing is written", read_all(folder) == before)
-    program(folder, "fake", f"echo Dora,,2,9 >> {folder}/students.csv\necho stage 1 1\necho stage 2 2\necho stage 3 2")
     wanted = read(folder, "students.csv") + b"Dora,,2,9\n"
-    answers("changed meanwhile", desk(folder, "stages", stages=fake), (1, "", MEANWHILE + "\n"))
+
+    def stages(case):
+        add(folder, "students.csv", "Dora,,2,9\n")
+        return [1, 2, 2]
+
+    answers("changed meanwhile", InProcess().run(folder, "stages", lgs=engine(stages=stages)), (1, "", MEANWHILE))
     check("changed meanwhile: kept", read(folder, "students.csv") == wanted)
-    os.chmod(fake, 0)
-    answers("stages is not allowed to run", desk(folder, "stages", stages=fake)[2], f"{fake} may not be run. This allows it: chmod +x {fake}\n")
-    answers("no such stages", desk(folder, "stages", "--stages", "nobody"), (1, "", f"There is no program {os.path.realpath(folder)}/nobody.\n"))
-    check("no program: nothing is written", read(folder, "students.csv") == wanted)
-
-
-def finding_stages(folder):
-    """Beside desk.py, on the PATH, nowhere."""
-    own, before = os.path.join(folder, "desk.py"), read(folder, "students.csv")
-    shutil.copy(DESK, own)
-    env = {name: value for name, value in os.environ.items() if name != "STAGES"}
-
-    def run(path):
-        done = subprocess.run([sys.executable, own, "stages"], cwd=folder, env={**env, "PATH": path}, capture_output=True)
-        return done.stdout.decode() + done.stderr.decode()
-
-    with tempfile.TemporaryDirectory() as other:
-        shutil.copy(STAGES, os.path.join(other, "stages"))
-        answers("stages on the PATH", run(other), K_HAS_THEM)
-        answers("no stages", run("/nowhere"), f"The program `stages` was not found. Copy it to {os.path.realpath(folder)}/stages, or name it: --stages PATH.\n")
-        check("no stages: nothing is written", read(folder, "students.csv") == before)
-    shutil.copy(STAGES, os.path.join(folder, "stages"))
-    answers("stages beside desk.py", run("/nowhere"), K_HAS_THEM)
 
 
 def writing_stages(folder):
@@ -1387,9 +1357,9 @@ def writing_stages(folder):
     long = students("Anna Berg,,2\nBen Olsen,,2\nCarla Roth,,2\n").replace("\n", "," + 100 * "x" + "\n")
     write(folder, "students.csv", long)
     before = read_all(folder)
-    for limit, message in ((100, "case.dat cannot be written for `stages` among the temporary files: File too large. Nothing was written.\n"),
-                           (300, "students.csv cannot be written in this folder: File too large.\n")):
-        answers(f"room for {limit} bytes", desk(folder, "stages", first=lambda: resource.setrlimit(resource.RLIMIT_FSIZE, (limit, limit))), (1, "", message))
+    for limit in (100, 300):
+        answers(f"room for {limit} bytes", desk(folder, "stages", first=lambda: resource.setrlimit(resource.RLIMIT_FSIZE, (limit, limit))),
+                (1, "", "students.csv cannot be written in this folder: File too large.\n"))
         check(f"room for {limit} bytes: all is kept", read_all(folder) == before, str(os.listdir(folder)))
 
 
@@ -1434,40 +1404,6 @@ def only_cells():
             check("another change", False, str(wrong))
         except module.Stop as stop:
             check("another change", "Nothing was written" in str(stop))
-
-
-# ---------------------------------------------------------------- the program stages
-
-
-def run_stages(folder, **how):
-    done = subprocess.run([STAGES], cwd=folder, stdin=subprocess.DEVNULL, stderr=subprocess.PIPE, **{"stdout": subprocess.PIPE, **how})
-    return done.returncode, done.stdout, done.stderr
-
-
-def stages_program():
-    with tempfile.TemporaryDirectory() as folder:
-        answers("no case.dat", run_stages(folder), (2, b"unread\n", b""))
-        os.mkdir(os.path.join(folder, "case.dat"))
-        answers("case.dat is a folder", run_stages(folder), (2, b"unread\n", b""))
-        os.rmdir(os.path.join(folder, "case.dat"))
-        k = bytes.fromhex(K_CASE)
-        lower = bytes.fromhex(K_CASE.replace("03 00 01 00 02 00 01 00 01 00", "03 00 01 00 02 00 01 00 03 00"))
-        stage_0, lot_0, lot_twice = k[:20] + b"\0" + k[21:], k[:24] + b"\0" + k[25:], k[:40] + b"\1" + k[41:]
-        for name, case, answer in (("K", k, (0, b"stage 1 1\nstage 2 2\nstage 3 2\n", b"")), ("no bytes", b"", (1, b"refused 4 0\n", b"")),
-                                   ("15 bytes", k[:15], (1, b"refused 1 0\n", b"")), ("another order", lower, (1, b"refused 12 0\n", b"")),
-                                   ("a stage of 0", stage_0, (1, b"refused 5 1\n", b"")), ("a lot of 0", lot_0, (1, b"refused 13 1\n", b"")),
-                                   ("a lot twice", lot_twice, (1, b"refused 13 2\n", b""))):
-            write(folder, "case.dat", case)
-            answers(f"stages on {name}", run_stages(folder), answer)
-        write(folder, "case.dat", k)
-        with open("/dev/full", "wb") as full:
-            check("stages on a full disk", run_stages(folder, stdout=full)[0] == 2)
-        largest = [struct.pack("<BB4H6x", 1, 0, s, 1, 1, s) for s in range(1, 513)] + [struct.pack("<BB3H8x", 2, 0, w, 512, 513) for w in range(1, 65)]
-        largest += [struct.pack("<BB4H6x", 3, 0, s, w, 1, 513 - s) for s in range(1, 513) for w in range(1, 65)]
-        write(folder, "case.dat", b"".join(largest))
-        answers("stages on the largest case", run_stages(folder), (0, "".join(f"stage {s} {513 - s}\n" for s in range(1, 513)).encode(), b""))
-        with open("/dev/full", "wb") as full:
-            check("many stages on a full disk", run_stages(folder, stdout=full)[0] == 2)
 
 
 # ---------------------------------------------------------------- stages of made-up years
@@ -1577,6 +1513,313 @@ def told_steps(err):
     return steps
 
 
+# ---------------------------------------------------------------- where we stand, and what is told at the end
+
+
+def standing(out):
+    """Of an answer: the stage in hand, the last one, and how many are settled and wait; None for what is not known."""
+    found = re.search(r"^Stage in hand: (\d+) \(the last is (\d+)\)\. Students settled for good: (?:(\d+); waiting: (\d+)|not known before the end, because "
+                      r"the stages do not agree)\.$", out, re.MULTILINE)
+    return found and tuple(number and int(number) for number in found.groups())
+
+
+def stands(year, held, couple, out):
+    """With agreeing stages the one who is asked for is of the stage in hand, and those of earlier stages are settled."""
+    stage = year.stage[couple[0]]
+    earlier = sum(other < stage for other in year.stage.values())
+    return standing(out) == (stage, max(year.stage.values()), earlier, len(year.stage) - earlier) and f"\nVisits so far: {len(held)}.\n" in out
+
+
+def summary(year, place):
+    """What is told of a placement: how many have their first, second, .. group; the seats."""
+    own = {s: sorted({year.group[s, w] for w in year.quota if (s, w) in year.group}) for s in year.stage}
+    ranks = [own[s].index(year.group[s, w]) for s, w in place.items() if w is not None]
+    told = [f"{word} group: {ranks.count(rank)}" for rank, word in enumerate(("first", "second", "third", "fourth")[:max(ranks) + 1])]
+    return (f"Students with a workshop of their {', of their '.join(told)}. Students without a place: {len(place) - len(ranks)}.\n"
+            f"Seats filled: {len(ranks)} of {sum(year.quota.values())}.\n"
+            f"Stage in hand: none, all are done. Students settled for good: {len(place)}; waiting: 0.\n")
+
+
+def no_agreement(folder):
+    """Where the stages do not agree nobody is called settled, and a student who was dropped and is asked for is not of the stage in hand."""
+    write(folder, "students.csv", students("Anna Berg,2,2\nBen Olsen,1,2\nCarla Roth,1,2\n"))
+    answers("no agreement", standing(desk(folder)[1]), (1, 2, None, None))
+    write(folder, "pairs.csv", pairs("Anna Berg,Dye house,1,1\nBen Olsen,Dye house,1,2\nBen Olsen,Weaving mill,2,1\n"))
+    add_visits(folder, [("Ben Olsen", "Dye house", 5, 3), ("Anna Berg", "Dye house", 5, 3)])
+    status, out, err = desk(folder)
+    check("dropped and in hand", out.startswith("Next visit: Ben Olsen goes to Weaving mill.\n") and standing(out) == (2, 2, None, None), out + err)
+
+
+def settled():
+    """Small years with stages that agree: after each visit, however the other visits turn out, those of the stages before the one in hand end up in one
+    and the same place. Those of the stage in hand do not always."""
+    lgs, draw, met = InProcess().module.lgs, random.Random(9), {"settled": 0, "others": 0}
+    for _ in range(300):
+        names, workshops = range(1, draw.randint(2, 5) + 1), range(1, draw.randint(1, 3) + 1)
+        stage, lots = [draw.randint(1, 3) for _ in names], draw.sample(range(1, 513), len(names))
+        pairs = [(s, w, draw.randint(1, 2), stage[s - 1]) for s in names for w in workshops if draw.random() < 0.8]
+        case = lgs.pack_case([(stage[s - 1], draw.randint(1, 3), lots[s - 1]) for s in names],
+                             [(draw.randint(0, 2), draw.randint(1, 4)) for w in workshops], pairs)
+        first = {pair[:2]: made_up(draw, pair) for pair in pairs}
+        finished, asked = finish(lgs, case, first)
+        for at, couple in enumerate(asked):
+            other = {pair[:2]: first[pair[:2]] if pair[:2] in asked[:at] else made_up(draw, pair) for pair in pairs}
+            places = finish(lgs, case, other)[0]
+            same = [one == two for one, two in zip(finished, places)]
+            earlier = [s < stage[couple[0] - 1] for s in stage]
+            check("settled for good", all(one for one, early in zip(same, earlier) if early), f"{case.hex()} {first} {other} {couple}")
+            met["settled"] += sum(earlier)
+            met["others"] += same.count(False)
+    check("settled and others are met", min(met.values()) > 100, str(met))
+    print(f"settled: {met}")
+
+
+def made_up(draw, pair):
+    """Both marks of a visit; those of one student all differ."""
+    return [draw.choice((draw.randint(-9, 9) * 10 + pair[1], -1000)) if draw.random() < 0.3 else draw.randint(-9, 9) * 10 + pair[1],
+            draw.choice((-1000, -3, -2, 2, 3, 3, 4, 5))]
+
+
+def finish(lgs, case, marks):
+    """The placement that these marks lead to, and the visits asked for."""
+    book, answer = [], lgs.place(case)
+    while isinstance(answer, lgs.NextVisit):
+        couple = (answer.student, answer.workshop)
+        book.append((*couple, *marks[couple]))
+        answer = lgs.place(case, lgs.pack_book(book))
+    return answer.places, [visit[:2] for visit in book]
+
+
+# Tables that look unfinished: workshops.csv, pairs.csv, the notes.
+NO_PAIRS_AT_ALL = "\nNote: pairs.csv has no rows yet, so nobody can be placed.\n"
+UNFINISHED = [
+    ("no pairs", "Dye house,1,3\n", "", NO_PAIRS_AT_ALL),
+    ("no pairs and no seats", "Dye house,0,3\n", "", NO_PAIRS_AT_ALL),
+    ("all quotas 0", "Dye house,0,3\n", "Anna Berg,Dye house,1,1\nBen Olsen,Dye house,1,2\nCarla Roth,Dye house,1,2\n",
+     "\nNote: every quota in workshops.csv is 0, so nobody can be placed.\n"),
+    ("a student without a row", "Dye house,1,3\n", "Anna Berg,Dye house,1,1\nCarla Roth,Dye house,1,2\n",
+     "\nNote: no row in pairs.csv has this student: Ben Olsen.\n"),
+    ("students and a workshop without rows", "Dye house,1,3\nMill; small,2,3\n", "Anna Berg,Dye house,1,1\n",
+     "\nNote: no row in pairs.csv has these students: Ben Olsen, Carla Roth.\nNote: no row in pairs.csv has this workshop: Mill; small.\n"),
+    ("many workshops without rows", "Dye house,1,3\n" + "".join(f"W{n},1,3\n" for n in range(9)),
+     "Anna Berg,Dye house,1,1\nBen Olsen,Dye house,1,2\nCarla Roth,Dye house,1,2\n",
+     "\nNote: no row in pairs.csv has these workshops: W0, W1, W2, W3, W4 and 4 more.\n"),
+    ("nothing is missing", "Dye house,1,3\n", "Anna Berg,Dye house,1,1\nBen Olsen,Dye house,1,2\nCarla Roth,Dye house,1,2\n", ""),
+]
+
+
+def unfinished(folder):
+    for name, workshops, rows, notes in UNFINISHED:
+        write(folder, "workshops.csv", "workshop,quota,line group\n" + workshops)
+        write(folder, "pairs.csv", pairs(rows))
+        status, out, err = desk(folder)
+        check(f"unfinished: {name}", status == 0 and out.split(NO_FARES)[1] == notes, out + err)
+
+
+# ---------------------------------------------------------------- answers as tables
+
+IS_NO_CSV = 'is {} under the name of a CSV file. Open it with your spreadsheet, and save it as "CSV UTF-8".'
+NEXT_HEAD, PLACEMENT_HEAD = "student,workshop,mark from student,mark from workshop\r\n", "student,workshop,group from student,group from workshop\r\n"
+OUT_DONE = {"next.csv": "\ufeff" + NEXT_HEAD,
+            "placement.csv": "\ufeff" + PLACEMENT_HEAD + "Anna Berg,Dye house,1,1\r\nBen Olsen,,,\r\nCarla Roth,Weaving mill,2,2\r\n"}
+
+
+def tables_in(folder):
+    return {name: data.decode() for name, data in read_all(folder).items()}
+
+
+def as_tables(folder):
+    """Before the end and at the end, again and again, in a folder that is made: one of the two tables has only its headings. All is told as without."""
+    out, before = os.path.join(folder, "out"), read_all(folder)
+    wrote = "\nWrote out/next.csv and out/placement.csv.\n"
+    for done in (*range(5), 2, 4):
+        write(folder, "visits.csv", before["visits.csv"])
+        add_visits(folder, K_VISITS[:done])
+        status, said, err = desk(folder, "--csv", "out")
+        answers(f"as tables, {done} visits: told", (status, said, err), (0, desk(folder)[1] + wrote, ""))
+        going = {"next.csv": f"\ufeff{NEXT_HEAD}{','.join(visit[:2])},,\r\n" for visit in K_VISITS[done:done + 1]}
+        answers(f"as tables, {done} visits", tables_in(out), {**going, "placement.csv": "\ufeff" + PLACEMENT_HEAD} if going else OUT_DONE)
+    check("as tables: the four are left alone", all(read(folder, name) == data for name, data in before.items() if name != "visits.csv"))
+    answers("as tables, here", desk(folder, "--csv", ".", "--visits")[0], 0)
+    answers("as tables, here: written", {name: read(folder, name).decode() for name in OUT_DONE}, OUT_DONE)
+
+
+def as_tables_elsewhere(folder):
+    """With semicolons as in students.csv, and names that need quotation marks; read by Python's csv as it is meant."""
+    year = HiddenYear(11, share=0, students=14, workshops=5)
+    write_year(folder, year)
+    add(folder, "visits.csv", csv_text([(*couple, *year.marks(*couple)) for couple in year.couples]))
+    with tempfile.TemporaryDirectory() as other:
+        status, out, err = desk(folder, "--csv", other)
+        place = placed_by(out, year)
+        rows = list(csv.reader(io.StringIO(read(other, "placement.csv").decode("utf-8-sig"), newline=""), delimiter=";"))
+        wanted = [[s, w, str(year.group[s, w]), str(year.group[w, s])] if w else [s, "", "", ""] for s, w in place.items()]
+        check("as tables elsewhere", status == 0 and rows[1:] == wanted and place == year.best_for_students(), f"{rows}\n{wanted}\n{err}")
+
+
+def tables_kept(folder):
+    """What is not desk.py's, is open, or cannot be written stays, and both tables with it."""
+    add_visits(folder, K_VISITS)
+    desk(folder, "--csv", "out")
+    out = os.path.join(folder, "out")
+
+    def refused(name, message, **how):
+        before = read_all(out)
+        answers(f"tables kept: {name}", desk(folder, "--csv", "out", **how), (1, "", message + "\n"))
+        check(f"tables kept: {name}: nothing is written", read_all(out) == before, str(os.listdir(out)))
+
+    others = "is there already, and has other headings than desk.py writes. Nothing was written. Name another folder."
+    for name, data, said in (("next.csv", "student,workshop\nAnna,Dye\n", others), ("placement.csv", "a list of our own\n", others), ("next.csv", "", others),
+                             ("placement.csv", b"PK\x03\x04", IS_NO_CSV.format("an .xlsx workbook"))):
+        before = read(out, name)
+        write(out, name, data)
+        refused(f"{name} of somebody else", f"out/{name} {said}")
+        write(out, name, before)
+    write(out, ".~lock.placement.csv#", "")
+    refused("open", "out/placement.csv is open in a spreadsheet: save and close it there, then type the command again. Nothing was written.")
+    os.remove(os.path.join(out, ".~lock.placement.csv#"))
+    refused("no room", "out/next.csv and out/placement.csv cannot be written in this folder: File too large.",
+            first=lambda: resource.setrlimit(resource.RLIMIT_FSIZE, (60, 60)))
+    write(folder, "a file", "")
+    answers("a file for the folder", desk(folder, "--csv", "a file"),
+            (1, "", "There is no folder a file, and it cannot be made: File exists. Nothing was written.\n"))
+    write(folder, "pairs.csv", "")
+    before = read_all(out)
+    check("tables kept: wrong tables", desk(folder, "--csv", "out")[0] == 1 and read_all(out) == before)
+
+
+def tables_at_once(folder):
+    """Six at once, on a slow disk, while the year goes on: the two tables are of one answer, and of the last. One that does not end is told."""
+    add_visits(folder, K_VISITS[:3])
+    out = os.path.join(folder, "out")
+    runs = [start_desk(folder, SLOW_DISK, "--csv", "out") for _ in range(3)]
+    time.sleep(0.5)
+    add_visits(folder, K_VISITS[3:])
+    runs += [start_desk(folder, SLOW_DISK, "--csv", "out") for _ in range(3)]
+    told = [(run.communicate()[1], run.returncode) for run in runs]
+    check("tables at once: the last answer stays", tables_in(out) == OUT_DONE, f"{tables_in(out)} {told}")
+    waits = b"out/placement.csv is in use: desk.py --csv, typed by "
+    check("tables at once: written, or told to wait", all(status == 0 or waits in err for err, status in told), str(told))
+    with endless(folder, "--csv", "out") as run:
+        told_in_use("tables in use", desk(folder, "--csv", "out"), "out/placement.csv", "--csv", run)
+        check("tables in use: lots can be written", desk(folder, "lots")[0] == 0 and desk(folder)[0] == 0)
+    check("tables in use: the next one goes on", desk(folder, "--csv", "out")[0] == 0 and tables_in(out) == OUT_DONE, str(os.listdir(out)))
+
+
+# ---------------------------------------------------------------- files that are no tables, terminals
+
+
+def no_tables(folder):
+    """A pipe, a device, a folder, a huge file: refused at once. Other formats under a .csv name are named."""
+    own = "{} is no ordinary file. Save the table under this name, as CSV.\n"
+    path = os.path.join(folder, "pairs.csv")
+    kinds = (("a pipe", lambda: os.mkfifo(path)), ("a device", lambda: os.symlink("/dev/zero", path)), ("a folder", lambda: os.mkdir(path)))
+    for name, make in kinds:
+        os.remove(path)
+        make()
+        for words in ((), ("stages",), ("why", "Anna Berg", "Dye house"), ("--csv", "out")):
+            answers(f"{name} as a table {words}", desk(folder, *words), (1, "", own.format("pairs.csv")))
+        (os.rmdir if name == "a folder" else os.remove)(path)
+        write(folder, "pairs.csv", NEW_FILES["pairs.csv"])
+    os.truncate(path, (32 << 20) + 1)
+    answers("a huge file", desk(folder), (1, "", "pairs.csv has 33554433 bytes; a table has at most 33554432. Is this the right file?\n"))
+    write(folder, "pairs.csv", NEW_FILES["pairs.csv"])
+    names = {"an .xlsx workbook": b"PK\x03\x04" + bytes(26) + b"[Content_Types].xml", "an .xls workbook": b"\xd0\xcf\x11\xe0\xa1\xb1\x1a\xe1",
+             "an .ods workbook": b"PK\x03\x04" + bytes(26) + b"mimetypeapplication/vnd.oasis.opendocument.spreadsheet", "a PDF file": b"%PDF-1.7",
+             "a text in UTF-16": "student,stage".encode("utf-16")}
+    for what, data in names.items():
+        write(folder, "students.csv", data)
+        for words in ((), ("lots",), ("stages",)):
+            answers(f"{what} {words}", desk(folder, *words),
+                    (1, "", f"students.csv {IS_NO_CSV.format(what)}\n"))
+        check(f"{what}: nothing is written", read(folder, "students.csv") == data)
+
+
+def first_lines(folder):
+    """`sep=;` in the first line is no row, and stays; it says what stands between the cells, whatever there is more of."""
+    for lead in ("sep=;\r\n", "\ufeffsep=;\r\n", '"sep=;"\n', "SEP=;\r"):
+        text = lead + "stu,dent,s,x;student;stage;line group;lot\r\n;Anna Berg;;2;1\r\n;Ben Olsen;;2;2\r\n;Carla Roth;;2;\r\n"
+        write(folder, "students.csv", text)
+        check(f"{lead!r}: lots", drawing([9], folder)[0] == 0 and read(folder, "students.csv").decode() == text.replace("Roth;;2;", "Roth;;2;9"))
+        status, out, err = desk(folder, "stages")
+        wanted = lead + "stu,dent,s,x;student;stage;line group;lot\r\n;Anna Berg;1;2;1\r\n;Ben Olsen;2;2;2\r\n;Carla Roth;2;2;9\r\n"
+        check(f"{lead!r}: stages", status == 0 and read(folder, "students.csv").decode() == wanted, f"{read(folder, 'students.csv')}{err}")
+        check(f"{lead!r}: read", desk(folder)[1].startswith("Next visit: Anna Berg goes to Dye house.\n"), str(desk(folder)))
+        write(folder, "students.csv", wanted.replace("Ben Olsen;2", "Ben Olsen;x"))
+        check(f"{lead!r}: the heading is row 1", desk(folder)[2].startswith('students.csv, row 3, column "stage": "x" is there'), desk(folder)[2])
+    write(folder, "students.csv", "sep=\t\nstudent\tstage\tline group\tlot\nAnna, Berg\t1\t2\t1\n")
+    write(folder, "pairs.csv", 'sep=,\n' + pairs('"Anna, Berg",Dye house,1,1\n'))
+    check("tabs", desk(folder)[1].startswith("Next visit: Anna, Berg goes to Dye house.\n"), str(desk(folder)))
+
+
+def other_terminals(folder):
+    """Names can be read where the terminal knows only some letters. A closed pipe is no error."""
+    write(folder, "students.csv", students("J\u00f6rg Gro\u00df,1,2\n\u0141ucja \u00d8rsted,2,2\n\u738b,2,2\n"))
+    write(folder, "pairs.csv", pairs("".join(f"{s},Dye house,1,1\n" for s in ("J\u00f6rg Gro\u00df", "\u0141ucja \u00d8rsted", "\u738b"))))
+    for encoding, names in (("utf-8", ("J\u00f6rg Gro\u00df", "\u0141ucja \u00d8rsted", "\u738b")),
+                            ("latin-1", ("J\u00f6rg Gro\u00df", "Lucja \u00d8rsted", "(U+738B)")),
+                            ("ascii", ("Jorg Gross", "Lucja Orsted", "(U+738B)"))):
+        env = {**os.environ, "PYTHONIOENCODING": encoding}
+        done = subprocess.run([sys.executable, DESK, "lots"], cwd=folder, env=env, capture_output=True)
+        told = [line.split("  ")[-1] for line in done.stdout.decode(encoding).split("\n")[1:4]]
+        check(f"names in {encoding}", done.returncode == 0 and told == list(names), f"{told}{done.stderr}")
+        write(folder, "visits.csv", VISIT_HEAD + "J\u00f6rg,Dye house,1,1\n")
+        done = subprocess.run([sys.executable, DESK], cwd=folder, env=env, capture_output=True)
+        check(f"messages in {encoding}", f'there is no "{names[0].split()[0]}" in students.csv.' in done.stderr.decode(encoding), str(done.stderr))
+        write(folder, "visits.csv", VISIT_HEAD)
+    for words in ((), ("lots",), ("why", "jorg gross", "DYE HOUSE")):
+        reader, writer = os.pipe()
+        os.close(reader)
+        done = subprocess.run([sys.executable, DESK, *words], cwd=folder, stdout=writer, stderr=subprocess.PIPE)
+        os.close(writer)
+        check(f"a closed pipe {words}", (done.returncode, done.stderr) == (0, b""), f"{done.returncode} {done.stderr}")
+    for words in (("why",), ("why", "Anna"), ("why", "a", "b", "c"), ("lots", "Anna"), ("nothing",), ("--csv",), ("lots", "--csv", "out"),
+                  ("why", "a", "b", "--visits"), ("--semicolon",), ("stages", "--visits")):
+        answers(f"a wrong command {words}", desk(folder, *words)[:2], (2, ""))
+
+
+# ---------------------------------------------------------------- whole colleges
+
+
+def college(seed, students, workshops, met, most):
+    """All visits are held before: one answer, within so many seconds; then the stages; the answer as tables; and a reason for somebody."""
+    year = HiddenYear(seed, 0.1, students=students, workshops=workshops, met=met, equal=True)
+    with tempfile.TemporaryDirectory() as folder:
+        write_year(folder, year)
+        took = {"first": timed(folder)}
+        add(folder, "visits.csv", csv_text([(*couple, *year.marks(*couple)) for couple in year.couples]))
+        took["answer"] = timed(folder, "--csv", "out")
+        out = took["answer"][1][1]
+        check(f"college {students} x {workshops}: best for the students", placed_by(out, year) == year.best_for_students(), out[:500])
+        check(f"college {students} x {workshops}: summary", summary(year, placed_by(out, year)) in out, out[-500:])
+        write_students(folder, year, dict.fromkeys(year.stage, ""))
+        took["stages"] = timed(folder, "stages")
+        check(f"college {students} x {workshops}: stages", written_stages(folder) == smallest_stages(year.stage, year.tables()))
+        lost = next(s for s, w in placed_by(out, year).items() if w is None)
+        took["why"] = timed(folder, "why", lost, next(w for s, w in year.couples if s == lost))
+        took["no stages"] = turned(folder, year)
+    for name, (seconds, (status, said, err)) in took.items():
+        check(f"college {students} x {workshops}: {name}", status == (name == "no stages") and seconds < most, f"{seconds} s {said[-300:]}{err}")
+    print(f"college {students} x {workshops}, {len(year.couples)} pairs: {', '.join(f'{name} {took[name][0]:.1f} s' for name in took)}")
+
+
+def timed(folder, *words):
+    start = time.monotonic()
+    told = desk(folder, *words)
+    return time.monotonic() - start, told
+
+
+def turned(folder, year):
+    """Two students exchange their groups at the last workshop where both count: then no stages agree, and it is told where."""
+    w = [w for w in year.quota if year.quota[w]][-1]
+    one, two = (next(s for s in year.stage if (s, w) in year.group and year.stage[s] == n) for n in (1, 2))
+    rows = [(s, v, year.group[s, v], year.group[v, {one: two, two: one}.get(s, s) if v == w else s], 0) for s, v in year.couples]
+    write(folder, "pairs.csv", FARE_HEAD.replace(",", ";") + csv_text(rows))
+    took = timed(folder, "stages")
+    check("college: where no stages agree", took[1][2].startswith("No stage numbers agree") and f"\n  {w}: " in took[1][2], took[1][2])
+    return took
+
+
 # ---------------------------------------------------------------- several at once
 
 LOCK = ".students.csv.lock"
@@ -1586,13 +1829,28 @@ UNLOCKED = "students.csv cannot be written in this folder: {} ({})."
 CHANGED = ("students.csv changed again and again while desk.py was reading. Nothing was written.\n"
            "Type the command again when nobody is saving a table in this folder.\n")
 
-# desk.py on a disk that takes its time to write: so much lies between the last look at a table and the new one.
-SLOW_DISK = """
+# desk.py on a disk that takes its time to write: so much lies between the last look at a table and the new one. With an engine that takes its time. And
+# with one that does not end, and makes a file when it begins.
+OTHER_DESK = """
 import os, runpy, sys, time
-os.fsync = lambda file: time.sleep(0.3)
+sys.dont_write_bytecode = True
+sys.argv = sys.argv[1:]
+sys.path.insert(0, os.path.dirname(sys.argv[0]))
+import lgs
+place = lgs.place
+{}
+runpy.run_path(sys.argv[0], run_name="__main__")
+"""
+SLOW_DISK = OTHER_DESK.format("os.fsync = lambda file: time.sleep(0.3)")
+SLOW_ENGINE = OTHER_DESK.format("lgs.place = lambda *files: (time.sleep(0.2), place(*files))[1]")
+INTERRUPTED = """
+import builtins, os, runpy, signal, sys
+real = builtins.__import__
+builtins.__import__ = lambda name, *rest: (name == "difflib" and os.kill(os.getpid(), signal.SIGINT), real(name, *rest))[1]
 sys.argv = sys.argv[1:]
 runpy.run_path(sys.argv[0], run_name="__main__")
 """
+ENDLESS = OTHER_DESK.format("lgs.place = lgs.stages = lambda *files: (open(os.environ['STARTED'], 'w').close(), time.sleep(60))")
 
 # students.csv with its rows in two orders, and the placement that is told for each. The second is the first with other numbers for the names.
 TWO_ORDERS = [K_STUDENTS.format(1, 2, 3), "student,stage,line group,lot\nCarla Roth,2,2,3\nBen Olsen,2,2,2\nAnna Berg,1,2,1\n"]
@@ -1607,42 +1865,54 @@ def save(folder, name, data):
 
 
 def parallel_loops(folder):
-    """Six clerks, each of whom saves students.csv in one of two orders and runs desk.py, again and again, with a `place` that takes its time: every
+    """Six clerks, each of whom saves students.csv in one of two orders and runs desk.py, again and again, with an engine that takes its time: every
     answer is that of one of the two orders."""
     add_visits(folder, K_VISITS)
-    with tempfile.TemporaryDirectory() as other, ThreadPoolExecutor(6) as clerks:
-        slow = program(other, "slow", f"sleep 0.2\nexec {shlex.quote(PLACE)}")
 
-        def clerk(number):
-            told = []
-            for turn in range(6):
-                save(folder, "students.csv", TWO_ORDERS[(number + turn) % 2])
-                told.append(desk(folder, place=slow))
-            return told
+    def clerk(number):
+        told = []
+        for turn in range(6):
+            save(folder, "students.csv", TWO_ORDERS[(number + turn) % 2])
+            told.append(other_desk(folder, SLOW_ENGINE))
+        return told
 
+    with ThreadPoolExecutor(6) as clerks:
         told = [answer for answers_of_one in clerks.map(clerk, range(6)) for answer in answers_of_one]
     for answer in told:
         check("six at once: an answer of one of the two orders", answer in [(0, placed, "") for placed in TWO_PLACED], str(answer))
     check("six at once: nothing is left behind", sorted(os.listdir(folder)) == sorted(NEW_FILES), str(os.listdir(folder)))
 
 
+def other_desk(folder, code, *words):
+    """What another desk.py says."""
+    run = start_desk(folder, code, *words)
+    out, err = run.communicate()
+    return run.returncode, out.decode(), err.decode()
+
+
+def start_desk(folder, code, *words, **more):
+    return subprocess.Popen([sys.executable, "-c", code, DESK, *words], cwd=folder, env={**os.environ, **more}, stdin=subprocess.DEVNULL,
+                            stdout=subprocess.PIPE, stderr=subprocess.PIPE, start_new_session=True)
+
+
 def another_run_meanwhile(folder):
-    """While `place` is at work for one run students.csv is saved in another order, and another run is made. Each has its own answer."""
+    """While the engine is at work for one run students.csv is saved in another order, and another run is made. Each has its own answer."""
     add_visits(folder, K_VISITS)
     write(folder, "students.csv", TWO_ORDERS[0])
-    with tempfile.TemporaryDirectory() as other:
-        write(other, "students.csv", TWO_ORDERS[1])
-        paths = {name: shlex.quote(path) for name, path in dict(folder=folder, other=other, python=sys.executable, desk=DESK, place=PLACE).items()}
-        between = program(other, "between", "cp {other}/students.csv {folder}/students.csv\n"
-                          "(cd {folder} && PLACE={place} {python} {desk} > {other}/said 2>&1)\nexec {place}".format(**paths))
-        answers("another run meanwhile: the first", desk(folder, place=between), (0, TWO_PLACED[0], ""))
-        answers("another run meanwhile: the other", read(other, "said").decode(), TWO_PLACED[1])
+    said, lgs = [], InProcess().module.lgs
+
+    def between(*files):
+        write(folder, "students.csv", TWO_ORDERS[1])
+        said.append(desk(folder))
+        return lgs.place(*files)
+
+    answers("another run meanwhile: the first", InProcess().run(folder, lgs=engine(place=between)), (0, TWO_PLACED[0], ""))
+    answers("another run meanwhile: the other", said, [(0, TWO_PLACED[1], "")])
 
 
 def at_once(folder, *words):
     """Six runs that begin together, on a slow disk: the status, the text and the complaint of each."""
-    runs = [subprocess.Popen([sys.executable, "-c", SLOW_DISK, DESK, *words], cwd=folder, env={**os.environ, "STAGES": STAGES},
-                             stdin=subprocess.DEVNULL, stdout=subprocess.PIPE, stderr=subprocess.PIPE) for _ in range(6)]
+    runs = [start_desk(folder, SLOW_DISK, *words) for _ in range(6)]
     told = [(run.communicate(), run.returncode) for run in runs]
     return [(status, out.decode(), err.decode()) for (out, err), status in told]
 
@@ -1667,19 +1937,19 @@ def draws_at_once(folder):
 
 
 @contextlib.contextmanager
-def endless_stages(folder, other):
-    """A `desk.py stages` that Anna has typed, with a program that does not end; its temporary files are in the other folder."""
-    endless = program(other, "endless", "touch started\nexec sleep 60")
-    run = subprocess.Popen([sys.executable, DESK, "stages"], cwd=folder, env={**os.environ, "STAGES": endless, "TMPDIR": other, "LOGNAME": "anna"},
-                           stdin=subprocess.DEVNULL, stdout=subprocess.DEVNULL, stderr=subprocess.DEVNULL, start_new_session=True)
-    try:
-        while run.poll() is None and not any(os.path.exists(os.path.join(other, name, "started")) for name in os.listdir(other)):
-            time.sleep(0.01)
-        yield run
-    finally:
-        with contextlib.suppress(ProcessLookupError):
-            os.killpg(run.pid, signal.SIGKILL)
-        run.wait()
+def endless(folder, *words):
+    """A desk.py that Anna has typed, with an engine that does not end."""
+    with tempfile.TemporaryDirectory() as other:
+        started = os.path.join(other, "started")
+        run = start_desk(folder, ENDLESS, *words, STARTED=started, LOGNAME="anna")
+        try:
+            while run.poll() is None and not os.path.exists(started):
+                time.sleep(0.01)
+            yield run
+        finally:
+            with contextlib.suppress(ProcessLookupError):
+                os.killpg(run.pid, signal.SIGKILL)
+            run.communicate()
 
 
 def in_use(folder):
@@ -1687,20 +1957,25 @@ def in_use(folder):
     killed its lock is left behind, and stops nobody; nor does the one that it found."""
     blank = K_STUDENTS.format("", 2, 3)
     write(folder, LOCK, 300 * "x")
-    with tempfile.TemporaryDirectory() as other, endless_stages(folder, other) as run:
+    with endless(folder, "stages") as run:
         check("in use: desk.py answers", desk(folder)[1].startswith("Next visit: "), str(desk(folder)))
         write(folder, "students.csv", blank)
-        status, out, err = desk(folder, "lots")
-        who = f"desk.py stages, typed by anna on {os.uname().nodename}, process {run.pid}, since "
-        when = re.escape(IN_USE.format(who + "WHEN")).replace("WHEN", "[-0-9]{10} [:0-9]{8}")
-        check("in use", (status, out) == (1, "") and re.fullmatch(when, err), out + err)
+        told_in_use("in use", desk(folder, "lots"), "students.csv", "stages", run)
         check("in use: nothing is written", read(folder, "students.csv") == blank.encode())
         run.kill()
         run.wait()
-        check("killed: its lock is left, and `stages` goes on", os.path.exists(os.path.join(folder, LOCK)) and os.killpg(run.pid, 0) is None)
+        check("killed: its lock is left", os.path.exists(os.path.join(folder, LOCK)))
         status, out, err = desk(folder, "lots")
         check("killed: the next one goes on", status == 0 and "Anna Berg (drawn)\n" in out, out + err)
         check("killed: its lock is gone", sorted(os.listdir(folder)) == sorted(NEW_FILES), str(os.listdir(folder)))
+
+
+def told_in_use(name, told, table, command, run):
+    """Who has the table is told."""
+    status, out, err = told
+    who = f"desk.py {command}, typed by anna on {os.uname().nodename}, process {run.pid}, since "
+    when = re.escape(IN_USE.replace("students.csv", table).format(who + "WHEN")).replace("WHEN", "[-0-9]{10} [:0-9]{8}")
+    check(name, (status, out) == (1, "") and re.fullmatch(when, err), out + err)
 
 
 def locked(path, text, run):
@@ -1715,26 +1990,14 @@ def locked(path, text, run):
 
 
 def ended_by_signals(folder):
-    """`kill` and a closed terminal end a run and its program, and nothing is left behind."""
-    with tempfile.TemporaryDirectory() as other:
-        for number in (signal.SIGTERM, signal.SIGHUP):
-            with endless_stages(folder, other) as run:
+    """`kill`, a closed terminal and Ctrl-C end a run without a word, and nothing is left behind."""
+    for words in (("stages",), (), ("--csv", ".")):
+        for number in (signal.SIGTERM, signal.SIGHUP, signal.SIGINT):
+            with endless(folder, *words) as run:
                 run.send_signal(number)
-                answers("ended by a signal", run.wait(), 128 + number)
-                check("ended by a signal: so is `stages`", is_gone(run.pid))
-                check("ended by a signal: nothing is left", sorted(os.listdir(folder)) == sorted(NEW_FILES) and os.listdir(other) == ["endless"],
-                      f"{os.listdir(folder)} {os.listdir(other)}")
-
-
-def is_gone(group):
-    """Whether nobody of this group of processes is left; one that has ended may take a moment to go."""
-    for _ in range(100):
-        try:
-            os.killpg(group, 0)
-        except ProcessLookupError:
-            return True
-        time.sleep(0.02)
-    return False
+                answers("ended by a signal", (*run.communicate(), run.returncode), (b"", b"", 128 + number))
+                check("ended by a signal: nothing is left", sorted(os.listdir(folder)) == sorted(NEW_FILES), str(os.listdir(folder)))
+    answers("Ctrl-C while it starts", other_desk(folder, INTERRUPTED), (-signal.SIGINT, "", ""))
 
 
 def locks(folder):
@@ -2057,22 +2320,26 @@ def main():
     NEW_FILES.update(new_files()[0])
     for test in (example_k, guide, never, ends_of_a_visit, nevers_of_a_workshop, lots_drawn, lots_of_many, lots_kept, wrong_lots,
                  writing_lots, equal_marks, fares, fares_column, other_spellings, accents, planned_row, unused_visit, stages_note,
-                 withdrawal, too_many_pairs, refusals, other_programs, finding_place, other_folders, stages_of_k, stages_kept, stages_wrong, no_stages,
-                 other_stages_programs, finding_stages, writing_stages, open_in_a_spreadsheet, parallel_loops, another_run_meanwhile, draws_at_once,
+                 withdrawal, refusals, other_refusals, parts_of_the_desk, other_folders, stages_of_k, stages_kept, stages_wrong, no_stages,
+                 changed_meanwhile, writing_stages, open_in_a_spreadsheet, parallel_loops, another_run_meanwhile, draws_at_once,
                  in_use, ended_by_signals, locks, held_to_the_end, left_by_others, signed_by_others, saved_while_written, replaced_while_read,
-                 rewritten_while_read, rewritten_to_and_fro, half_saved, gone_for_a_moment, stages_while_saved):
+                 rewritten_while_read, rewritten_to_and_fro, half_saved, gone_for_a_moment, stages_while_saved, no_agreement, unfinished, as_tables,
+                 as_tables_elsewhere, tables_kept, tables_at_once, no_tables, first_lines, other_terminals):
         in_new_folder(test)
     wrong_inputs()
     lots_of_new()
     draws()
     only_cells()
-    stages_program()
     small_years()
     whole_year(1, share=0, most_fare=None)
     whole_year(2, share=0.3)
     whole_year(3, share=0.3, prepare=work_out, stages=6, met=0.25)
     whole_year(4, share=0, equal=True, most_fare=65535)
     whole_year(5, share=0.3, equal=True)
+    whole_year(6, share=0.1, students=40, workshops=8)
+    settled()
+    college(7, 400, 20, 0.5, most=15)
+    college(8, 512, 64, 1, most=30)
     print(f"{tally['passed']} passed, {tally['failed']} failed")
     return 1 if tally["failed"] else 0
 
