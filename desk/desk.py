@@ -9,16 +9,19 @@
     python3 desk.py why STUDENT WORKSHOP
                               says why the student is not placed at the workshop
 
-It works in the current folder. It only reads the four files, but for the lots, which `desk.py lots` writes, and the stages, which `desk.py stages`
-writes. Several may work in one folder at the same time: an answer is of the four files as they were at one moment, and only one run at a time writes.
+It works in the current folder. Of the four files it writes only what is said above, and reads the rest. Several may work in one folder at the same time:
+an answer is of the four files as they were at one moment, and a table is written by one run at a time.
 Beside desk.py are lgs.py and liblgs.so, the engine.
 Exit status: 0 for an answer, 1 where something is to be corrected, 2 for a wrong command.
 Python 3.8 or later, no other packages.
 """
 import signal
+import sys
 
 if __name__ == "__main__" and signal.getsignal(signal.SIGINT) == signal.default_int_handler:
     signal.signal(signal.SIGINT, signal.SIG_DFL)    # Ctrl-C ends quietly, from the first moment
+if sys.version_info < (3, 8):
+    sys.exit("desk.py needs Python 3.8 or later, and this is %d.%d." % sys.version_info[:2])
 
 import argparse
 import bisect
@@ -33,16 +36,21 @@ import os
 import re
 import secrets
 import stat
-import sys
 import time
 import unicodedata
 from dataclasses import dataclass, field
 
 sys.dont_write_bytecode = True    # the desk's folder stays as it is
+sys.path.insert(0, os.path.dirname(os.path.abspath(__file__)))
 try:
     import lgs
-except ModuleNotFoundError:
+    lgs.Cause, lgs.NextVisit, lgs.Placement, lgs.Refused, lgs.pack_book, lgs.pack_case, lgs.place, lgs.stages
+except ModuleNotFoundError as missing:
+    if missing.name != "lgs":
+        raise
     sys.exit("lgs.py is not in the folder of desk.py. Copy it there, with liblgs.so.")
+except (SyntaxError, AttributeError):
+    sys.exit("lgs.py, in the folder of desk.py, is not the one that belongs to it, or not whole. Copy it there again, with liblgs.so.")
 
 # ---------------------------------------------------------------- the columns
 
@@ -87,7 +95,7 @@ COLUMNS = {
 }
 MOST = {STUDENTS: 512, WORKSHOPS: 64}
 MOST_BYTES = 32 << 20    # of a table: 1,024 bytes for each of 32,768 pairs
-ENDS = {signal.SIGINT, signal.SIGHUP, signal.SIGTERM}    # what ends a run
+ENDS = {signal.SIGINT, signal.SIGHUP, signal.SIGTERM, signal.SIGQUIT}    # what ends a run
 # Seconds: how long a run waits for others in the same folder, with which pauses, and for how long after a change a table may be half written still.
 MOMENT, PAUSE, AT_REST = 3.0, 0.05, 0.05
 
@@ -101,7 +109,7 @@ EXAMPLE = {
     VISITS: [],
 }
 
-# What `desk.py --csv` writes: a row to be filled in for the next visit, and everybody's place.
+# What `desk.py --csv` writes: the next visit, with the headings of visits.csv, and everybody's place.
 NEXT_TABLE, PLACEMENT_TABLE = "next.csv", "placement.csv"
 OUT = {
     NEXT_TABLE: [column.heading for column in COLUMNS[VISITS]],
@@ -171,7 +179,8 @@ def read_file(file):
             state = there.st_dev, there.st_ino, there.st_size, there.st_mtime_ns, there.st_ctime_ns
             return Reading(f.read(), state, age)
     except FileNotFoundError:
-        raise Missing(f'{file} is not in this folder ({os.getcwd()}). "python3 desk.py new" writes an example to start from.')
+        raise Missing(f"{file} is not in this folder ({os.getcwd()}). " + ("Was it saved under another name, or not as CSV?" if any(map(os.path.exists, COLUMNS))
+                      else '"python3 desk.py new" writes an example to start from.'))
     except OSError as e:
         raise Stop(f"{file} cannot be read: {e.strerror}.")
 
@@ -218,7 +227,8 @@ def text_of(file, data):
     try:
         return data.decode("utf-8-sig")
     except UnicodeDecodeError as e:
-        row = data[:e.start].count(b"\n") + 1
+        before = e.object[:e.start].decode()    # without the byte order mark
+        row = before[len(lead_of(before)):].count("\n") + 1
         raise Stop(f'{file}, row {row}: a letter is not stored as UTF-8. Save the file again as "CSV UTF-8".')
 
 
@@ -524,6 +534,7 @@ class Lock:
     """What this run needs in order to write: a file that it has locked. Where it could not have that, the reason."""
     file: object = None
     reason: str = ""
+    wrote: bool = False    # whether it has written
 
 
 LOCK = Lock()
@@ -626,6 +637,7 @@ def write_files(contents, last_look=lambda: None):
         raise Stop(f"{' and '.join(contents)} cannot be written in this folder: {LOCK.reason}.")
     paths = {name: os.path.realpath(name) for name in contents}
     parts = {name: os.path.join(os.path.dirname(path), f".{os.path.basename(path)}.{os.getpid()}") for name, path in paths.items()}
+    done = []
     try:
         for name, part in parts.items():
             with open(part, "wb") as f:
@@ -637,8 +649,11 @@ def write_files(contents, last_look=lambda: None):
         with undisturbed():
             for name, part in parts.items():
                 os.replace(part, paths[name])
+                done.append(name)
+                LOCK.wrote = True
     except OSError as e:
-        raise Stop(f"{' and '.join(contents)} cannot be written in this folder: {e.strerror}.")
+        others = f"\nOnly {' and '.join(done)} {'was' if len(done) == 1 else 'were'} written. Type the command again." if done else ""
+        raise Stop(f"{' and '.join(name for name in contents if name not in done)} cannot be written in this folder: {e.strerror}.{others}")
     finally:
         for part in parts.values():
             if os.path.exists(part):
@@ -647,7 +662,7 @@ def write_files(contents, last_look=lambda: None):
 
 @contextlib.contextmanager
 def undisturbed():
-    """A signal that comes in here is heeded afterwards: of several files all take their places, or none."""
+    """A signal that comes in here is heeded afterwards, when all files have taken their places."""
     before = signal.pthread_sigmask(signal.SIG_BLOCK, ENDS)
     try:
         yield
@@ -710,9 +725,12 @@ def check_only_cells(old, new, place, texts):
                    "Save the table again with your spreadsheet, as CSV, and type the command again.")
 
 
-def check_closed(name):
+def check_free(name):
+    """The table, if there is one, is not open in LibreOffice, and may be written."""
     if is_open(name):
         raise Stop(f"{name} is open in a spreadsheet: save and close it there, then type the command again. Nothing was written.")
+    if os.path.exists(name) and not (os.access(name, os.W_OK) and os.stat(name).st_mode & 0o222):
+        raise Stop(f"{name} is protected against writing. Nothing was written.")
 
 
 def is_open(name):
@@ -723,9 +741,7 @@ def is_open(name):
 def write_cells(data, heading, numbers):
     """Writes these numbers in one column, if students.csv is not open in LibreOffice and still has these bytes."""
     new = with_cells(data, heading, numbers)
-    check_closed(STUDENTS)
-    if not (os.access(STUDENTS, os.W_OK) and os.stat(STUDENTS).st_mode & 0o222):
-        raise Stop(f"{STUDENTS} is protected against writing. Nothing was written.")
+    check_free(STUDENTS)
 
     def last_look():
         if read_file(STUDENTS).data != data:
@@ -780,10 +796,15 @@ def tell_placement(year, answer):
     lines = ["The placement is finished.", ""] + [f"  {name:{width}}  {place}" for name, place in goes.items()] + [""]
     for number, row in enumerate(year.workshops, 1):
         taken = [student for student, place in zip(goes, answer.places) if place == number]
-        lines.append(f"{row.cells['workshop']}, {len(taken)} of {row.cells['quota']}: {', '.join(taken) or 'nobody'}")
+        lines.append(f"{row.cells['workshop']}, {len(taken)} of {row.cells['quota']}: {listed(taken) or 'nobody'}")
     return (lines + ["", tell_groups(year, answer), tell_seats(year, answer),
                      f"Stage in hand: none, all are done. Students settled for good: {len(goes)}; waiting: 0.",
                      f"Visits held for it: {len(answer.visits)}."] + tell_fares(year, answer) + tell_unused(year, answer))
+
+
+def listed(names):
+    """Names, one after the other; those with a comma in them can be told apart."""
+    return ("; " if any("," in name for name in names) else ", ").join(names)
 
 
 def tell_groups(year, answer):
@@ -816,7 +837,7 @@ def tell_visits(year, answer):
     """The visits that the rule called for, in that order, and which of them ended in never."""
     never = {couple_of(row) for row in year.visits if NEVER in row.cells.values()}
     couples = [(year.student(s), year.workshop(w)) for s, w in answer.visits]
-    return ["", "The visits:"] + [f"  {s} at {w}" + (" (never)" if (s, w) in never else "") for s, w in couples]
+    return ["", "The visits:" if couples else "The visits: none so far."] + [f"  {s} at {w}" + (" (never)" if (s, w) in never else "") for s, w in couples]
 
 
 def groups_that_count(year, workshop):
@@ -858,7 +879,7 @@ def tell_unfinished(year):
         if missing:
             more = f" and {len(missing) - 5} more" if len(missing) > 5 else ""
             notes.append(f"Note: no row in {PAIRS} has {'this' if len(missing) == 1 else 'these'} {heading}{'s' * (len(missing) > 1)}: "
-                         f"{', '.join(missing[:5])}{more}.")
+                         f"{listed(missing[:5])}{more}.")
     return [""] + notes if notes else []
 
 
@@ -868,7 +889,7 @@ def tell_worked_out(year, stages, before):
     lines = []
     for stage in sorted(set(stages)):
         names = [name for name, its in zip(was, stages) if its == stage]
-        lines.append(f"Stage {stage}: {', '.join(name + was[name] for name in names)}")
+        lines.append(f"Stage {stage}: {listed([name + was[name] for name in names])}")
     return lines
 
 
@@ -893,7 +914,7 @@ def explain_no_stages(year):
         + found
         + [f"See whether such a group was typed wrongly in {PAIRS}; if so, correct it and run desk.py stages again.",
            "(A workshop with quota 0 does not count, nor does a student in a group above a workshop's line group.)",
-           f"If the groups are right, keep any stages in {STUDENTS}, for instance 1 for everybody.",
+           f"If the groups are right, write any stages from 1 to 512 in {STUDENTS}, for instance 1 for everybody, and go on.",
            "The placement is as good in any case; only the list of visits may be longer than needed."])
 
 
@@ -996,15 +1017,24 @@ def side(year, student, workshop, who):
 
 
 def find_name(year, file, typed):
-    """The name that was typed. Small letters for capitals, and letters without their accents, will do where only one name is meant."""
+    """The name that was typed. Small letters for capitals, and letters without their accents, will do where only one name is meant; quotation marks,
+    which the terminal takes away, need not be there."""
     names, name = year.names[file], clean(typed)
-    for read in (str, str.lower, lambda text: plain_letters(text).lower()):
+    for read in (str, str.lower, in_short):
         alike = [other for other in names if read(other) == read(name)]
         if len(alike) > 1:
             raise Stop(f'"{name}" may be {" or ".join(alike)}. Type the name as it stands in {file}.')
         if alike:
             return alike[0]
-    raise Stop(f'There is no "{name}" in {file}.' + hint(name, names, Problems()))
+    part_of = [other for other in names if in_short(name) in in_short(other)]
+    others = [other for other in COLUMNS if other != file and name in year.names.get(other, ())]
+    raise Stop(f'There is no "{name}" in {file}.' + (" Type the student first, and then the workshop." if others
+               else f' Did you mean "{part_of[0]}"?' if len(part_of) == 1 else hint(name, names, Problems())))
+
+
+def in_short(name):
+    """A name as somebody may type it: small letters, without accents and quotation marks."""
+    return clean(plain_letters(name).lower().replace('"', ""))
 
 
 def reasons(year, answer, student, workshop):
@@ -1032,8 +1062,8 @@ def reasons(year, answer, student, workshop):
 
 def beyond(one, other, its, rather):
     if its.group > its.line:
-        return f"{one} has {other} in group {its.group}, beyond the line group {its.line}: {rather}."
-    return f"{one} has {other} in the line group {its.line} and gave the mark {its.mark}, below 0: {rather}."
+        return f"{one} puts {other} in group {its.group}, beyond the line group {its.line}: {rather}."
+    return f"{one} puts {other} in the line group {its.line} and gave the mark {its.mark}, below 0: {rather}."
 
 
 def likes_better(year, student, workshop, other, hers):
@@ -1105,14 +1135,18 @@ def table_bytes(rows, comma):
     return text.getvalue().encode("utf-8-sig")
 
 
+def check_none_there():
+    there = [file for file in COLUMNS if os.path.lexists(file)]
+    if there:
+        raise Stop(f"{' and '.join(there)} {'is' if len(there) == 1 else 'are'} in this folder already. Nothing was written.")
+
+
 @one_at_a_time("new")
 def new(semicolon):
     """Writes the four files with the example, where none of them is."""
-    there = [file for file in COLUMNS if os.path.exists(file)]
-    if there:
-        raise Stop(f"{' and '.join(there)} {'is' if len(there) == 1 else 'are'} in this folder already. Nothing was written.")
+    check_none_there()
     contents = {file: table_bytes([[column.heading for column in COLUMNS[file]], *example_rows(file)], ";" if semicolon else ",") for file in EXAMPLE}
-    write_files(contents)
+    write_files(contents, check_none_there)
     return [f"Wrote {', '.join(contents)}. The lots are drawn at random.", "Put your own year in them with a spreadsheet, or try the example: python3 desk.py"]
 
 
@@ -1120,9 +1154,26 @@ def answer(list_visits, out):
     """Checks the four files, asks the engine, and tells its answer; as tables, too, in the folder `out`, if one is named."""
     if out is None:
         return find_and_tell(list_visits)
-    make_folder(out)
-    with one_at_a_time("--csv", os.path.join(out, PLACEMENT_TABLE)):
+    with folder_for(out), one_at_a_time("--csv", os.path.join(out, PLACEMENT_TABLE)):
         return find_and_tell(list_visits, out)
+
+
+@contextlib.contextmanager
+def folder_for(path):
+    """The folder, which is made if there is none. If nothing is written it goes again."""
+    made = not os.path.isdir(path)
+    if made and os.path.lexists(path):
+        raise Stop(f"{path} is no folder. Nothing was written.")
+    try:
+        os.makedirs(path, exist_ok=True)
+    except OSError as e:
+        raise Stop(f"There is no folder {path}, and it cannot be made: {e.strerror}. Nothing was written.")
+    try:
+        yield
+    finally:
+        if made:
+            with contextlib.suppress(OSError):    # there is something in it
+                os.rmdir(path)
 
 
 def find_and_tell(list_visits, out=None):
@@ -1133,17 +1184,9 @@ def find_and_tell(list_visits, out=None):
         return lines
     contents = {os.path.join(out, name): table_bytes([OUT[name], *rows], year.comma) for name, rows in out_rows(year, found).items()}
     for path in contents:
-        check_ours(path)
-        check_closed(path)
-    write_files(contents)
+        check_free(path)
+    write_files(contents, lambda: [check_ours(path) for path in contents])
     return lines + ["", f"Wrote {' and '.join(contents)}."]
-
-
-def make_folder(path):
-    try:
-        os.makedirs(path, exist_ok=True)
-    except OSError as e:
-        raise Stop(f"There is no folder {path}, and it cannot be made: {e.strerror}. Nothing was written.")
 
 
 def out_rows(year, answer):
@@ -1160,11 +1203,18 @@ def out_rows(year, answer):
 
 
 def check_ours(path):
-    """A file of this name that desk.py did not write stays."""
-    with contextlib.suppress(Missing):
-        text = text_of(path, read_file(path).data)
-        if next(split_rows(text), None) != OUT[os.path.basename(path)]:
-            raise Stop(f"{path} is there already, and has other headings than desk.py writes. Nothing was written. Name another folder.")
+    """A file of this name that desk.py did not write stays, and so does one in which marks were written, and one that is elsewhere."""
+    name, rows = os.path.basename(path), []
+    try:
+        rows = [[clean(cell) for cell in row] for row in split_rows(text_of(path, read_file(path).data))]
+    except Missing:
+        return
+    except (Stop, csv.Error):
+        pass
+    if os.path.islink(path) or not rows or [cell.lower() for cell in rows[0]] != OUT[name] or (name == NEXT_TABLE and len(rows) > 2):
+        raise Stop(f"{path} is there already, and is no table that desk.py wrote. Nothing was written. Name another folder.")
+    if name == NEXT_TABLE and any(cell for row in rows[1:] for cell in row[2:]):
+        raise Stop(f"Marks were written in {path}. Nothing was written. Copy that row to {VISITS}, delete {path}, and type the command again.")
 
 
 def why(typed_student, typed_workshop):
@@ -1224,7 +1274,7 @@ def tell(lines):
     except OSError as e:
         os.dup2(os.open(os.devnull, os.O_WRONLY), sys.stdout.fileno())
         if not isinstance(e, BrokenPipeError):
-            raise Stop(f"The answer could not be written: {e.strerror}.")
+            raise Stop(f"The answer could not be written: {e.strerror}." + (" The tables were written." if LOCK.wrote else ""))
 
 
 LETTERS = dict(zip("ßæøłđðþœıÆØŁĐÐÞŒ", "ss ae o l d d th oe i AE O L D D Th OE".split()))    # those that are no letter with an accent
@@ -1232,7 +1282,7 @@ LETTERS = dict(zip("ßæøłđðþœıÆØŁĐÐÞŒ", "ss ae o l d d th oe i AE
 
 def plain_letters(text):
     """Letters without their accents."""
-    return "".join(LETTERS.get(letter) or unicodedata.normalize("NFKD", letter)[0] for letter in unicodedata.normalize("NFC", text))
+    return "".join(LETTERS.get(letter) or unicodedata.normalize("NFKD", letter)[0] for letter in text)
 
 
 def shown(error):
@@ -1261,14 +1311,14 @@ def read_command():
 
 def main():
     codecs.register_error("desk", shown)
-    sys.stdout.reconfigure(errors="desk")
-    sys.stderr.reconfigure(errors="desk")
+    for stream in filter(None, (sys.stdout, sys.stderr)):    # one that is closed is None
+        stream.reconfigure(errors="desk")
     options = read_command()
     for number in ENDS:    # so that what is to be removed is removed
         if signal.getsignal(number) == signal.SIG_DFL:
             signal.signal(number, lambda number, _: sys.exit(128 + number))
     commands = {"new": lambda: new(options.semicolon), "lots": fill_in_lots, "stages": work_out_stages, "why": lambda: why(*options.names),
-                "next": lambda: answer(options.visits, options.csv)}
+                "next": lambda: answer(options.visits, options.csv and os.path.expanduser(options.csv))}
     try:
         tell(commands[options.command]())
     except Stop as stop:

@@ -147,7 +147,8 @@ class Refused(Exception):
     """The library refused what it was given.
 
     number: the refusal's number, equal to one of `Cause`.
-    place: the record of the case (1 to 5, 13) or of the book (7 to 11) that it names, counted from 0; 0 where it names none.
+    place: the record of the case (1 to 5, 13; students, then workshops, then pairs) or of the book (7 to 11) that it names, counted from 0; 0 where it
+        names none.
     text: the refusal in a short plain sentence.
     """
 

@@ -21,10 +21,12 @@ import subprocess
 import sys
 import tempfile
 import time
+import traceback
 from concurrent.futures import ThreadPoolExecutor
 from types import SimpleNamespace
 
-DESK, LIBRARY = sys.argv[1], os.environ["LGS_LIBRARY"]
+DESK, LIBRARY = (os.path.abspath(path) for path in (sys.argv[1], os.environ["LGS_LIBRARY"]))
+os.environ["LGS_LIBRARY"] = LIBRARY
 tally = {"passed": 0, "failed": 0}
 
 
@@ -1102,8 +1104,6 @@ NOT_FROM_TABLES = [
 def wrong_input(folder, name, file, content, message):
     add_visits(folder, K_VISITS[:2])
     write(folder, file, content)
-    for data in ("case.dat", "book.dat"):
-        write(folder, data, b"as it was")
     before = read_all(folder)
     status, out, err = desk(folder)
     answers(name, (status, out, err), (1, "", message))
@@ -1151,16 +1151,27 @@ def parts_of_the_desk(folder):
 
     shutil.copy(DESK, own)
     answers("desk.py alone", run(), (1, "", "lgs.py is not in the folder of desk.py. Copy it there, with liblgs.so.\n"))
-    shutil.copy(os.path.join(os.path.dirname(DESK), "lgs.py"), folder)
+    whole = read(os.path.dirname(DESK), "lgs.py")
+    for name, data in (("half of it", whole[:3000]), ("nothing", b""), ("another one", b"def place(case, book): pass\n")):
+        write(folder, "lgs.py", data)
+        answers(f"{name} as lgs.py", run(), (1, "", "lgs.py, in the folder of desk.py, is not the one that belongs to it, or not whole. "
+                                                   "Copy it there again, with liblgs.so.\n"))
+    write(folder, "lgs.py", b"import no_such_module\n")
+    check("another module is missing", "No module named 'no_such_module'" in run()[2], run()[2])
+    write(folder, "lgs.py", whole)
     for words in ((), ("stages",), ("why", "Anna Berg", "Dye house")):
         answers(f"no library {words}", run(*words), no_engine(
             f"{folder}/liblgs.so: No such file or directory (liblgs.so belongs in the folder of lgs.py, or LGS_LIBRARY names it)"))
     check("no library: lots", run("lots")[1].endswith(LOTS_THERE), str(run("lots")))
     check("a library that is named", run(LGS_LIBRARY=LIBRARY)[1].startswith("Next visit: Anna Berg"), str(run(LGS_LIBRARY=LIBRARY)))
-    write(folder, "liblgs.so", read(os.path.dirname(LIBRARY), "liblgs.so").replace(b"liblgs.so.1\0", b"liblgs.so.9\0"))
+    write(folder, "liblgs.so", read("", LIBRARY).replace(b"liblgs.so.1\0", b"liblgs.so.9\0"))
     answers("a library of another version", run(), no_engine(f"{folder}/liblgs.so is no liblgs.so of version 1, which belongs to this lgs.py"))
     shutil.copy(LIBRARY, os.path.join(folder, "liblgs.so"))
     check("the three in one folder", run()[1].startswith("Next visit: Anna Berg"), str(run()))
+    check("also for a careful Python", run(PYTHONSAFEPATH="1")[1].startswith("Next visit: Anna Berg"))
+    code = f"import runpy, sys; sys.version_info = (3, 7, 16); runpy.run_path({own!r}, run_name='__main__')"
+    older = subprocess.run([sys.executable, "-c", code], capture_output=True)
+    answers("an older Python", older.stderr, b"desk.py needs Python 3.8 or later, and this is 3.7.\n")
     check("no other files", sorted(os.listdir(folder)) == sorted([*NEW_FILES, "desk.py", "lgs.py", "liblgs.so"]), str(os.listdir(folder)))
 
 
@@ -1175,10 +1186,13 @@ def other_folders(folder):
         check("nothing is written, here or there", read_all(folder) == before and os.listdir(other) == [], str(os.listdir(other)))
     os.remove(os.path.join(folder, "visits.csv"))
     answers("a file is missing", desk(folder)[2], f"visits.csv is not in this folder ({os.path.realpath(folder)}). "
-          '"python3 desk.py new" writes an example to start from.\n')
+            "Was it saved under another name, or not as CSV?\n")
     with open("/dev/full", "wb") as full, tempfile.TemporaryDirectory() as empty:
-        done = subprocess.run([sys.executable, DESK, "new"], cwd=empty, stdout=full, stderr=subprocess.PIPE)
-        check("a full disk", (done.returncode, done.stderr) == (1, b"The answer could not be written: No space left on device.\n"))
+        answers("all files are missing", desk(empty)[2], f"students.csv is not in this folder ({os.path.realpath(empty)}). "
+                '"python3 desk.py new" writes an example to start from.\n')
+        for words, more in ((("new",), b" The tables were written."), ((), b""), (("lots",), b"")):
+            done = subprocess.run([sys.executable, DESK, *words], cwd=empty, stdout=full, stderr=subprocess.PIPE)
+            answers(f"a full disk {words}", (done.returncode, done.stderr), (1, b"The answer could not be written: No space left on device." + more + b"\n"))
 
 
 # ---------------------------------------------------------------- stages
@@ -1228,7 +1242,7 @@ KEPT = [
      "student,stage,line group,lot,A\u030a\nAnna Berg,1,2,1,A\u030ase\nBen Olsen,2,2,2,\u00c5\nCarla Roth,2,2,3,\n"),
 ]
 
-# Stages that are refused before the program is run: students.csv, and the message.
+# Stages that are refused: the cell, and the message.
 WRONG_STAGES = [
     ("0", f'"0" is there; {RANGE} 1 to 512.'),
     ("513", f'"513" is there; {RANGE} 1 to 512.'),
@@ -1239,7 +1253,7 @@ NO_STAGES = """No stage numbers agree with the groups of all workshops. Nothing 
 That is so where workshops put the same students in another order, or in one group here and in two there, directly or through others.{}
 See whether such a group was typed wrongly in pairs.csv; if so, correct it and run desk.py stages again.
 (A workshop with quota 0 does not count, nor does a student in a group above a workshop's line group.)
-If the groups are right, keep any stages in students.csv, for instance 1 for everybody.
+If the groups are right, write any stages from 1 to 512 in students.csv, for instance 1 for everybody, and go on.
 The placement is as good in any case; only the list of visits may be longer than needed.
 """
 
@@ -1540,6 +1554,22 @@ def summary(year, place):
             f"Stage in hand: none, all are done. Students settled for good: {len(place)}; waiting: 0.\n")
 
 
+def sums(folder):
+    """Gaps between the stages, visits that were not called for, seats at a workshop that nobody has, groups with gaps."""
+    write(folder, "students.csv", students("Anna Berg,1,2\nBen Olsen,5,2\nCarla Roth,5,2\n"))
+    add_visits(folder, [("Carla Roth", "Weaving mill", 4, 6)])
+    answers("the stage in hand is of visits called for", standing(desk(folder)[1]), (1, 5, 0, 3))
+    write(folder, "workshops.csv", "workshop,quota,line group\nDye house,1,3\nWeaving mill,1,3\nForge,7,3\n")
+    add_visits(folder, K_VISITS[:3])
+    check("seats that nobody has", "\nSeats filled: 2 of 9.\n" in desk(folder)[1], desk(folder)[1])
+    ordinal = InProcess().module.ordinal
+    words = "first second third fourth fifth sixth 7th 8th 9th 10th 11th 12th 13th 14th 20th 21st 22nd 23rd 24th 31st 65th".split()
+    answers("ordinals", [ordinal(n) for n in (*range(1, 15), *range(20, 25), 31, 65)], words)
+    check("no visits to list", desk(folder, "--visits")[1].count("The visits:\n") == 1)
+    write(folder, "visits.csv", VISIT_HEAD)
+    check("no visits to list yet", "\n\nThe visits: none so far.\n" in desk(folder, "--visits")[1], desk(folder, "--visits")[1])
+
+
 def no_agreement(folder):
     """Where the stages do not agree nobody is called settled, and a student who was dropped and is asked for is not of the stage in hand."""
     write(folder, "students.csv", students("Anna Berg,2,2\nBen Olsen,1,2\nCarla Roth,1,2\n"))
@@ -1604,6 +1634,11 @@ UNFINISHED = [
     ("many workshops without rows", "Dye house,1,3\n" + "".join(f"W{n},1,3\n" for n in range(9)),
      "Anna Berg,Dye house,1,1\nBen Olsen,Dye house,1,2\nCarla Roth,Dye house,1,2\n",
      "\nNote: no row in pairs.csv has these workshops: W0, W1, W2, W3, W4 and 4 more.\n"),
+    ("five workshops without rows", "Dye house,1,3\n" + "".join(f"W{n},0,3\n" for n in range(5)),
+     "Anna Berg,Dye house,1,1\nBen Olsen,Dye house,1,2\nCarla Roth,Dye house,1,2\n",
+     "\nNote: no row in pairs.csv has these workshops: W0, W1, W2, W3, W4.\n"),
+    ("names with a comma", '"Dye, blue",1,3\n"Dye, red",1,3\nMill,1,3\n', "Anna Berg,Mill,1,1\nBen Olsen,Mill,1,2\nCarla Roth,Mill,1,2\n",
+     "\nNote: no row in pairs.csv has these workshops: Dye, blue; Dye, red.\n"),
     ("nothing is missing", "Dye house,1,3\n", "Anna Berg,Dye house,1,1\nBen Olsen,Dye house,1,2\nCarla Roth,Dye house,1,2\n", ""),
 ]
 
@@ -1668,24 +1703,71 @@ def tables_kept(folder):
         answers(f"tables kept: {name}", desk(folder, "--csv", "out", **how), (1, "", message + "\n"))
         check(f"tables kept: {name}: nothing is written", read_all(out) == before, str(os.listdir(out)))
 
-    others = "is there already, and has other headings than desk.py writes. Nothing was written. Name another folder."
-    for name, data, said in (("next.csv", "student,workshop\nAnna,Dye\n", others), ("placement.csv", "a list of our own\n", others), ("next.csv", "", others),
-                             ("placement.csv", b"PK\x03\x04", IS_NO_CSV.format("an .xlsx workbook"))):
+    others = "is there already, and is no table that desk.py wrote. Nothing was written. Name another folder."
+    marks = "Nothing was written. Copy that row to visits.csv, delete out/next.csv, and type the command again."
+    for name, data in (("next.csv", "student,workshop\nAnna,Dye\n"), ("placement.csv", "a list\n"), ("next.csv", ""), ("placement.csv", b"PK\x03\x04"),
+                       ("placement.csv", '"abc'), ("next.csv", 'a"b,"c"d\n'), ("next.csv", VISIT_HEAD + "Anna Berg,Dye house,,\nBen Olsen,Dye house,,\n"),
+                       ("next.csv", PLACEMENT_HEAD), ("placement.csv", NEXT_HEAD), ("next.csv", VISIT_HEAD + "Anna Berg,Dye house,5,\n"),
+                       ("next.csv", VISIT_HEAD + "Anna Berg,Dye house,,never\n")):
         before = read(out, name)
         write(out, name, data)
-        refused(f"{name} of somebody else", f"out/{name} {said}")
+        refused(f"{name} with {data!r}", f"Marks were written in out/next.csv. {marks}" if data[-4:] in (",5,\n", "ver\n") else f"out/{name} {others}")
         write(out, name, before)
+    visits, link = read(folder, "visits.csv"), os.path.join(out, "next.csv")
+    os.remove(link)
+    os.symlink("../visits.csv", link)
+    refused("a link to visits.csv", f"out/next.csv {others}")
+    check("tables kept: the file behind a link", read(folder, "visits.csv") == visits)
+    os.remove(link)
+    write(out, "next.csv", VISIT_HEAD.title())
+    os.chmod(link, 0o444)
+    refused("a protected file", "out/next.csv is protected against writing. Nothing was written.")
+    os.chmod(link, 0o644)
+    check("headings in capitals are desk.py's", desk(folder, "--csv", "out")[0] == 0 and tables_in(out) == OUT_DONE)
+    write(out, ".~lock.next.csv#", "")
+    refused("open", "out/next.csv is open in a spreadsheet: save and close it there, then type the command again. Nothing was written.")
+    os.remove(os.path.join(out, ".~lock.next.csv#"))
     write(out, ".~lock.placement.csv#", "")
     refused("open", "out/placement.csv is open in a spreadsheet: save and close it there, then type the command again. Nothing was written.")
     os.remove(os.path.join(out, ".~lock.placement.csv#"))
     refused("no room", "out/next.csv and out/placement.csv cannot be written in this folder: File too large.",
             first=lambda: resource.setrlimit(resource.RLIMIT_FSIZE, (60, 60)))
     write(folder, "a file", "")
-    answers("a file for the folder", desk(folder, "--csv", "a file"),
-            (1, "", "There is no folder a file, and it cannot be made: File exists. Nothing was written.\n"))
+    answers("a file for the folder", desk(folder, "--csv", "a file"), (1, "", "a file is no folder. Nothing was written.\n"))
+    answers("no folder", desk(folder, "--csv", "/proc/out")[2],
+            "There is no folder /proc/out, and it cannot be made: No such file or directory. Nothing was written.\n")
+    check("the home folder", desk(folder, "--csv=~/mine", HOME=folder)[0] == 0 and tables_in(os.path.join(folder, "mine")) == OUT_DONE, str(os.listdir(folder)))
     write(folder, "pairs.csv", "")
     before = read_all(out)
     check("tables kept: wrong tables", desk(folder, "--csv", "out")[0] == 1 and read_all(out) == before)
+    check("a folder for nothing goes again", desk(folder, "--csv", "new")[0] == 1 and not os.path.exists(os.path.join(folder, "new")))
+
+
+def tables_of_one_answer(folder):
+    """The tables are read under the lock; a signal while the one takes its place, or the other, comes when both have; a disk that fails between is told."""
+    add_visits(folder, K_VISITS[:3])
+    desk(folder, "--csv", "out")
+    out = os.path.join(folder, "out")
+    with open(os.path.join(out, ".placement.csv.lock"), "wb") as lock:
+        fcntl.flock(lock, fcntl.LOCK_EX)
+        run = start_desk(folder, OTHER_DESK.format(""), "--csv", "out")
+        time.sleep(1)
+        add_visits(folder, K_VISITS[3:])
+        fcntl.flock(lock, fcntl.LOCK_UN)
+    run.communicate()
+    answers("read under the lock", tables_in(out), OUT_DONE)
+    begun = {"next.csv": f"\ufeff{NEXT_HEAD}Anna Berg,Dye house,,\r\n", "placement.csv": "\ufeff" + PLACEMENT_HEAD}
+    for number in (1, 2):
+        visits = read(folder, "visits.csv")
+        write(folder, "visits.csv", VISIT_HEAD)
+        told = other_desk(folder, OTHER_DESK.format(AT_REPLACE.format(number, "os.kill(os.getpid(), signal.SIGTERM)")), "--csv", "out")
+        answers(f"a signal at table {number}", (told, tables_in(out)), ((128 + signal.SIGTERM, "", ""), begun))
+        write(folder, "visits.csv", visits)
+        desk(folder, "--csv", "out")
+    told = other_desk(folder, OTHER_DESK.format(AT_REPLACE.format(2, "fail()")), "--csv", "out")
+    answers("a disk that fails between", told, (1, "", "out/placement.csv cannot be written in this folder: Input/output error.\n"
+                                                       "Only out/next.csv was written. Type the command again.\n"))
+    check("a disk that fails between: nothing is left", sorted(os.listdir(out)) == sorted(OUT_DONE), str(os.listdir(out)))
 
 
 def tables_at_once(folder):
@@ -1723,11 +1805,13 @@ def no_tables(folder):
         write(folder, "pairs.csv", NEW_FILES["pairs.csv"])
     os.truncate(path, (32 << 20) + 1)
     answers("a huge file", desk(folder), (1, "", "pairs.csv has 33554433 bytes; a table has at most 33554432. Is this the right file?\n"))
+    os.truncate(path, 32 << 20)
+    check("the largest file is read", "bytes" not in desk(folder)[2], desk(folder)[2][:200])
     write(folder, "pairs.csv", NEW_FILES["pairs.csv"])
     names = {"an .xlsx workbook": b"PK\x03\x04" + bytes(26) + b"[Content_Types].xml", "an .xls workbook": b"\xd0\xcf\x11\xe0\xa1\xb1\x1a\xe1",
-             "an .ods workbook": b"PK\x03\x04" + bytes(26) + b"mimetypeapplication/vnd.oasis.opendocument.spreadsheet", "a PDF file": b"%PDF-1.7",
-             "a text in UTF-16": "student,stage".encode("utf-16")}
-    for what, data in names.items():
+             "an .ods workbook": b"PK\x03\x04" + bytes(25) + b"\n" + b"mimetypeapplication/vnd.oasis.opendocument.spreadsheet", "a PDF file": b"%PDF-1.7",
+             "a text in UTF-16": "student,stage".encode("utf-16"), "a text in UTF-16 ": b"\xfe\xff" + "student,stage".encode("utf-16-be")}
+    for what, data in ((what.strip(), data) for what, data in names.items()):
         write(folder, "students.csv", data)
         for words in ((), ("lots",), ("stages",)):
             answers(f"{what} {words}", desk(folder, *words),
@@ -1738,13 +1822,15 @@ def no_tables(folder):
 def first_lines(folder):
     """`sep=;` in the first line is no row, and stays; it says what stands between the cells, whatever there is more of."""
     for lead in ("sep=;\r\n", "\ufeffsep=;\r\n", '"sep=;"\n', "SEP=;\r"):
-        text = lead + "stu,dent,s,x;student;stage;line group;lot\r\n;Anna Berg;;2;1\r\n;Ben Olsen;;2;2\r\n;Carla Roth;;2;\r\n"
+        text = lead + "stu,dent,s,x,y,z;student;stage;line group;lot\r\n;Anna Berg;;2;1\r\n;Ben Olsen;;2;2\r\n;Carla Roth;;2;\r\n"
         write(folder, "students.csv", text)
         check(f"{lead!r}: lots", drawing([9], folder)[0] == 0 and read(folder, "students.csv").decode() == text.replace("Roth;;2;", "Roth;;2;9"))
         status, out, err = desk(folder, "stages")
-        wanted = lead + "stu,dent,s,x;student;stage;line group;lot\r\n;Anna Berg;1;2;1\r\n;Ben Olsen;2;2;2\r\n;Carla Roth;2;2;9\r\n"
+        wanted = lead + "stu,dent,s,x,y,z;student;stage;line group;lot\r\n;Anna Berg;1;2;1\r\n;Ben Olsen;2;2;2\r\n;Carla Roth;2;2;9\r\n"
         check(f"{lead!r}: stages", status == 0 and read(folder, "students.csv").decode() == wanted, f"{read(folder, 'students.csv')}{err}")
         check(f"{lead!r}: read", desk(folder)[1].startswith("Next visit: Anna Berg goes to Dye house.\n"), str(desk(folder)))
+        write(folder, "students.csv", wanted.encode().replace(b"Ben", b"B\xf6n"))
+        check(f"{lead!r}: a letter that is not UTF-8", lead == "SEP=;\r" or desk(folder)[2].startswith("students.csv, row 3: a letter is not"), desk(folder)[2])
         write(folder, "students.csv", wanted.replace("Ben Olsen;2", "Ben Olsen;x"))
         check(f"{lead!r}: the heading is row 1", desk(folder)[2].startswith('students.csv, row 3, column "stage": "x" is there'), desk(folder)[2])
     write(folder, "students.csv", "sep=\t\nstudent\tstage\tline group\tlot\nAnna, Berg\t1\t2\t1\n")
@@ -1754,11 +1840,11 @@ def first_lines(folder):
 
 def other_terminals(folder):
     """Names can be read where the terminal knows only some letters. A closed pipe is no error."""
-    write(folder, "students.csv", students("J\u00f6rg Gro\u00df,1,2\n\u0141ucja \u00d8rsted,2,2\n\u738b,2,2\n"))
-    write(folder, "pairs.csv", pairs("".join(f"{s},Dye house,1,1\n" for s in ("J\u00f6rg Gro\u00df", "\u0141ucja \u00d8rsted", "\u738b"))))
-    for encoding, names in (("utf-8", ("J\u00f6rg Gro\u00df", "\u0141ucja \u00d8rsted", "\u738b")),
-                            ("latin-1", ("J\u00f6rg Gro\u00df", "Lucja \u00d8rsted", "(U+738B)")),
-                            ("ascii", ("Jorg Gross", "Lucja Orsted", "(U+738B)"))):
+    write(folder, "students.csv", students("J\u00f6rg Gro\u00df,1,2\n\u0141\u00f3d\u017a \u00d8rsted,2,2\n\u738b,2,2\n"))
+    write(folder, "pairs.csv", pairs("".join(f"{s},Dye house,1,1\n" for s in ("J\u00f6rg Gro\u00df", "\u0141\u00f3d\u017a \u00d8rsted", "\u738b"))))
+    for encoding, names in (("utf-8", ("J\u00f6rg Gro\u00df", "\u0141\u00f3d\u017a \u00d8rsted", "\u738b")),
+                            ("latin-1", ("J\u00f6rg Gro\u00df", "L\u00f3dz \u00d8rsted", "(U+738B)")),
+                            ("ascii", ("Jorg Gross", "Lodz Orsted", "(U+738B)"))):
         env = {**os.environ, "PYTHONIOENCODING": encoding}
         done = subprocess.run([sys.executable, DESK, "lots"], cwd=folder, env=env, capture_output=True)
         told = [line.split("  ")[-1] for line in done.stdout.decode(encoding).split("\n")[1:4]]
@@ -1773,6 +1859,9 @@ def other_terminals(folder):
         done = subprocess.run([sys.executable, DESK, *words], cwd=folder, stdout=writer, stderr=subprocess.PIPE)
         os.close(writer)
         check(f"a closed pipe {words}", (done.returncode, done.stderr) == (0, b""), f"{done.returncode} {done.stderr}")
+    for words, wrote in ((("lots",), False), (("--csv", "out"), True)):
+        closed = subprocess.run(["sh", "-c", 'exec "$@" >&-', "sh", sys.executable, DESK, *words], cwd=folder, stderr=subprocess.PIPE)
+        check(f"no terminal {words}", b"Traceback" not in closed.stderr and os.path.exists(os.path.join(folder, "out")) == wrote, str(closed.stderr))
     for words in (("why",), ("why", "Anna"), ("why", "a", "b", "c"), ("lots", "Anna"), ("nothing",), ("--csv",), ("lots", "--csv", "out"),
                   ("why", "a", "b", "--visits"), ("--semicolon",), ("stages", "--visits")):
         answers(f"a wrong command {words}", desk(folder, *words)[:2], (2, ""))
@@ -1843,6 +1932,16 @@ runpy.run_path(sys.argv[0], run_name="__main__")
 """
 SLOW_DISK = OTHER_DESK.format("os.fsync = lambda file: time.sleep(0.3)")
 SLOW_ENGINE = OTHER_DESK.format("lgs.place = lambda *files: (time.sleep(0.2), place(*files))[1]")
+AT_REPLACE = """
+import errno, signal
+real, count = os.replace, []
+def fail(): raise OSError(errno.EIO, os.strerror(errno.EIO))
+def replace(*names):
+    count.append(names)
+    if len(count) == {}: {}
+    return real(*names)
+os.replace = replace
+"""
 INTERRUPTED = """
 import builtins, os, runpy, signal, sys
 real = builtins.__import__
@@ -1892,7 +1991,13 @@ def other_desk(folder, code, *words):
 
 def start_desk(folder, code, *words, **more):
     return subprocess.Popen([sys.executable, "-c", code, DESK, *words], cwd=folder, env={**os.environ, **more}, stdin=subprocess.DEVNULL,
-                            stdout=subprocess.PIPE, stderr=subprocess.PIPE, start_new_session=True)
+                            stdout=subprocess.PIPE, stderr=subprocess.PIPE, start_new_session=True, preexec_fn=usual_signals)
+
+
+def usual_signals():
+    """Signals that whoever runs the tests may have turned off."""
+    for number in (signal.SIGTERM, signal.SIGHUP, signal.SIGINT, signal.SIGQUIT):
+        signal.signal(number, signal.SIG_DFL)
 
 
 def another_run_meanwhile(folder):
@@ -1992,7 +2097,7 @@ def locked(path, text, run):
 def ended_by_signals(folder):
     """`kill`, a closed terminal and Ctrl-C end a run without a word, and nothing is left behind."""
     for words in (("stages",), (), ("--csv", ".")):
-        for number in (signal.SIGTERM, signal.SIGHUP, signal.SIGINT):
+        for number in (signal.SIGTERM, signal.SIGHUP, signal.SIGINT, signal.SIGQUIT):
             with endless(folder, *words) as run:
                 run.send_signal(number)
                 answers("ended by a signal", (*run.communicate(), run.returncode), (b"", b"", 128 + number))
@@ -2316,6 +2421,14 @@ def stages_while_saved(folder):
     check("stages while tables are saved: written", read(folder, "students.csv") == students("Anna Berg,2,2\nBen Olsen,1,2\nCarla Roth,1,2\n").encode())
 
 
+def try_out(test, *words, **more):
+    """One that breaks off is one that failed; the others go on."""
+    try:
+        test(*words, **more)
+    except Exception:
+        check(f"{test.__name__} {words}", False, traceback.format_exc())
+
+
 def main():
     NEW_FILES.update(new_files()[0])
     for test in (example_k, guide, never, ends_of_a_visit, nevers_of_a_workshop, lots_drawn, lots_of_many, lots_kept, wrong_lots,
@@ -2324,22 +2437,18 @@ def main():
                  changed_meanwhile, writing_stages, open_in_a_spreadsheet, parallel_loops, another_run_meanwhile, draws_at_once,
                  in_use, ended_by_signals, locks, held_to_the_end, left_by_others, signed_by_others, saved_while_written, replaced_while_read,
                  rewritten_while_read, rewritten_to_and_fro, half_saved, gone_for_a_moment, stages_while_saved, no_agreement, unfinished, as_tables,
-                 as_tables_elsewhere, tables_kept, tables_at_once, no_tables, first_lines, other_terminals):
-        in_new_folder(test)
-    wrong_inputs()
-    lots_of_new()
-    draws()
-    only_cells()
-    small_years()
-    whole_year(1, share=0, most_fare=None)
-    whole_year(2, share=0.3)
-    whole_year(3, share=0.3, prepare=work_out, stages=6, met=0.25)
-    whole_year(4, share=0, equal=True, most_fare=65535)
-    whole_year(5, share=0.3, equal=True)
-    whole_year(6, share=0.1, students=40, workshops=8)
-    settled()
-    college(7, 400, 20, 0.5, most=15)
-    college(8, 512, 64, 1, most=30)
+                 as_tables_elsewhere, tables_kept, tables_of_one_answer, tables_at_once, no_tables, first_lines, other_terminals, sums):
+        try_out(in_new_folder, test)
+    for test in (wrong_inputs, lots_of_new, draws, only_cells, small_years, settled):
+        try_out(test)
+    try_out(whole_year, 1, share=0, most_fare=None)
+    try_out(whole_year, 2, share=0.3)
+    try_out(whole_year, 3, share=0.3, prepare=work_out, stages=6, met=0.25)
+    try_out(whole_year, 4, share=0, equal=True, most_fare=65535)
+    try_out(whole_year, 5, share=0.3, equal=True)
+    try_out(whole_year, 6, share=0.1, students=40, workshops=8)
+    try_out(college, 7, 400, 20, 0.5, most=15)
+    try_out(college, 8, 512, 64, 1, most=30)
     print(f"{tally['passed']} passed, {tally['failed']} failed")
     return 1 if tally["failed"] else 0
 

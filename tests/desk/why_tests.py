@@ -231,10 +231,10 @@ FORMS = {
     "never, student": NEVER_SAID.format("{s}"),
     "never, workshop": NEVER_SAID.format("{w}"),
     "never, both": NEVER_SAID.format("{s} and {w}"),
-    "hers, group": "{s} has {w} in group {her_w}, beyond the line group {s_line}: " + LINE_ENDS["s"],
-    "hers, mark": "{s} has {w} in the line group {s_line} and gave the mark {s_gave_w}, below 0: " + LINE_ENDS["s"],
-    "its, group": "{w} has {s} in group {its_s}, beyond the line group {w_line}: " + LINE_ENDS["w"],
-    "its, mark": "{w} has {s} in the line group {w_line} and gave the mark {w_gave_s}, below 0: " + LINE_ENDS["w"],
+    "hers, group": "{s} puts {w} in group {her_w}, beyond the line group {s_line}: " + LINE_ENDS["s"],
+    "hers, mark": "{s} puts {w} in the line group {s_line} and gave the mark {s_gave_w}, below 0: " + LINE_ENDS["s"],
+    "its, group": "{w} puts {s} in group {its_s}, beyond the line group {w_line}: " + LINE_ENDS["w"],
+    "its, mark": "{w} puts {s} in the line group {w_line} and gave the mark {w_gave_s}, below 0: " + LINE_ENDS["w"],
     "quota 0": "{w} takes nobody: its quota is 0.",
     "full, group": FULL + "group: {its_low} before {its_s}.",
     "full, mark": FULL + "mark: both are in its group {its_s}, and it gave {low} the mark {w_gave_low} and {s} the mark {w_gave_s}.",
@@ -509,12 +509,14 @@ TAKEN = [    # typed, and who is meant
     (("Anna Berg", DYE), ("Anna Berg", DYE)), (("anna berg", "DYE HOUSE"), ("Anna Berg", DYE)), (("ase ost", "farberei"), ("Åse Øst", FAR)),
     (("A\u030ASE Øst", "FÄRBEREI"), ("Åse Øst", FAR)), (("Eva Roth", DYE), ("Eva Roth", DYE)), (("Éva Roth", DYE), ("Éva Roth", DYE)),
     (("EVA ROTH", DYE), ("Eva Roth", DYE)), (("éva roth", DYE), ("Éva Roth", DYE)),
+    (("Jo Nan Ek", DYE), ('Jo "Nan" Ek', DYE)), (('jo "nan" ek', DYE), ('Jo "Nan" Ek', DYE)),
 ]
 REFUSED = [    # typed, and what it says
     (("Ana Berg", DYE), 'There is no "Ana Berg" in students.csv. Did you mean "Anna Berg"?\n'),
     (("Anna Berg", "Die house"), 'There is no "Die house" in workshops.csv. Did you mean "Dye house"?\n'),
-    (("Xqz", DYE), 'There is no "Xqz" in students.csv.\n'), ((DYE, "Anna Berg"), 'There is no "Dye house" in students.csv.\n'),
+    (("Xqz", DYE), 'There is no "Xqz" in students.csv.\n'), ((DYE, "Anna Berg"), 'There is no "Dye house" in students.csv. Type the student first, and then the workshop.\n'),
     (("Anna", DYE), 'There is no "Anna" in students.csv. Did you mean "Anna Berg"?\n'),
+    (("nan", DYE), 'There is no "nan" in students.csv. Did you mean "Jo "Nan" Ek"?\n'),
     (("jose", DYE), '"jose" may be José or Josè. Type the name as it stands in students.csv.\n'),
 ]
 
@@ -525,7 +527,7 @@ def read_all():
 
 def names():
     """Names that are taken, refused, too few or too many; nothing is written."""
-    people = ["Anna Berg", "Åse Øst", "Éva Roth", "Eva Roth", "José", "Josè"]
+    people = ["Anna Berg", "Åse Øst", "Éva Roth", "Eva Roth", "José", "Josè", 'Jo "Nan" Ek']
     write_table("students.csv", "student,stage,line group,lot", [(s, 1, 1, lot) for lot, s in enumerate(people, 1)])
     write_table("workshops.csv", "workshop,quota,line group", [(DYE, 1, 1), (FAR, 1, 1)])
     write_table("pairs.csv", "student,workshop,group from student,group from workshop", [])
