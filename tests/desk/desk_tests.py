@@ -925,7 +925,8 @@ class InProcess:
         os.chdir(folder)
         vars(self.module).update({"AT_REST": 0, **settings})
         try:
-            commands = {"answer": lambda: self.module.answer(False, None), "stages": self.module.work_out_stages, "lots": self.module.fill_in_lots}
+            commands = {"answer": lambda: self.module.answer(False, None), "stages": self.module.work_out_stages, "lots": self.module.fill_in_lots,
+                        "new": lambda: self.module.new(False)}
             lines = commands[command]()
             return 0, "\n".join(lines) + "\n", ""
         except self.module.Stop as stop:
@@ -1713,11 +1714,13 @@ def tables_kept(folder):
         write(out, name, data)
         refused(f"{name} with {data!r}", f"Marks were written in out/next.csv. {marks}" if data[-4:] in (",5,\n", "ver\n") else f"out/{name} {others}")
         write(out, name, before)
-    visits, link = read(folder, "visits.csv"), os.path.join(out, "next.csv")
-    os.remove(link)
-    os.symlink("../visits.csv", link)
-    refused("a link to visits.csv", f"out/next.csv {others}")
-    check("tables kept: the file behind a link", read(folder, "visits.csv") == visits)
+    link = os.path.join(out, "next.csv")
+    for name, rows in (("visits.csv", read(folder, "visits.csv")), ("a year to come.csv", VISIT_HEAD.encode() + b"Anna Berg,Dye house,,\n")):
+        os.remove(link)
+        os.symlink(f"../{name}", link)
+        write(folder, name, rows)
+        refused(f"a link to {name}", f"out/next.csv {others}")
+        check(f"tables kept: {name} behind a link", read(folder, name) == rows)
     os.remove(link)
     write(out, "next.csv", VISIT_HEAD.title())
     os.chmod(link, 0o444)
@@ -2250,6 +2253,15 @@ def saved_while_written(folder):
         os.fsync = fsync
     answers("saved while it is written", told, (1, "", MEANWHILE))
     check("saved while it is written: kept", read(folder, "students.csv") == saved.encode() and sorted(os.listdir(folder)) == sorted(NEW_FILES))
+    for name in NEW_FILES:
+        os.remove(os.path.join(folder, name))
+    os.fsync = lambda file: write(folder, "visits.csv", "mine")
+    try:
+        told = InProcess().run(folder, "new")
+    finally:
+        os.fsync = fsync
+    answers("saved while the example is written", told, (1, "", "visits.csv is in this folder already. Nothing was written."))
+    check("saved while the example is written: kept", read_all(folder) == {"visits.csv": b"mine"}, str(os.listdir(folder)))
 
 
 def watched(before):
