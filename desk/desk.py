@@ -44,6 +44,7 @@ sys.dont_write_bytecode = True    # the desk's folder stays as it is
 sys.path.insert(0, os.path.dirname(os.path.abspath(__file__)))
 try:
     import lgs
+    # all that is used below is there
     lgs.Cause, lgs.NextVisit, lgs.Placement, lgs.Refused, lgs.pack_book, lgs.pack_case, lgs.place, lgs.stages
 except ModuleNotFoundError as missing:
     if missing.name != "lgs":

@@ -212,6 +212,8 @@ class _PartReport(ctypes.Structure):
 @functools.lru_cache(maxsize=None)
 def _library() -> ctypes.CDLL:
     path = os.path.abspath(os.environ.get("LGS_LIBRARY") or os.path.join(os.path.dirname(os.path.abspath(__file__)), "liblgs.so"))
+    if os.path.exists(path) and not os.path.isfile(path):
+        raise OSError(f"{path} is no ordinary file")
     try:
         with open(path, "rb") as file:
             data = file.read()

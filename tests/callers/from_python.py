@@ -377,7 +377,11 @@ def called(folder, library=None):
     words = {name: word for name, word in os.environ.items() if name != "LGS_LIBRARY"}
     if library is not None:
         words["LGS_LIBRARY"] = library
-    run = subprocess.run([sys.executable, "-I", "-S", "-B", "-c", ONE_CALL, folder], env=words, cwd=folder, stdout=subprocess.PIPE, stderr=subprocess.STDOUT)
+    try:
+        run = subprocess.run([sys.executable, "-I", "-S", "-B", "-c", ONE_CALL, folder], env=words, cwd=folder, stdout=subprocess.PIPE,
+                             stderr=subprocess.STDOUT, timeout=20)
+    except subprocess.TimeoutExpired:
+        return "it hangs\n"
     return run.stdout.decode() + (f"status {run.returncode}\n" if run.returncode else "")
 
 
@@ -407,7 +411,10 @@ def test_no_library(folder):
     missing = os.path.join(folder, "missing.so")
     fails("no library beside lgs.py", called(folder), "No such file", os.path.join(folder, "liblgs.so"))
     fails("LGS_LIBRARY names no file", called(folder, missing), "No such file", missing)
-    fails("LGS_LIBRARY names a folder", called(folder, folder), "directory", folder)
+    fails("LGS_LIBRARY names a folder", called(folder, folder), f"{folder} is no ordinary file")
+    pipe = os.path.join(folder, "pipe")
+    os.mkfifo(pipe)
+    fails("LGS_LIBRARY names a pipe", called(folder, pipe), f"{pipe} is no ordinary file")
 
 
 def test_wrong_library(folder):

@@ -1693,48 +1693,77 @@ def as_tables_elsewhere(folder):
         check("as tables elsewhere", status == 0 and rows[1:] == wanted and place == year.best_for_students(), f"{rows}\n{wanted}\n{err}")
 
 
-def tables_kept(folder):
-    """What is not desk.py's, is open, or cannot be written stays, and both tables with it."""
+def finished_out(folder):
+    """The folder `out` with the two tables of the finished example."""
     add_visits(folder, K_VISITS)
     desk(folder, "--csv", "out")
+    return os.path.join(folder, "out")
+
+
+def tables_kept(folder, name, message, **how):
+    """With this message nothing is written in `out`."""
     out = os.path.join(folder, "out")
+    before = read_all(out)
+    answers(f"tables kept: {name}", desk(folder, "--csv", "out", **how), (1, "", message + "\n"))
+    check(f"tables kept: {name}: nothing is written", read_all(out) == before, str(os.listdir(out)))
 
-    def refused(name, message, **how):
-        before = read_all(out)
-        answers(f"tables kept: {name}", desk(folder, "--csv", "out", **how), (1, "", message + "\n"))
-        check(f"tables kept: {name}: nothing is written", read_all(out) == before, str(os.listdir(out)))
 
-    others = "is there already, and is no table that desk.py wrote. Nothing was written. Name another folder."
-    marks = "Nothing was written. Copy that row to visits.csv, delete out/next.csv, and type the command again."
-    for name, data in (("next.csv", "student,workshop\nAnna,Dye\n"), ("placement.csv", "a list\n"), ("next.csv", ""), ("placement.csv", b"PK\x03\x04"),
-                       ("placement.csv", '"abc'), ("next.csv", 'a"b,"c"d\n'), ("next.csv", VISIT_HEAD + "Anna Berg,Dye house,,\nBen Olsen,Dye house,,\n"),
-                       ("next.csv", PLACEMENT_HEAD), ("placement.csv", NEXT_HEAD), ("next.csv", VISIT_HEAD + "Anna Berg,Dye house,5,\n"),
-                       ("next.csv", VISIT_HEAD + "Anna Berg,Dye house,,never\n")):
+OTHERS = "out/{} is there already, and is no table that desk.py wrote. Nothing was written. Name another folder."
+MARKS_THERE = "Marks were written in out/next.csv. Nothing was written. Copy that row to visits.csv, delete out/next.csv, and type the command again."
+
+# Tables that are not desk.py's, or in which somebody has written: name, content, the message.
+SOMEBODYS = [
+    ("next.csv", "student,workshop\nAnna,Dye\n", OTHERS),
+    ("next.csv", "", OTHERS),
+    ("next.csv", 'a"b,"c"d\n', OTHERS),
+    ("next.csv", VISIT_HEAD + "Anna Berg,Dye house,,\nBen Olsen,Dye house,,\n", OTHERS),
+    ("next.csv", PLACEMENT_HEAD, OTHERS),
+    ("next.csv", VISIT_HEAD + "Anna Berg,Dye house,5,\n", MARKS_THERE),
+    ("next.csv", VISIT_HEAD + "Anna Berg,Dye house,,never\n", MARKS_THERE),
+    ("placement.csv", "a list\n", OTHERS),
+    ("placement.csv", b"PK\x03\x04", OTHERS),
+    ("placement.csv", '"abc', OTHERS),
+    ("placement.csv", NEXT_HEAD, OTHERS),
+]
+
+
+def tables_of_others(folder):
+    """What is not desk.py's stays, and both tables with it; so does what is behind a link."""
+    out = finished_out(folder)
+    for name, data, message in SOMEBODYS:
         before = read(out, name)
         write(out, name, data)
-        refused(f"{name} with {data!r}", f"Marks were written in out/next.csv. {marks}" if data[-4:] in (",5,\n", "ver\n") else f"out/{name} {others}")
+        tables_kept(folder, f"{name} with {data!r}", message.format(name))
         write(out, name, before)
     link = os.path.join(out, "next.csv")
     for name, rows in (("visits.csv", read(folder, "visits.csv")), ("a year to come.csv", VISIT_HEAD.encode() + b"Anna Berg,Dye house,,\n")):
         os.remove(link)
         os.symlink(f"../{name}", link)
         write(folder, name, rows)
-        refused(f"a link to {name}", f"out/next.csv {others}")
+        tables_kept(folder, f"a link to {name}", OTHERS.format("next.csv"))
         check(f"tables kept: {name} behind a link", read(folder, name) == rows)
     os.remove(link)
     write(out, "next.csv", VISIT_HEAD.title())
-    os.chmod(link, 0o444)
-    refused("a protected file", "out/next.csv is protected against writing. Nothing was written.")
-    os.chmod(link, 0o644)
     check("headings in capitals are desk.py's", desk(folder, "--csv", "out")[0] == 0 and tables_in(out) == OUT_DONE)
-    write(out, ".~lock.next.csv#", "")
-    refused("open", "out/next.csv is open in a spreadsheet: save and close it there, then type the command again. Nothing was written.")
-    os.remove(os.path.join(out, ".~lock.next.csv#"))
-    write(out, ".~lock.placement.csv#", "")
-    refused("open", "out/placement.csv is open in a spreadsheet: save and close it there, then type the command again. Nothing was written.")
-    os.remove(os.path.join(out, ".~lock.placement.csv#"))
-    refused("no room", "out/next.csv and out/placement.csv cannot be written in this folder: File too large.",
-            first=lambda: resource.setrlimit(resource.RLIMIT_FSIZE, (60, 60)))
+
+
+def tables_not_written(folder):
+    """Tables that are protected or open, and a disk without room: both stay."""
+    out = finished_out(folder)
+    for name in OUT_DONE:
+        os.chmod(os.path.join(out, name), 0o444)
+        tables_kept(folder, f"{name} protected", f"out/{name} is protected against writing. Nothing was written.")
+        os.chmod(os.path.join(out, name), 0o644)
+        write(out, f".~lock.{name}#", "")
+        tables_kept(folder, f"{name} open", f"out/{name} is open in a spreadsheet: save and close it there, then type the command again. Nothing was written.")
+        os.remove(os.path.join(out, f".~lock.{name}#"))
+    tables_kept(folder, "no room", "out/next.csv and out/placement.csv cannot be written in this folder: File too large.",
+                first=lambda: resource.setrlimit(resource.RLIMIT_FSIZE, (60, 60)))
+
+
+def folders_for_tables(folder):
+    """A file, no folder, the home folder; and with wrong tables a folder that was made goes again."""
+    out = finished_out(folder)
     write(folder, "a file", "")
     answers("a file for the folder", desk(folder, "--csv", "a file"), (1, "", "a file is no folder. Nothing was written.\n"))
     answers("no folder", desk(folder, "--csv", "/proc/out")[2],
@@ -2449,7 +2478,8 @@ def main():
                  changed_meanwhile, writing_stages, open_in_a_spreadsheet, parallel_loops, another_run_meanwhile, draws_at_once,
                  in_use, ended_by_signals, locks, held_to_the_end, left_by_others, signed_by_others, saved_while_written, replaced_while_read,
                  rewritten_while_read, rewritten_to_and_fro, half_saved, gone_for_a_moment, stages_while_saved, no_agreement, unfinished, as_tables,
-                 as_tables_elsewhere, tables_kept, tables_of_one_answer, tables_at_once, no_tables, first_lines, other_terminals, sums):
+                 as_tables_elsewhere, tables_of_others, tables_not_written, folders_for_tables, tables_of_one_answer, tables_at_once, no_tables,
+                 first_lines, other_terminals, sums):
         try_out(in_new_folder, test)
     for test in (wrong_inputs, lots_of_new, draws, only_cells, small_years, settled):
         try_out(test)
