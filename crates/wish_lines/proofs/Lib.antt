@@ -1,0 +1,13 @@
+pub mod Decimal
+pub mod Reader
+pub mod Sound
+pub mod Grammar
+pub mod Groups
+pub mod Named
+pub mod Written
+pub mod Equal
+pub mod Length
+pub mod Causes
+pub mod Naming
+pub mod Namings
+pub mod Appending
