@@ -10,4 +10,5 @@ pub mod Length
 pub mod Causes
 pub mod Naming
 pub mod Namings
+pub mod Counted
 pub mod Appending

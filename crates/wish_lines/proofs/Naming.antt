@@ -159,7 +159,7 @@ module _ (M : Market) (R : Ranged M) (l : Line) (f : Formed l) (e : misnamed M l
   groups-few (g ∷ gs) h = omega (arith, h g (here refl), groups-few gs (λ k m. h k (later m)), length-append g (flatten gs))
 
   -- a named item stands in one of the groups
-  within : (gs : List (List ℕ)) (x : ℕ) → 1 ≤ tally (eqb x) (flatten gs) → position gs x ≤ length gs
+  pub within : (gs : List (List ℕ)) (x : ℕ) → 1 ≤ tally (eqb x) (flatten gs) → position gs x ≤ length gs
   unfolding flatten position tally
   within [] x k = absurd (omega arith)
   within (g ∷ gs) x k =
@@ -171,14 +171,15 @@ module _ (M : Market) (R : Ranged M) (l : Line) (f : Formed l) (e : misnamed M l
       none-in : any (eqb x) g ≡ false → tally (eqb x) g ≡ 0
       none-in h = ⊎-elim (λ (q : 0 < tally (eqb x) g). absurd (never (in-has x g (in-tally x g q)) h)) (λ (q : tally (eqb x) g ≤ 0). omega arith) (less? 0 (tally (eqb x) g))
 
+  -- an option is named
+  pub once : (x : ℕ) → Option? M (l .student) x → 1 ≤ tally (eqb x) (flatten (l .groups))
+  unfolding times
+  once zero o = omega (arith, f .none)
+  once (suc w) o = omega (arith, exactly M R l e (suc w) (omega arith), ap one o)
+
   -- "groups counted from 1": each position is one of a group that cause 5 lets pass
   pub few-groups : (x : ℕ) → Option? M (l .student) x → (1 ≤ position (l .groups) x) × (position (l .groups) x ≤ 65)
-  unfolding times
   few-groups x o = (
     from-one (l .groups) x,
     omega (arith, within (l .groups) x (once x o), groups-few (l .groups) (f .groups), few-items),
   )
-    where
-      once : (x : ℕ) → Option? M (l .student) x → 1 ≤ tally (eqb x) (flatten (l .groups))
-      once zero o = omega (arith, f .none)
-      once (suc w) o = omega (arith, exactly M R l e (suc w) (omega arith), ap one o)

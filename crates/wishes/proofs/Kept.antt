@@ -1,0 +1,185 @@
+-- What holds of the copy of a case with the groups of a text that is read.
+use Prim.Native.Nat.{ℕ, zero, suc, _+_, _-_, _*_, _/_, _%_, _≤_, _<_}
+use mathlib.Core.Path.{_≡_, refl, sym, ap, _∙_, subst, fun-ext}
+use mathlib.Core.Logic.{⊎-elim}
+use mathlib.Core.Bool.{Bool}
+use mathlib.Core.List.{List, [], _∷_, _++_, map}
+use mathlib.Core.List.{List·Memᴰ as Mem, List·Memᴰ·head as here, List·Memᴰ·tail as later, List·Memᴰ·not-nil as not-nil, List·Memᴰ·cases-cons as cases-cons}
+use mathlib.Core.List.{Memᴰ·append-left as in-left, Memᴰ·append-right as in-right, Memᴰ·of-map as of-map}
+use native.Mathlib.Omega.{arith}
+use lib.ListN.{length, getD, take, length-map, List·getD-eq-default}
+use Rattle.base.specs.Lists.{tally, total}
+use Rattle.base.proofs.Tests.{eq?, less?}
+use Rattle.base.proofs.Below.{tabulate-length, tabulate-in}
+use Rattle.lgs.specs.Market.{Market, allSeats, seatsOf}
+use Rattle.format.specs.Layout.{Row, Entry, rowAt, rows, rowCount, noRow, ofKind, isPair, entries}
+use Rattle.format.specs.Encoding.{rowBytes, Bytes, RowFits}
+use Rattle.format.specs.Causes.{Cause, NothingFound}
+use Rattle.format.specs.Refusals.{Room, needed, badRoom, badPair, badScores, badRepeat, caseCauses, roomCauses, bookCauses, causes}
+use Rattle.format.specs.Engine.{marketIn}
+use Rattle.format.specs.Promises.{Valid}
+use Rattle.format.proofs.Encoding.{round-trip, row-fits}
+use Rattle.format.proofs.Sorted.{row-at}
+use Rattle.format.proofs.Causes.{nothing-both}
+use Rattle.format.proofs.Cases.{case-whole}
+use Rattle.wish_lines.specs.Lines.{Line, position}
+use Rattle.wish_lines.specs.Reading.{read, readLines, FitLine}
+use Rattle.wish_lines.specs.Wishes.{Option?}
+use Rattle.wish_lines.proofs.Causes.{read-exactly}
+use Rattle.wish_lines.proofs.Counted.{each-counted}
+use Rattle.wishes.specs.Copy.{groupsIn, withThird, withWish, wished}
+use Rattle.wishes.specs.Promises.{SameRest, CopyOf}
+use Rattle.wishes.proofs.Case.{ranged, unseen, any-new, tally-new, wish-cases, new-rows, copy-rest, copy-tier}
+use Rattle.wishes.proofs.Copy.{fit-at, line-range}
+use Rattle.wishes.proofs.Valid.{new-at, copy-length, her-range, pair-range, keep-third, copy-nothing}
+use Rattle.wishes.proofs.Fields.{byte-at, byte-other, read-byte}
+
+in-take : {A : Type 0} (n : ℕ) (xs : List A) (x : A) → Mem x (take n xs) → Mem x xs
+in-take zero xs x m = absurd (not-nil m)
+in-take (suc n) [] x m = absurd (not-nil m)
+in-take (suc n) (y ∷ xs) x m = ⊎-elim (λ e. here e) (λ k. later (in-take n xs x k)) (cases-cons m)
+
+-- what goes by all seats
+seats-same : (M N : Market) → SameRest M N → allSeats M ≡ allSeats N
+unfolding allSeats seatsOf
+seats-same M N r = ap (λ n. total (M .quota) n) (r .workshops) ∙ ap (λ q. total q (N .workshops)) (fun-ext (r .quota))
+
+module _ (case : List ℕ) (nothing : NothingFound (caseCauses case)) (text : List ℕ) (ls : List Line) (e : readLines (marketIn case) text ≡ read ls) where
+  abbrev copy : List ℕ
+  copy = wished ls case
+
+  many : length (rows case) ≡ rowCount case
+  unfolding rows
+  many = tabulate-length (rowAt case) (rowCount case)
+
+  -- ---- its bytes
+
+  third-small : Bytes case → (i : ℕ) → i < rowCount case → withWish ls (rowAt case i) .third < 65536
+  third-small b i l =
+      ⊎-elim (λ (k : rowAt case i .kind ≡ 1). omega (arith, her-range case nothing text ls e i l k .1))
+      (λ (n : rowAt case i .kind ≡ 1 → ⊥).
+      ⊎-elim (λ (k : rowAt case i .kind ≡ 3). omega (arith, pair-range case nothing text ls e i l k .1))
+      (λ (m : rowAt case i .kind ≡ 3 → ⊥). rw (keep-third case nothing text ls e i l n m) (row-fits case i b .third))
+      (eq? (rowAt case i .kind) 3))
+      (eq? (rowAt case i .kind) 1)
+
+  fits-kept : (r : Row) → RowFits r → withWish ls r .third < 65536 → RowFits (withWish ls r)
+  fits-kept r f small =
+      ⊎-elim
+      (λ c.
+      rw (c .2)
+      (record {
+        kind = f .kind;
+        pad = f .pad;
+        first = f .first;
+        second = f .second;
+        third = omega (arith, small, ap (λ q. q .third) (c .2));
+        fourth = f .fourth;
+        fifth = f .fifth;
+        sixth = f .sixth;
+        seventh = f .seventh;
+      }))
+      (λ c. rw c f)
+      (wish-cases ls r)
+
+  new-bytes : Bytes case → Bytes copy
+  unfolding wished rows
+  new-bytes b =
+      round-trip .caseIsBytes (map (withWish ls) (rows case))
+      (λ r m.
+      let x : (q : Row) × Mem q (rows case) × (withWish ls q ≡ r) = of-map (withWish ls) (rows case) m in
+      let k : (i : ℕ) × (i < rowCount case) × (x .0 ≡ rowAt case i) = tabulate-in (rowAt case) (rowCount case) (x .0) (x .1) in
+      subst RowFits (ap (withWish ls) (sym (k .2)) ∙ x .2) (fits-kept (rowAt case (k .0)) (row-fits case (k .0) b) (third-small b (k .0) (k .1))))
+
+  new-byte : (r : Row) (k : ℕ) → (k ≡ 6 → ⊥) → (k ≡ 7 → ⊥) → getD (rowBytes (withWish ls r)) k 0 ≡ getD (rowBytes r) k 0
+  new-byte r k a b = ⊎-elim (λ c. ap (λ q. getD (rowBytes q) k 0) (c .2) ∙ byte-other r (c .0) k a b) (λ c. ap (λ q. getD (rowBytes q) k 0) c) (wish-cases ls r)
+
+  others : Bytes case → (i : ℕ) → (i % 16 ≡ 6 → ⊥) → (i % 16 ≡ 7 → ⊥) → getD copy i 0 ≡ getD case i 0
+  unfolding wished
+  others b i p q = ⊎-elim inside (λ (l : length case ≤ i). List·getD-eq-default copy 0 (omega (arith, copy-length case nothing text ls e)) ∙ sym (List·getD-eq-default case 0 l)) (less? i (length case))
+    where
+      inside : i < length case → getD copy i 0 ≡ getD case i 0
+      inside l =
+          let at : i ≡ 16 * (i / 16) + i % 16 = omega arith in
+          let row : i / 16 < rowCount case = omega (arith, case-whole case nothing) in
+          let long : length (map (withWish ls) (rows case)) ≡ rowCount case = length-map (rows case) (withWish ls) ∙ many in
+          ap (λ j. getD copy j 0) at
+          ∙ (byte-at (map (withWish ls) (rows case)) (i / 16) (i % 16) (omega (arith, long)) (omega arith)
+          ∙ (ap (λ r. getD (rowBytes r) (i % 16) 0) (new-at ls (rows case) (i / 16) ∙ ap (withWish ls) (row-at case (i / 16) row))
+          ∙ (new-byte (rowAt case (i / 16)) (i % 16) p q
+          ∙ (read-byte case b (i / 16) (i % 16) (omega arith) ∙ ap (λ j. getD case j 0) (sym at)))))
+
+  -- ---- its groups
+
+  counted : (s x k : ℕ) → 1 ≤ s → s ≤ marketIn case .students → Option? (marketIn case) s x → 1 ≤ k → k ≤ marketIn copy .studentTier s x
+      → (y : ℕ) × Option? (marketIn case) s y × (marketIn copy .studentTier s y ≡ k)
+  counted s x k l u o low up =
+      let d : Line = record { student = 0; groups = [] } in
+      let h : Line = getD ls (s - 1) d in
+      let fit = read-exactly (marketIn case) text ls .0 e in
+      let f : FitLine (marketIn case) (0 + (s - 1)) h = fit-at (marketIn case) 0 ls (fit .2) (s - 1) d (omega (arith, fit .1)) in
+      let n : h .student ≡ s = f .number ∙ omega arith in
+      let q : k ≤ position (h .groups) x = omega (arith, up, copy-tier ls case nothing s x l u o) in
+      let r : (y : ℕ) × Option? (marketIn case) (h .student) y × (position (h .groups) y ≡ k) =
+      each-counted (marketIn case) (ranged case nothing) h (f .formed) (f .names) x k (subst (λ j. Option? (marketIn case) j x) (sym n) o) low q in
+      let o′ : Option? (marketIn case) s (r .0) = subst (λ j. Option? (marketIn case) j (r .0)) n (r .1) in
+      (r .0, o′, copy-tier ls case nothing s (r .0) l u o′ ∙ r .2)
+
+  -- ---- the engine's causes but 11
+
+  rest : SameRest (marketIn copy) (marketIn case)
+  rest = copy-rest ls case nothing
+
+  room-same : (lent : Room) → roomCauses copy lent ≡ roomCauses case lent
+  unfolding roomCauses badRoom needed
+  room-same lent =
+      rw (
+        seats-same (marketIn copy) (marketIn case) rest,
+        rest .students,
+        ap (tally (ofKind 3)) (new-rows ls case nothing) ∙ tally-new ls (ofKind 3) (unseen ls (ofKind 3) (λ r x. refl)) (rows case),
+      )
+
+  pair-same : (es : List Entry) → badPair (rows copy) es ≡ badPair (rows case) es
+  unfolding badPair
+  pair-same es =
+      fun-ext (λ i.
+      rw (
+        new-rows ls case nothing,
+        any-new ls (isPair (getD es i _ .student) (getD es i _ .workshop)) (unseen ls (isPair (getD es i _ .student) (getD es i _ .workshop)) (λ r x. refl)) (rows case),
+      ))
+
+  book-same : (book : List ℕ) → take 4 (bookCauses copy book) ≡ take 4 (bookCauses case book)
+  unfolding bookCauses badScores badRepeat
+  book-same book = rw (pair-same (entries book))
+
+  split : (book : List ℕ) (lent : Room) → take 11 (causes copy book lent) ≡ caseCauses copy ++ (roomCauses copy lent ++ take 4 (bookCauses copy book))
+  unfolding causes caseCauses roomCauses bookCauses
+  split book lent = refl
+
+  engine : (book : List ℕ) (lent : Room) → Valid case book lent → NothingFound (take 11 (causes copy book lent))
+  unfolding causes
+  engine book lent valid =
+      subst NothingFound (sym (split book lent))
+      (nothing-both (caseCauses copy) _ (copy-nothing case nothing text ls e)
+      (nothing-both (roomCauses copy lent) _
+      (subst NothingFound (sym (room-same lent)) (λ c m. valid c (in-right (caseCauses case) (in-left (bookCauses case book) m))))
+      (subst NothingFound (sym (book-same book))
+      (λ c m. valid c (in-right (caseCauses case) (in-right (roomCauses case lent) (in-take 4 (bookCauses case book) c m)))))))
+
+  pub copy-of : CopyOf case copy ls
+  copy-of =
+      record {
+        copied = refl;
+        long = copy-length case nothing text ls e;
+        bytes = new-bytes;
+        records = new-rows ls case nothing;
+        others = others;
+        rest = rest;
+        groups = λ s x l u o.
+            let t = copy-tier ls case nothing s x l u o in
+            let r = line-range case nothing text ls e s x l u o in
+            (t, rw t (r .0), rw t (r .1));
+        counted = counted;
+        valid = copy-nothing case nothing text ls e;
+        engine = engine;
+      }

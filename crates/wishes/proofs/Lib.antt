@@ -1,0 +1,9 @@
+pub mod Answers
+pub mod Case
+pub mod Copy
+pub mod Valid
+pub mod Fields
+pub mod Kept
+pub mod Reordered
+pub mod Promises
+pub mod Table

@@ -1,0 +1,5 @@
+pub mod Copy
+pub mod Outcome
+pub mod Promises
+pub mod Table
+pub mod Answered
