@@ -11,3 +11,4 @@ pub mod Causes
 pub mod Naming
 pub mod Namings
 pub mod Appending
+pub mod Ranged
