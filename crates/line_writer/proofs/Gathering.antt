@@ -12,12 +12,10 @@ use lib.ListN.{length, getD, set, length-set}
 use lib.Seq.{getD-set-same, getD-set-other}
 use Rattle.base.specs.Below.{anyBelow}
 use Rattle.base.specs.Bits.{member}
-use Rattle.base.proofs.Tests.{and-left, and-right, and-make, eq?}
+use Rattle.base.proofs.Tests.{and-left, and-right, and-make, or-none, eq?}
 use Rattle.base.proofs.Below.{any-on, any-found, any-first}
 use Rattle.base.proofs.Digits.{bit-zero}
 use Rattle.base.proofs.Search.{none-fails}
-use Rattle.base.proofs.Signed.{same-eq}
-use Rattle.lgs.specs.Market.{Market}
 use Rattle.format.specs.Layout.{rowAt, rowCount, rows, isPair}
 use Rattle.format.specs.Refusals.{badRange}
 use Rattle.format.specs.Engine.{marketIn}
@@ -49,10 +47,6 @@ or-swap true true = refl
 or-swap true false = refl
 or-swap false true = refl
 or-swap false false = refl
-
-or-none : (a : Bool) → (a || false) ≡ a
-or-none true = refl
-or-none false = refl
 
 same-truth : (a b : Bool) → (a ≡ true → b ≡ true) → (b ≡ true → a ≡ true) → a ≡ b
 same-truth true b f g = sym (f refl)

@@ -30,7 +30,7 @@ use Rattle.putting.specs.Put.{Put}
 use Rattle.putting.proofs.Laws.{put-then}
 use Rattle.putting.proofs.UpTo.{put-head}
 use Rattle.wish_lines.specs.Lines.{joined, groupText, lineText, linesText}
-use Rattle.wish_lines.specs.Wishes.{optionsOf, atTier, consGroup, groupsFrom, lineOf, linesFrom, linesOf, wishText, Ranged}
+use Rattle.wish_lines.specs.Wishes.{optionsOf, atTier, groupsFrom, lineOf, linesFrom, linesOf, wishText, Ranged}
 use Rattle.wish_lines.proofs.Appending.{lines-on}
 use Rattle.wish_lines.proofs.Ranged.{student-row, ranged, text-room}
 use Rattle.line_writer.specs.Groups.{itemsOf, groupsOf, Empty, Gathered}
@@ -106,7 +106,6 @@ module _ (case : List ℕ) where
       → Put (linesText (linesFrom (marketIn case) (n + 1) 0)) 0 text after end′
   next-line n p q =
       let e : n + 1 ≡ suc (0 + n) = omega arith in
-      let f : suc (0 + n) ≡ suc n = omega arith in
       rw (add-one n, lines-on (marketIn case) n 0) (put-then (omega arith) p (rw e at q))
 
 -- ---- a case in which causes 1 to 5 and 13 find nothing

@@ -1,11 +1,10 @@
 -- Texts put one after the other: two steps are one, of the joined text. A buffer with room for a text gets all of it.
-use Prim.Native.Nat.{ℕ, zero, suc, _+_, _≤_, _<_, min}
+use Prim.Native.Nat.{ℕ, suc, _+_, _≤_, _<_, min}
 use mathlib.Core.Path.{_≡_, refl, sym, ap, _∙_}
 use mathlib.Core.List.{List, [], _∷_, _++_}
 use mathlib.Core.Logic.{⊎-elim}
 use native.Mathlib.Omega.{arith}
 use native.Mathlib.Nat.{min-eq-left, min-eq-right, min-le-right}
-use native.Mathlib.Numerals.{add-one}
 use lib.ListN.{length, drop, length-append, length-take}
 use lib.Seq.{sets, sets-eq, length-sets, set-out, take-append-seam}
 use Rattle.base.proofs.Tests.{less?}

@@ -33,8 +33,9 @@ module _ (case : List ℕ) (nothing : NothingFound (caseCauses case)) where
       rw (student-outside-at case clean s l u) (student-range case (s - 1) (r .0) (case-passed case nothing .range (s - 1) (r .0)) (r .1) .1)
   in-range s (suc w) l u e =
       let k : (i : ℕ) × PairAt case s (suc w) i = pair-record case s (suc w) e in
+      let kind = pair-says s (suc w) (rowAt case (k .0)) (k .1 .pair) .0 in
       rw (student-tier-at case clean s (suc w) (k .0) (k .1 .inside) (k .1 .pair))
-      (tiers-range case (k .0) (k .1 .inside) (case-passed case nothing .range (k .0) (k .1 .inside)) (pair-says s (suc w) (rowAt case (k .0)) (k .1 .pair) .0) .0)
+      (tiers-range case (k .0) (k .1 .inside) (case-passed case nothing .range (k .0) (k .1 .inside)) kind .0)
 
   pub ranged : Ranged (marketIn case)
   ranged =

@@ -1,16 +1,9 @@
 -- `line_writer::put_line` meets its contract: the number, a colon and a blank, the groups, and the end of the line.
-use Rattle.putting.proofs.Laws.{put-then, put-within}
+use Rattle.putting.proofs.Laws.{put-then}
 use Rattle.line_writer.proofs.Lines.{no-sets, student-inside, few-students, line-text}
 use borrow.Author.Needs.{needs}
 use Rattle.line_writer.proofs.put_line.Statement.{statement}
 use Rattle.line_writer.proofs.put_line.Tie as tie
-use Rattle.line_writer.proofs.put_line.Reads as reads
-use Rattle.line_writer.proofs.put_line.Lts as lts
-use Rattle.line_writer.proofs.groups.put_groups.Reads as put-groups-reads
-use Rattle.line_writer.proofs.groups.put_number.Reads as put-number-reads
-use Rattle.line_writer.proofs.sets.gather.Reads as gather-reads
-use Rattle.putting.proofs.put_byte.Reads as put-byte-reads
-use Rattle.records.proofs.third_at.Reads as third-at-reads
 
 slice-aggregate-gather : tie.Need-slice-aggregate-gather
 slice-aggregate-gather c = search needs
@@ -24,7 +17,9 @@ sub-third-at : tie.Need-sub-third-at
 sub-third-at c = search needs
 
 third-at-requires : tie.Need-third-at-requires
-third-at-requires c κs = let start = c .before .before .before .before .before .before in student-inside _ (start .pre .0) _ (start .pre .1 .1 .0 .0) (start .pre .1 .1 .0 .1)
+third-at-requires c κs =
+    let start = c .before .before .before .before .before .before in
+    student-inside _ (start .pre .0) _ (start .pre .1 .1 .0 .0) (start .pre .1 .1 .0 .1)
 
 cast-outside : tie.Need-cast-outside
 cast-outside c = search needs
@@ -54,15 +49,21 @@ same-length c = search needs
 
 returns : tie.Need-returns
 returns c =
-    let start = c .before .before .before .before .before .before .before .before .before .before .before .before .before .before .before .before .before .before .before .before .before .before .before .before .before .before .before .before in
+    let after-groups = c .before .before .before .before .before .before in
+    let after-blank = after-groups .before .before .before .before .before in
+    let after-colon = after-blank .before .before .before .before in
+    let after-number = after-colon .before .before .before .before in
+    let after-sets = after-number .before .before .before .before in
+    let start = after-sets .before .before .before .before .before in
     let a = start .args in
     let fits = start .pre .1 .1 .1 in
-    let numbered = put-then fits (c .before .before .before .before .before .before .before .before .before .before .before .before .before .before .before .before .before .before .before .put-number .ensures) (c .before .before .before .before .before .before .before .before .before .before .before .before .before .before .before .put-byte .ensures) in
-    let headed = put-then fits numbered (c .before .before .before .before .before .before .before .before .before .before .before .put-byte2 .ensures) in
-    let listed = put-then fits headed (c .before .before .before .before .before .before .put-groups .ensures) in
+    let numbered = put-then fits (after-number .put-number .ensures) (after-colon .put-byte .ensures) in
+    let headed = put-then fits numbered (after-blank .put-byte2 .ensures) in
+    let listed = put-then fits headed (after-groups .put-groups .ensures) in
     let whole = put-then fits listed (c .before .before .put-byte3 .ensures) in
-    rw (line-text (a .case .now) (start .pre .0) (a .s) (start .pre .1 .1 .0 .0) (start .pre .1 .1 .0 .1) _ _ (c .before .before .before .before .before .before .before .before .before .before .before .before .before .before .before .before .before .before .before .before .before .before .before .gather .ensures) (c .before .before .before .before .before .before .before .before .before .before .before .before .before .before .before .before .before .before .before .before .before .third-at .ensures))
-    at whole
+    let outside = after-number .before .before .third-at .ensures in
+    let line = line-text (a .case .now) (start .pre .0) (a .s) (start .pre .1 .1 .0 .0) (start .pre .1 .1 .0 .1) _ _ (after-sets .gather .ensures) outside in
+    rw line at whole
 
 pub put-line-spec : {M : Type 1} → statement M
 put-line-spec =

@@ -1,8 +1,7 @@
 -- `line_writer::put_lines` meets its contract. The invariant: the lines of the first s students are put.
-use Prim.Native.Nat.{ℕ, suc, _+_, _-_, _≤_}
-use mathlib.Core.Path.{_≡_, refl, ap, _∙_}
+use Prim.Native.Nat.{_-_, _≤_}
+use mathlib.Core.Path.{_≡_}
 use native.Mathlib.Omega.{arith}
-use native.Mathlib.Numerals.{add-one}
 use Rattle.format.specs.Engine.{marketIn}
 use Rattle.putting.specs.Put.{Put}
 use Rattle.putting.proofs.Laws.{put-none, put-within, put-length}
@@ -11,9 +10,6 @@ use Rattle.wish_lines.specs.Wishes.{linesFrom}
 use Rattle.line_writer.proofs.Lines.{no-lines, next-line, all-lines}
 use Rattle.line_writer.proofs.put_lines.Statement.{statement}
 use Rattle.line_writer.proofs.put_lines.Tie as tie
-use Rattle.line_writer.proofs.put_lines.Reads as reads
-use Rattle.line_writer.proofs.put_lines.Lts as lts
-use Rattle.line_writer.proofs.put_line.Reads as put-line-reads
 
 abbrev Inv-loop : tie.InvT-loop
 Inv-loop case table students text₀ end₀ s₀ text end s = (s ≤ students) × Put (linesText (linesFrom (marketIn case) s 0)) 0 text₀ text end
@@ -42,7 +38,8 @@ loop-less c = omega arith
 loop-again : tie.Need-loop-again Inv-loop μ-loop
 loop-again c =
     let here = c .before .before .before .before .before .loop in
-    (omega arith, next-line (c .before .before .before .before .before .before .before .before .before .args .case .now) (here .s) (here .inv .1) (c .before .before .put-line .ensures))
+    let a = c .before .before .before .before .before .before .before .before .before .args in
+    (omega arith, next-line (a .case .now) (here .s) (here .inv .1) (c .before .before .put-line .ensures))
 
 same-length : tie.Need-same-length Inv-loop μ-loop
 same-length c = put-length (c .before .loop .inv .1)

@@ -1,15 +1,10 @@
 -- `line_writer::groups::put_group` meets its contract: a brace or none, the items, and a brace or none.
-use Rattle.putting.proofs.Laws.{put-then, put-within}
+use Rattle.putting.proofs.Laws.{put-then}
 use Rattle.line_writer.specs.Groups.{itemsOf}
 use Rattle.line_writer.proofs.Text.{braced}
 use borrow.Author.Needs.{needs}
 use Rattle.line_writer.proofs.groups.put_group.Statement.{statement}
 use Rattle.line_writer.proofs.groups.put_group.Tie as tie
-use Rattle.line_writer.proofs.groups.put_group.Reads as reads
-use Rattle.line_writer.proofs.groups.put_group.Lts as lts
-use Rattle.line_writer.proofs.groups.put_if.Reads as put-if-reads
-use Rattle.line_writer.proofs.groups.put_items.Reads as put-items-reads
-use Rattle.line_writer.proofs.groups.size_of.Reads as size-of-reads
 
 size-of-requires : tie.Need-size-of-requires
 size-of-requires c κs = search needs
@@ -28,10 +23,12 @@ same-length c = search needs
 
 returns : tie.Need-returns
 returns c =
-    let start = c .before .before .before .before .before .before .before .before .before .before .before .before .before .before in
-    let opened = put-then (start .pre) (c .before .before .before .before .before .before .before .before .before .before .put-if .ensures) (c .before .before .before .before .before .before .put-items .ensures) in
+    let after-items = c .before .before .before .before .before .before in
+    let after-brace = after-items .before .before .before .before in
+    let start = after-brace .before .before .before .before in
+    let opened = put-then (start .pre) (after-brace .put-if .ensures) (after-items .put-items .ensures) in
     let whole = put-then (start .pre) opened (c .before .before .put-if2 .ensures) in
-    rw (c .before .before .before .before .before .before .before .before .before .before .before .before .size-of .ensures, braced (itemsOf (start .args .outside) (start .args .set))) at whole
+    rw (← braced (itemsOf (start .args .outside) (start .args .set))) (rw (after-brace .before .before .size-of .ensures) at whole)
 
 pub put-group-spec : {M : Type 1} → statement M
 put-group-spec =

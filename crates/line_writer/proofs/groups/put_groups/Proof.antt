@@ -1,21 +1,16 @@
 -- `line_writer::groups::put_groups` meets its contract. The invariant: the groups of the tiers before t are put.
-use Prim.Native.Nat.{ℕ, _≤_, _-_}
-use mathlib.Core.Path.{_≡_, refl, ap, _∙_}
+use Prim.Native.Nat.{_≤_, _-_}
+use mathlib.Core.Path.{refl}
 use mathlib.Core.List.{map}
 use native.Mathlib.Omega.{arith}
 use native.Mathlib.Numerals.{add-one}
 use Rattle.putting.proofs.Laws.{put-none, put-then, put-within}
 use Rattle.putting.proofs.UpTo.{PutUpTo, upto-start, upto-within, upto-length, upto-end, upto-on}
 use Rattle.wish_lines.specs.Lines.{joined, groupText}
-use Rattle.line_writer.specs.Groups.{left, itemsOf, groupsOf}
+use Rattle.line_writer.specs.Groups.{left, groupsOf}
 use Rattle.line_writer.proofs.Text.{next-groups, no-groups}
 use Rattle.line_writer.proofs.groups.put_groups.Statement.{statement}
 use Rattle.line_writer.proofs.groups.put_groups.Tie as tie
-use Rattle.line_writer.proofs.groups.put_groups.Reads as reads
-use Rattle.line_writer.proofs.groups.put_groups.Lts as lts
-use Rattle.line_writer.proofs.groups.put_group.Reads as put-group-reads
-use Rattle.line_writer.proofs.groups.put_if.Reads as put-if-reads
-use Rattle.line_writer.proofs.groups.size_of.Reads as size-of-reads
 
 abbrev Inv-loop : tie.InvT-loop
 Inv-loop text₀ at sets outside end₀ comma₀ t₀ text end comma t =
@@ -51,17 +46,13 @@ loop-less c = omega arith
 
 loop-again : tie.Need-loop-again Inv-loop μ-loop
 loop-again c =
-    let start = c .before .before .before .before .before .before .before .before .before .before .before .before .before .before in
-    let here = c .before .before .before .before .before .before .before .before .before .before .before .loop in
-    let t = here .t in
-    let sets = start .args .sets .now in
-    let outside = start .args .outside in
-    let put = put-then (upto-within (here .inv .2)) (c .before .before .before .before .before .before .put-if .ensures) (c .before .before .put-group .ensures) in
-    let some = c .before .before .before .before .before .before .before .before .size-of .ensures in (
-      omega arith,
-      omega arith,
-      rw (some, add-one t) (upto-on (start .pre .0) (next-groups (here .comma) sets outside t (omega arith)) (here .inv .2) (rw some at put)),
-    )
+    let after-comma = c .before .before .before .before .before .before in
+    let here = after-comma .before .before .before .before .before .loop in
+    let start = after-comma .before .before .before .before .before .before .before .before in
+    let put = put-then (upto-within (here .inv .2)) (after-comma .put-if .ensures) (c .before .before .put-group .ensures) in
+    let some = after-comma .before .before .size-of .ensures in
+    let next = next-groups (here .comma) (start .args .sets .now) (start .args .outside) (here .t) (omega arith) in
+    (omega arith, omega arith, rw (some, add-one (here .t)) (upto-on (start .pre .0) next (here .inv .2) (rw some at put)))
 
 same-length : tie.Need-same-length Inv-loop μ-loop
 same-length c = upto-length (c .before .loop .inv .2)

@@ -3,9 +3,6 @@ use Rattle.putting.proofs.Laws.{put-none}
 use borrow.Author.Needs.{needs}
 use Rattle.line_writer.proofs.groups.put_if.Statement.{statement}
 use Rattle.line_writer.proofs.groups.put_if.Tie as tie
-use Rattle.line_writer.proofs.groups.put_if.Reads as reads
-use Rattle.line_writer.proofs.groups.put_if.Lts as lts
-use Rattle.putting.proofs.put_byte.Reads as put-byte-reads
 
 put-byte-requires : tie.Need-put-byte-requires
 put-byte-requires c κs = search needs

@@ -1,6 +1,5 @@
 -- `line_writer::groups::put_members` meets its contract. The invariant: all is put but the members of `rest`.
-use Prim.Native.Nat.{_≤_}
-use mathlib.Core.Path.{_≡_, refl}
+use mathlib.Core.Path.{refl}
 use mathlib.Core.List.{map}
 use native.Mathlib.Omega.{arith}
 use Rattle.base.specs.Bits.{members}
@@ -11,12 +10,6 @@ use Rattle.line_writer.specs.Groups.{left}
 use Rattle.line_writer.proofs.Text.{items-on, items-end}
 use Rattle.line_writer.proofs.groups.put_members.Statement.{statement}
 use Rattle.line_writer.proofs.groups.put_members.Tie as tie
-use Rattle.line_writer.proofs.groups.put_members.Reads as reads
-use Rattle.line_writer.proofs.groups.put_members.Lts as lts
-use Rattle.bits.proofs.lowest.Reads as lowest-reads
-use Rattle.bits.proofs.without_lowest.Reads as without-lowest-reads
-use Rattle.line_writer.proofs.groups.put_if.Reads as put-if-reads
-use Rattle.line_writer.proofs.groups.put_number.Reads as put-number-reads
 
 abbrev Inv-loop : tie.InvT-loop
 Inv-loop text₀ at after set end₀ comma₀ rest₀ text end comma rest =
@@ -45,11 +38,12 @@ loop-less c = omega arith
 
 loop-again : tie.Need-loop-again Inv-loop μ-loop
 loop-again c =
-    let start = c .before .before .before .before .before .before .before .before .before .before .before .before .before in
-    let here = c .before .before .before .before .before .before .before .before .before .before .before .loop in
+    let after-comma = c .before .before .before .before .before .before .before .before in
+    let here = after-comma .before .before .before .loop in
+    let start = after-comma .before .before .before .before .before in
     let low = c .before .before .before .before .lowest .ensures in
-    upto-on (start .pre) (items-on (here .comma) (here .rest) (c .without-lowest .result) _ low (c .without-lowest .ensures .0 _ low)) (here .inv)
-    (put-then (upto-within (here .inv)) (c .before .before .before .before .before .before .before .before .put-if .ensures) (c .before .before .before .put-number .ensures))
+    let put = put-then (upto-within (here .inv)) (after-comma .put-if .ensures) (c .before .before .before .put-number .ensures) in
+    upto-on (start .pre) (items-on (here .comma) (here .rest) (c .without-lowest .result) _ low (c .without-lowest .ensures .0 _ low)) (here .inv) put
 
 same-length : tie.Need-same-length Inv-loop μ-loop
 same-length c = upto-length (c .before .loop .inv)

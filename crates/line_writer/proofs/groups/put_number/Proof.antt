@@ -6,9 +6,6 @@ use native.Mathlib.Omega.{arith}
 use borrow.Author.Needs.{needs}
 use Rattle.line_writer.proofs.groups.put_number.Statement.{statement}
 use Rattle.line_writer.proofs.groups.put_number.Tie as tie
-use Rattle.line_writer.proofs.groups.put_number.Reads as reads
-use Rattle.line_writer.proofs.groups.put_number.Lts as lts
-use Rattle.line_writer.proofs.groups.put_digit.Reads as put-digit-reads
 
 put-digit-requires : tie.Need-put-digit-requires
 put-digit-requires c κs = search needs
@@ -30,8 +27,10 @@ same-length-2 c = search needs
 
 returns-2 : tie.Need-returns-2
 returns-2 c =
-    let start = c .before .before .before .before .before .before .before .before .before .before .before in
-    rw (two-digits (start .args .n) (omega arith) (omega arith)) (put-then (start .pre .0) (c .before .before .before .before .before .before .put-digit2 .ensures) (c .before .before .put-digit3 .ensures))
+    let after-first = c .before .before .before .before .before .before in
+    let start = after-first .before .before .before .before .before in
+    let two = put-then (start .pre .0) (after-first .put-digit2 .ensures) (c .before .before .put-digit3 .ensures) in
+    rw (two-digits (start .args .n) (omega arith) (omega arith)) two
 
 put-digit-requires-4 : tie.Need-put-digit-requires-4
 put-digit-requires-4 c κs = search needs
@@ -47,9 +46,12 @@ same-length-3 c = search needs
 
 returns-3 : tie.Need-returns-3
 returns-3 c =
-    let start = c .before .before .before .before .before .before .before .before .before .before .before .before .before .before .before in
-    let two = put-then (start .pre .0) (c .before .before .before .before .before .before .before .before .before .before .put-digit4 .ensures) (c .before .before .before .before .before .before .put-digit5 .ensures) in
-    rw (three-digits (start .args .n) (omega arith) (omega arith)) (put-then (start .pre .0) two (c .before .before .put-digit6 .ensures))
+    let after-second = c .before .before .before .before .before .before in
+    let after-first = after-second .before .before .before .before in
+    let start = after-first .before .before .before .before .before in
+    let two = put-then (start .pre .0) (after-first .put-digit4 .ensures) (after-second .put-digit5 .ensures) in
+    let three = put-then (start .pre .0) two (c .before .before .put-digit6 .ensures) in
+    rw (three-digits (start .args .n) (omega arith) (omega arith)) three
 
 pub put-number-spec : {M : Type 1} → statement M
 put-number-spec =

@@ -4,10 +4,6 @@ use Rattle.line_writer.proofs.Text.{size-is}
 use borrow.Author.Needs.{needs}
 use Rattle.line_writer.proofs.groups.size_of.Statement.{statement}
 use Rattle.line_writer.proofs.groups.size_of.Tie as tie
-use Rattle.line_writer.proofs.groups.size_of.Reads as reads
-use Rattle.line_writer.proofs.groups.size_of.Lts as lts
-use Rattle.bits.proofs.count.Reads as count-reads
-use Rattle.records.proofs.one_if.Reads as one-if-reads
 
 one-if-requires : tie.Need-one-if-requires
 one-if-requires c κs = search needs

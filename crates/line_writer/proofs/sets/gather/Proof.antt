@@ -1,6 +1,6 @@
 -- `line_writer::sets::gather` meets its contract. The invariant: the workshops of the first k of her records are in the sets (`Gathering`).
 use Prim.Native.Nat.{_≤_, _<_, _-_}
-use mathlib.Core.Path.{_≡_, refl, ap, sym, _∙_}
+use mathlib.Core.Path.{_≡_, sym, _∙_}
 use native.Mathlib.Omega.{arith}
 use lib.ListN.{length}
 use Rattle.tables.specs.Table.{Stretch}
@@ -8,12 +8,6 @@ use Rattle.case_tests.proofs.Cases.{few, none-clean}
 use Rattle.line_writer.proofs.Gathering.{Gathering, gathering-none, gathering-more, tier-small, workshop-named, gathered}
 use Rattle.line_writer.proofs.sets.gather.Statement.{statement}
 use Rattle.line_writer.proofs.sets.gather.Tie as tie
-use Rattle.line_writer.proofs.sets.gather.Reads as reads
-use Rattle.line_writer.proofs.sets.gather.Lts as lts
-use Rattle.bits.proofs.with_bit.Reads as with-bit-reads
-use Rattle.records.proofs.second_at.Reads as second-at-reads
-use Rattle.records.proofs.third_at.Reads as third-at-reads
-use Rattle.tables.proofs.pairs_of.Reads as pairs-of-reads
 
 abbrev Inv-loop : tie.InvT-loop
 Inv-loop case table s sets₀ first many k₀ sets k = (k ≤ many) × Stretch case s first many × Gathering case first k sets
