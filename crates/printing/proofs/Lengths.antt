@@ -1,20 +1,19 @@
--- How long a text can be, from the digits of its numbers, and that a buffer with that much room gets all of it.
+-- How long a text can be, from the digits of its numbers.
 use Prim.Native.Nat.{ℕ, zero, suc, _+_, _*_, _^_, _/_, _%_, _≤_, _<_}
-use mathlib.Core.Path.{_≡_, sym, ap, _∙_, subst}
+use mathlib.Core.Path.{_≡_, sym, subst}
 use mathlib.Core.List.{List, [], _∷_, _++_}
 use mathlib.Core.Logic.{⊎-elim}
 use native.Mathlib.Omega.{arith}
-use native.Mathlib.Nat.{min-eq-left, min-le-right, div-lt-iff-lt-mul, zero-lt-suc, pow-suc}
+use native.Mathlib.Nat.{div-lt-iff-lt-mul, zero-lt-suc, pow-suc}
 use borrow.Author.Tests.{lt-ltb, le-ltb}
-use lib.ListN.{length, getD, take, drop, length-append, length-take}
-use lib.Seq.{sets-eq, take-append-seam}
+use lib.ListN.{length, getD, take, length-append}
 use Rattle.base.proofs.Tests.{less?}
-use Rattle.format.specs.Printed.{digitsWithin, decimal, numbers, lineOf, placeLines, visitLines, visitsText, Whole}
+use Rattle.format.specs.Printed.{digitsWithin, decimal, numbers, lineOf, placeLines, visitLines, visitsText}
 use Rattle.format.specs.Printed.{placeWord, visitWord, visitsWord, faresWord, nextWord, refusedWord}
 use Rattle.api.specs.Text.{interviewsAt, textOf}
 use Rattle.api.specs.declared.Answer.{Answer}
 use Rattle.api.specs.declared.Answer.the-variants.{Placed, Next, Refused}
-use Rattle.printing.specs.Text.{Put, TextFits}
+use Rattle.printing.specs.Text.{TextFits}
 use Rattle.printing.proofs.Lines.{places-on, places-none, visits-on, visits-none, visits-text}
 
 -- a number below ten to the k has at most k digits
@@ -113,24 +112,6 @@ visits-length l count fares h m le small =
       lines-length l count h,
       fares-length fares small,
     ))
-
--- a text that the buffer has room for stands there whole
-pub put-whole : {t : List ℕ} {end : ℕ} {out after : List ℕ} → Put t 0 out after end → length t ≤ length out → Whole t after end
-put-whole {t} {end} {out} {after} p l =
-    let e : end ≡ length t = p .reach ∙ (min-eq-left (omega arith) ∙ omega arith) in
-    record {
-      long = e;
-      bytes = rw (e, p .buffer, sets-eq t out 0 (omega arith)) (take-append-seam t (drop (0 + length t) out));
-    }
-
--- for a contract that promises both
-pub put-both : {t : List ℕ} {end bound : ℕ} {out after : List ℕ} → Put t 0 out after end → length t ≤ bound
-    → Put t 0 out after end × (bound ≤ length out → Whole t after end)
-put-both p l = (p, λ h. put-whole p (omega arith))
-
--- it ends within the buffer
-pub whole-within : {t : List ℕ} {end : ℕ} {out : List ℕ} → Whole t out end → end ≤ length out
-whole-within {t} {end} {out} p = omega (arith, p .long, ap length (p .bytes), length-take end out, min-le-right end (length out))
 
 -- what bounds an answer's own numbers: the length of a first line that has two of them, and 32 bits for the fares
 abbrev pub Numbers : Answer → Type 0

@@ -5,22 +5,12 @@ ghost use Prim.Native.Nat.{_+_, _*_, _≤_, _<_};
 ghost use lib.ListN.{length, take};
 ghost use Rattle.format.specs.Printed.{ascii, decimal, lineOf, placeLines, visitLines, visitsText, unread, Whole};
 ghost use Rattle.api.specs.Text.{interviewsAt, textOf};
-ghost use Rattle.printing.specs.Text.{Put, TextFits};
+ghost use Rattle.putting.specs.Put.{Put};
+ghost use Rattle.printing.specs.Text.{TextFits};
 use api::Answer;
+use putting::put_byte;
 
-// One byte at `at`; what comes after it.
-fn put_byte(out: &mut [u8], at: usize, b: u8) -> usize
-    requires { ⌜ at ≤ length (now out) ⌝ }
-    ensures { λ r. ⌜ Put (b ∷ []) at (now (out .entry)) (now (out .exit)) r ⌝ }
-{
-    if at < out.len() {
-        out[at] = b;
-        at + 1
-    } else {
-        at
-    }
-}
-
+// The bytes of a word.
 fn put_word(out: &mut [u8], at: usize, word: &[u8]) -> usize
     requires { ⌜ at ≤ length (now out) ⌝ }
     ensures { λ r. ⌜ Put (now (word .entry)) at (now (out .entry)) (now (out .exit)) r ⌝ }

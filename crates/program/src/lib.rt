@@ -4,7 +4,7 @@ ghost use mathlib.Core.Path.{_≡_};
 ghost use lib.ListN.{length};
 ghost use Rattle.format.specs.Engine.{engine};
 ghost use Rattle.format.specs.Printed.{printed, programPrints, programRoom};
-ghost use Rattle.printing.specs.Text.{PutWhole};
+ghost use Rattle.putting.specs.Put.{PutWhole};
 ghost use Rattle.program.specs.Files.{fileOf, sizeOf, Shows};
 use api::Answer;
 use case_tests::Checked;

@@ -12,3 +12,4 @@ pub mod Naming
 pub mod Namings
 pub mod Counted
 pub mod Appending
+pub mod Ranged

@@ -2,7 +2,7 @@
 use mathlib.Core.Path.{sym}
 use native.Mathlib.Omega.{arith}
 use lib.Seq.{length-take-le}
-use Rattle.printing.proofs.Lengths.{whole-within}
+use Rattle.putting.proofs.Laws.{whole-within}
 use borrow.Author.Needs.{needs}
 use Rattle.place.proofs.main.Statement.{statement}
 use Rattle.place.proofs.main.Tie as tie

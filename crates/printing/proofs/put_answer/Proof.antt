@@ -3,8 +3,8 @@ use Prim.Native.Nat.{_+_, _*_, _≤_}
 use native.Mathlib.Omega.{arith}
 use lib.ListN.{length}
 use Rattle.api.specs.Text.{textOf}
-use Rattle.printing.proofs.Laws.{put-then, put-within}
-use Rattle.printing.proofs.Lengths.{Numbers, text-length, put-both}
+use Rattle.putting.proofs.Laws.{put-then, put-within, put-both}
+use Rattle.printing.proofs.Lengths.{Numbers, text-length}
 use borrow.Author.Needs.{needs}
 use Rattle.printing.proofs.put_answer.Statement.{statement}
 use Rattle.printing.proofs.put_answer.Tie as tie

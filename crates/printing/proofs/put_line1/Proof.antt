@@ -1,12 +1,12 @@
 -- `printing::put_line1` meets its contract: word, number and end of the line, put one after the other.
-use Rattle.printing.proofs.Laws.{put-then, put-within}
+use Rattle.putting.proofs.Laws.{put-then, put-within}
 use Rattle.printing.proofs.Decimal.{line-one}
 use borrow.Author.Needs.{needs}
 use Rattle.printing.proofs.put_line1.Statement.{statement}
 use Rattle.printing.proofs.put_line1.Tie as tie
 use Rattle.printing.proofs.put_line1.Reads as reads
 use Rattle.printing.proofs.put_line1.Lts as lts
-use Rattle.printing.proofs.put_byte.Reads as put-byte-reads
+use Rattle.putting.proofs.put_byte.Reads as put-byte-reads
 use Rattle.printing.proofs.put_number.Reads as put-number-reads
 use Rattle.printing.proofs.put_word.Reads as put-word-reads
 

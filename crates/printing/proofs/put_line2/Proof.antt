@@ -1,5 +1,5 @@
 -- `printing::put_line2` meets its contract: word, numbers and end of the line, put one after the other.
-use Rattle.printing.proofs.Laws.{put-then, put-within}
+use Rattle.putting.proofs.Laws.{put-then, put-within}
 use Rattle.printing.proofs.Decimal.{line-two}
 use native.Mathlib.Omega.{arith}
 use Rattle.printing.proofs.Lengths.{long-line}
@@ -8,7 +8,7 @@ use Rattle.printing.proofs.put_line2.Statement.{statement}
 use Rattle.printing.proofs.put_line2.Tie as tie
 use Rattle.printing.proofs.put_line2.Reads as reads
 use Rattle.printing.proofs.put_line2.Lts as lts
-use Rattle.printing.proofs.put_byte.Reads as put-byte-reads
+use Rattle.putting.proofs.put_byte.Reads as put-byte-reads
 use Rattle.printing.proofs.put_number.Reads as put-number-reads
 use Rattle.printing.proofs.put_word.Reads as put-word-reads
 

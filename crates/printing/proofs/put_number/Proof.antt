@@ -1,11 +1,11 @@
 -- `printing::put_number` meets its contract: a space, and then the digits.
-use Rattle.printing.proofs.Laws.{put-then, put-within}
+use Rattle.putting.proofs.Laws.{put-then, put-within}
 use borrow.Author.Needs.{needs}
 use Rattle.printing.proofs.put_number.Statement.{statement}
 use Rattle.printing.proofs.put_number.Tie as tie
 use Rattle.printing.proofs.put_number.Reads as reads
 use Rattle.printing.proofs.put_number.Lts as lts
-use Rattle.printing.proofs.put_byte.Reads as put-byte-reads
+use Rattle.putting.proofs.put_byte.Reads as put-byte-reads
 use Rattle.printing.proofs.put_decimal.Reads as put-decimal-reads
 
 put-byte-requires : tie.Need-put-byte-requires

@@ -7,8 +7,8 @@ use native.Mathlib.Numerals.{add-one}
 use borrow.Author.Needs.{needs}
 use lib.ListN.{length, getD, take}
 use Rattle.format.specs.Printed.{lineOf, placeWord, placeLines}
-use Rattle.printing.specs.Text.{Put}
-use Rattle.printing.proofs.Laws.{put-none, put-then, put-within, put-length}
+use Rattle.putting.specs.Put.{Put}
+use Rattle.putting.proofs.Laws.{put-none, put-then, put-within, put-length}
 use Rattle.printing.proofs.Lines.{places-on, places-none}
 use Rattle.printing.proofs.put_places.Statement.{statement}
 use Rattle.printing.proofs.put_places.Tie as tie

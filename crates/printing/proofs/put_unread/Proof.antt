@@ -1,6 +1,5 @@
 -- `printing::put_unread` meets its contract: the word, and then the end of the line.
-use Rattle.printing.proofs.Laws.{put-then, put-within}
-use Rattle.printing.proofs.Lengths.{put-whole}
+use Rattle.putting.proofs.Laws.{put-then, put-within, put-whole}
 use native.Mathlib.Omega.{arith}
 use Rattle.format.specs.Printed.{unread, numbers}
 use borrow.Author.Needs.{needs}
@@ -8,7 +7,7 @@ use Rattle.printing.proofs.put_unread.Statement.{statement}
 use Rattle.printing.proofs.put_unread.Tie as tie
 use Rattle.printing.proofs.put_unread.Reads as reads
 use Rattle.printing.proofs.put_unread.Lts as lts
-use Rattle.printing.proofs.put_byte.Reads as put-byte-reads
+use Rattle.putting.proofs.put_byte.Reads as put-byte-reads
 use Rattle.printing.proofs.put_word.Reads as put-word-reads
 
 slice-aggregate-put-word : tie.Need-slice-aggregate-put-word

@@ -8,8 +8,8 @@ use borrow.Author.Needs.{needs}
 use lib.ListN.{length, getD, take}
 use Rattle.format.specs.Printed.{lineOf, visitWord, visitLines}
 use Rattle.api.specs.Text.{interviewsAt}
-use Rattle.printing.specs.Text.{Put}
-use Rattle.printing.proofs.Laws.{put-none, put-then, put-within, put-length}
+use Rattle.putting.specs.Put.{Put}
+use Rattle.putting.proofs.Laws.{put-none, put-then, put-within, put-length}
 use Rattle.printing.proofs.Lines.{visits-on, visits-none}
 use Rattle.printing.proofs.put_visit_lines.Statement.{statement}
 use Rattle.printing.proofs.put_visit_lines.Tie as tie

@@ -1,5 +1,5 @@
 -- `printing::put_visits` meets its contract: the line with the count, the lines of the interviews, and the line with the fares.
-use Rattle.printing.proofs.Laws.{put-then}
+use Rattle.putting.proofs.Laws.{put-then}
 use Rattle.printing.proofs.Lines.{visits-text}
 use borrow.Author.Needs.{needs}
 use Rattle.printing.proofs.put_visits.Statement.{statement}

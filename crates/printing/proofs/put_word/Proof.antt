@@ -6,13 +6,13 @@ use native.Mathlib.Omega.{arith}
 use native.Mathlib.Numerals.{add-one}
 use lib.ListN.{length, getD, take}
 use lib.Seq.{take-suc, take-all}
-use Rattle.printing.specs.Text.{Put}
-use Rattle.printing.proofs.Laws.{put-none, put-then, put-within, put-length}
+use Rattle.putting.specs.Put.{Put}
+use Rattle.putting.proofs.Laws.{put-none, put-then, put-within, put-length}
 use Rattle.printing.proofs.put_word.Statement.{statement}
 use Rattle.printing.proofs.put_word.Tie as tie
 use Rattle.printing.proofs.put_word.Reads as reads
 use Rattle.printing.proofs.put_word.Lts as lts
-use Rattle.printing.proofs.put_byte.Reads as put-byte-reads
+use Rattle.putting.proofs.put_byte.Reads as put-byte-reads
 
 abbrev Inv-loop : tie.InvT-loop
 Inv-loop out₀ at word end₀ i₀ out end i = (i ≤ length word) × Put (take i word) at out₀ out end

@@ -1,15 +1,15 @@
--- Texts put one after the other: two steps are one, of the joined text.
-use Prim.Native.Nat.{ℕ, zero, suc, _+_, _≤_, _<_, min}
+-- Texts put one after the other: two steps are one, of the joined text. A buffer with room for a text gets all of it.
+use Prim.Native.Nat.{ℕ, suc, _+_, _≤_, _<_, min}
 use mathlib.Core.Path.{_≡_, refl, sym, ap, _∙_}
 use mathlib.Core.List.{List, [], _∷_, _++_}
 use mathlib.Core.Logic.{⊎-elim}
 use native.Mathlib.Omega.{arith}
-use native.Mathlib.Nat.{min-eq-left, min-eq-right}
-use native.Mathlib.Numerals.{add-one}
-use lib.ListN.{length, length-append, length-set}
-use lib.Seq.{sets, length-sets, set-out}
+use native.Mathlib.Nat.{min-eq-left, min-eq-right, min-le-right}
+use lib.ListN.{length, drop, length-append, length-take}
+use lib.Seq.{sets, sets-eq, length-sets, set-out, take-append-seam}
 use Rattle.base.proofs.Tests.{less?}
-use Rattle.printing.specs.Text.{Put}
+use Rattle.format.specs.Printed.{Whole}
+use Rattle.putting.specs.Put.{Put}
 
 -- text past the buffer's end is cut off
 beyond : (t : List ℕ) (at : ℕ) (out : List ℕ) → length out ≤ at → sets out at t ≡ out
@@ -71,3 +71,21 @@ put-fits b at out l = record { buffer = refl; reach = sym (min-eq-left (omega ar
 pub put-past : (b at : ℕ) (out : List ℕ) → at ≤ length out → length out ≤ at → Put (b ∷ []) at out out at
 put-past b at out l m =
     record { buffer = sym (beyond (b ∷ []) at out m); reach = omega (arith, min-eq-right {n = length out} {m = at + 1} (omega arith)) }
+
+-- a text that the buffer has room for stands there whole
+pub put-whole : {t : List ℕ} {end : ℕ} {out after : List ℕ} → Put t 0 out after end → length t ≤ length out → Whole t after end
+put-whole {t} {end} {out} {after} p l =
+    let e : end ≡ length t = p .reach ∙ (min-eq-left (omega arith) ∙ omega arith) in
+    record {
+      long = e;
+      bytes = rw (e, p .buffer, sets-eq t out 0 (omega arith)) (take-append-seam t (drop (0 + length t) out));
+    }
+
+-- for a contract that promises both
+pub put-both : {t : List ℕ} {end bound : ℕ} {out after : List ℕ} → Put t 0 out after end → length t ≤ bound
+    → Put t 0 out after end × (bound ≤ length out → Whole t after end)
+put-both p l = (p, λ h. put-whole p (omega arith))
+
+-- it ends within the buffer
+pub whole-within : {t : List ℕ} {end : ℕ} {out : List ℕ} → Whole t out end → end ≤ length out
+whole-within {t} {end} {out} p = omega (arith, p .long, ap length (p .bytes), length-take end out, min-le-right end (length out))

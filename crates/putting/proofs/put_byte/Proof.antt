@@ -1,9 +1,9 @@
--- `printing::put_byte` meets its contract: the byte fits, or it is cut off.
+-- `putting::put_byte` meets its contract: the byte fits, or it is cut off.
 use borrow.Author.Needs.{needs}
 use native.Mathlib.Omega.{arith}
-use Rattle.printing.proofs.Laws.{put-fits, put-past}
-use Rattle.printing.proofs.put_byte.Statement.{statement}
-use Rattle.printing.proofs.put_byte.Tie as tie
+use Rattle.putting.proofs.Laws.{put-fits, put-past}
+use Rattle.putting.proofs.put_byte.Statement.{statement}
+use Rattle.putting.proofs.put_byte.Tie as tie
 
 slice-write-out : tie.Need-slice-write-out
 slice-write-out c = search needs
