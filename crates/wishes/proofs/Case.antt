@@ -1,4 +1,4 @@
--- A case in which causes 1 to 5 and 13 find nothing is in range; and the copy with the groups of lines has these groups, and the rest as it was.
+-- The copy of a case with the groups of lines has these groups, and the rest as it was.
 use Prim.Native.Nat.{ℕ, zero, suc, _-_, _≤_, _<_}
 use mathlib.Core.Path.{_≡_, refl, ap, _∙_}
 use mathlib.Core.Logic.{_⊎_, inl, inr, ⊎-elim}
@@ -14,46 +14,14 @@ use Rattle.format.specs.Layout.{Row, rowAt, rows, rowCount, noRow, ofKind, isSt
 use Rattle.format.specs.Causes.{NothingFound}
 use Rattle.format.specs.Refusals.{caseCauses}
 use Rattle.format.specs.Engine.{marketIn}
-use Rattle.format.proofs.Sorted.{Clean}
-use Rattle.format.proofs.Positions.{PairAt, pair-record, pair-says, student-tier-at, student-outside-at, student-found, places}
-use Rattle.format.proofs.Reading.{student-range, tiers-range}
-use Rattle.format.proofs.Cases.{case-clean, case-passed, case-wf, case-counts}
+use Rattle.format.proofs.Positions.{PairAt, pair-record, pair-says, student-found}
+use Rattle.format.proofs.Cases.{case-clean}
 use Rattle.format.proofs.Encoding.{round-trip}
 use Rattle.wish_lines.specs.Lines.{Line, position}
-use Rattle.wish_lines.specs.Wishes.{Option?, Ranged}
+use Rattle.wish_lines.specs.Wishes.{Option?}
+use Rattle.wish_lines.proofs.Ranged.{student-row}
 use Rattle.wishes.specs.Copy.{groupsIn, withThird, withWish, wished}
 use Rattle.wishes.specs.Promises.{SameRest}
-
-module _ (case : List ℕ) (nothing : NothingFound (caseCauses case)) where
-  clean : Clean case (rowCount case)
-  clean = case-clean case nothing
-
-  student-row : (s : ℕ) → 1 ≤ s → s ≤ marketIn case .students → (s - 1 < rowCount case) × (rowAt case (s - 1) .kind ≡ 1) × (rowAt case (s - 1) .first ≡ s)
-  student-row s l u =
-      let r : (rowAt case (s - 1) .kind ≡ 1) × (rowAt case (s - 1) .first ≡ suc (s - 1)) = places case clean .student (s - 1) (omega arith) in
-      (omega (arith, places case clean .whole), r .0, omega arith)
-
-  in-range : (s x : ℕ) → 1 ≤ s → s ≤ marketIn case .students → Option? (marketIn case) s x
-      → (1 ≤ marketIn case .studentTier s x) × (marketIn case .studentTier s x ≤ 65)
-  in-range s zero l u e =
-      let r = student-row s l u in
-      rw (student-outside-at case clean s l u) (student-range case (s - 1) (r .0) (case-passed case nothing .range (s - 1) (r .0)) (r .1) .1)
-  in-range s (suc w) l u e =
-      let k : (i : ℕ) × PairAt case s (suc w) i = pair-record case s (suc w) e in
-      rw (student-tier-at case clean s (suc w) (k .0) (k .1 .inside) (k .1 .pair))
-      (tiers-range case (k .0) (k .1 .inside) (case-passed case nothing .range (k .0) (k .1 .inside)) (pair-says s (suc w) (rowAt case (k .0)) (k .1 .pair) .0) .0)
-
-  pub ranged : Ranged (marketIn case)
-  ranged =
-      record {
-        students = case-counts case nothing .0 .1;
-        workshops = case-counts case nothing .1 .1;
-        student = case-wf case nothing .student;
-        workshop = case-wf case nothing .workshop;
-        tier = in-range;
-      }
-
--- ---- the copy
 
 module _ (ls : List Line) where
   abbrev new : Row → Row
@@ -145,7 +113,7 @@ module _ (ls : List Line) (case : List ℕ) (nothing : NothingFound (caseCauses 
   unfolding marketOf
   copy-tier s zero l u e =
       let r = student-row case nothing s l u in
-      rw (new-rows, find-new ls (rows case) (isStudent s) (unseen ls (isStudent s) (λ r x. refl)), student-found case (clean case nothing) s l u)
+      rw (new-rows, find-new ls (rows case) (isStudent s) (unseen ls (isStudent s) (λ r x. refl)), student-found case (case-clean case nothing) s l u)
       (student-third ls (rowAt case (s - 1)) s (r .1) (r .2))
   copy-tier s (suc w) l u e =
       let k : (i : ℕ) × PairAt case s (suc w) i = pair-record case s (suc w) e in

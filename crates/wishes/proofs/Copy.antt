@@ -18,7 +18,8 @@ use Rattle.wish_lines.specs.Reading.{FitLine, FitLines}
 use Rattle.wish_lines.proofs.Written.{written-order}
 use Rattle.wish_lines.proofs.Causes.{read-exactly}
 use Rattle.wish_lines.proofs.Naming.{few-groups}
-use Rattle.wishes.proofs.Case.{ranged, copy-rest, copy-tier}
+use Rattle.wish_lines.proofs.Ranged.{ranged}
+use Rattle.wishes.proofs.Case.{copy-rest, copy-tier}
 
 pub fit-at : (M : Market) (k : ℕ) (ls : List Line) → FitLines M k ls → (i : ℕ) (d : Line) → i < length ls → FitLine M (k + i) (getD ls i d)
 fit-at M k [] f i d l = absurd (omega arith)

@@ -27,9 +27,10 @@ use Rattle.wish_lines.specs.Reading.{read, readLines, FitLine}
 use Rattle.wish_lines.specs.Wishes.{Option?}
 use Rattle.wish_lines.proofs.Causes.{read-exactly}
 use Rattle.wish_lines.proofs.Counted.{each-counted}
+use Rattle.wish_lines.proofs.Ranged.{ranged}
 use Rattle.wishes.specs.Copy.{groupsIn, withThird, withWish, wished}
 use Rattle.wishes.specs.Promises.{SameRest, CopyOf}
-use Rattle.wishes.proofs.Case.{ranged, unseen, any-new, tally-new, wish-cases, new-rows, copy-rest, copy-tier}
+use Rattle.wishes.proofs.Case.{unseen, any-new, tally-new, wish-cases, new-rows, copy-rest, copy-tier}
 use Rattle.wishes.proofs.Copy.{fit-at, line-range}
 use Rattle.wishes.proofs.Valid.{new-at, copy-length, her-range, pair-range, keep-third, copy-nothing}
 use Rattle.wishes.proofs.Fields.{byte-at, byte-other, read-byte}

@@ -7,3 +7,5 @@ pub mod Kept
 pub mod Reordered
 pub mod Promises
 pub mod Table
+pub mod Records
+pub mod Working

@@ -11,9 +11,8 @@ use borrow.Author.Tests.{lt-ltb, le-ltb}
 use Rattle.base.specs.Lists.{any, tally}
 use Rattle.base.proofs.Tests.{less?}
 use Rattle.base.proofs.Below.{tabulate-length, tally-le}
-use Rattle.base.proofs.Grid.{named-within}
 use Rattle.lgs.specs.Market.{Market}
-use Rattle.format.specs.Layout.{rowAt, rows, rowCount, ofKind, marketOf}
+use Rattle.format.specs.Layout.{rowAt, rows, rowCount, ofKind}
 use Rattle.format.specs.Causes.{Cause, whole, firstCause, NothingFound, FoundFirst}
 use Rattle.format.specs.Refusals.{caseCauses}
 use Rattle.format.specs.Engine.{marketIn}
@@ -22,10 +21,10 @@ use Rattle.format.proofs.Buffers.{head-length, past-head}
 use Rattle.format.proofs.Cases.{case-counts}
 use Rattle.wish_lines.specs.Lines.{Line, linesText}
 use Rattle.wish_lines.specs.Reading.{Reading, read, refused, readLines, Fault, departs, leftOver, names, FirstFault}
-use Rattle.wish_lines.specs.Wishes.{linesOf, wishText, pairsOf, SameWishes}
+use Rattle.wish_lines.specs.Wishes.{linesOf, wishText, SameWishes}
 use Rattle.wish_lines.proofs.Written.{read-back}
 use Rattle.wish_lines.proofs.Equal.{equal-lines}
-use Rattle.wish_lines.proofs.Length.{text-length}
+use Rattle.wish_lines.proofs.Ranged.{ranged, text-room}
 use Rattle.wish_lines.proofs.Causes.{read-exactly, refused-exactly}
 use Rattle.wish_lines.proofs.Naming.{named-exactly}
 use Rattle.wishes.specs.Copy.{wished}
@@ -33,7 +32,7 @@ use Rattle.wishes.specs.Outcome.{WishesOutcome, given, ungiven, textRoom
 use Rattle.wishes.specs.Outcome.{wishesAfter}
 use Rattle.wishes.specs.Promises.{IsLines, CopyOf, WritePromised, ReadPromised, WriteThenRead, EqualLines, ReadExactly, LinesRefused, NamedOnce, AnyOrder}
 use Rattle.wishes.specs.Promises.{WishesSix, SevenCauses, BufferKept, WishesKept}
-use Rattle.wishes.proofs.Case.{ranged, unseen, tally-new, new-rows}
+use Rattle.wishes.proofs.Case.{unseen, tally-new, new-rows}
 use Rattle.wishes.proofs.Copy.{written-copy}
 use Rattle.wishes.proofs.Valid.{copy-length}
 use Rattle.wishes.proofs.Kept.{copy-of}
@@ -112,14 +111,10 @@ module _ (case : List ℕ) (room : ℕ) where
     unfolding readWishes unlessFound
     read-worked e = rw e
 
--- how many pair records the case has
-pairs-recorded : (case : List ℕ) → pairsOf (marketIn case) ≤ tally (ofKind 3) (rows case)
-unfolding pairsOf marketOf
-pairs-recorded case = named-within (tally (ofKind 1) (rows case)) (tally (ofKind 2) (rows case)) (ofKind 3) (λ r. r .first) (λ r. r .second) (rows case)
-
+-- what is written fits
 pub text-fits : (case : List ℕ) → NothingFound (caseCauses case) → length (wishText (marketIn case)) ≤ textRoom case
 unfolding textRoom
-text-fits case nothing = omega (arith, text-length (marketIn case) (ranged case nothing), pairs-recorded case)
+text-fits = text-room
 
 -- the case's own causes
 write-case : (case : List ℕ) (room : ℕ) → NothingFound (writeCauses case room) → NothingFound (caseCauses case)
@@ -260,7 +255,7 @@ line-number (departs l h) e = omega arith
 line-number (leftOver l h) e = omega arith
 line-number (names l k t f s q d) e = omega arith
 
-few-pairs : (case : List ℕ) → tally (ofKind 3) (rows case) ≤ rowCount case
+pub few-pairs : (case : List ℕ) → tally (ofKind 3) (rows case) ≤ rowCount case
 unfolding rows
 few-pairs case = omega (arith, tally-le (ofKind 3) (rows case), tabulate-length (rowAt case) (rowCount case))
 

@@ -3,3 +3,4 @@ pub mod Outcome
 pub mod Promises
 pub mod Table
 pub mod Answered
+pub mod Records
