@@ -1,0 +1,20 @@
+use borrow.Author.Needs.{needs}
+use Rattle.line_reader.proofs.stands.Statement.{statement}
+use Rattle.line_reader.proofs.stands.Tie as tie
+use Rattle.line_reader.proofs.stands.Reads as reads
+use Rattle.line_reader.proofs.stands.Lts as lts
+
+-- src/lib.rt:65:16
+shared-slice-read-result : tie.Need-shared-slice-read-result
+shared-slice-read-result c = search needs
+
+-- src/lib.rt:65:9
+returns : tie.Need-returns
+returns c = ?
+
+-- src/lib.rt:61:1
+returns-2 : tie.Need-returns-2
+returns-2 c = ?
+
+pub stands-spec : {M : Type 1} → statement M
+stands-spec = tie.close (tie.spec shared-slice-read-result returns returns-2)
