@@ -416,3 +416,31 @@ module _ (text : List ℕ) (from : ℕ) (n : Number) (shown : Shown from (number
     where
       after : n .end + 1 + 1 ≡ r .end
       after = omega arith
+
+-- ---- the four ways of a turn
+
+module _ (text : List ℕ) (i : ℕ) where
+  inner-turned : (x : ℕ) × Turned text i true x (inBraces text i true (itemIn (drop i text)))
+  inner-turned = braces-turned text i true i true (omega arith) (λ s gs xs o. refl) (λ xs o. lt-ltb 0 (length xs) o)
+
+  pub next-inner : (within : Bool) → within ≡ true → (x : ℕ) × Turned text i within x (inBraces text i true (itemIn (drop i text)))
+  next-inner within e = rw e inner-turned
+
+  brace-turned : standsAt text i 123 ≡ true → (x : ℕ) × Turned text i false x (inBraces text (i + 1) false (itemIn (drop (i + 1) text)))
+  unfolding step
+  brace-turned s =
+      braces-turned text i false (i + 1) false (omega arith)
+      (λ n gs xs o. rw (o, stands-first text i 123 s) (scan-on 123 (drop (i + 1) text) (group n gs) (inside n gs []) refl))
+      (λ xs o. rw o)
+
+  pub next-brace : (within : Bool) → within ≡ false → standsAt text i 123 ≡ true
+      → (x : ℕ) × Turned text i within x (inBraces text (i + 1) false (itemIn (drop (i + 1) text)))
+  next-brace within e s = rw e (brace-turned s)
+
+  pub next-alone : (within : Bool) → within ≡ false → standsAt text i 123 ≡ false → (n : Number) → Shown i (itemIn (drop i text)) n → n .right ≡ true
+      → (x : ℕ) × Turned text i within x (behindGroup text (n .value) (n .end))
+  next-alone within e s n h r = rw e (alone-turned text i s n h r)
+
+  pub next-none : (within : Bool) → within ≡ false → standsAt text i 123 ≡ false → (n : Number) → Shown i (itemIn (drop i text)) n → n .right ≡ false
+      → (x : ℕ) × Turned text i within x (made 0 0 0)
+  next-none within e s n h r = rw e (0, alone-departs text i s n h r)

@@ -195,6 +195,7 @@ fn in_braces(text: &[u8], i: usize, more: bool) -> Turn
         if more & stands(text, end, 125) {
             return behind_group(text, x.value, end + 1);
         }
+        return make_turn(0, 0, 0);
     }
     make_turn(0, 0, 0)
 }

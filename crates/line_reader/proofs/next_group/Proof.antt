@@ -1,3 +1,4 @@
+use native.Mathlib.Omega.{arith}
 use borrow.Author.Needs.{needs}
 use Rattle.line_reader.proofs.next_group.Statement.{statement}
 use Rattle.line_reader.proofs.next_group.Tie as tie
@@ -14,11 +15,11 @@ add-result c = search needs
 
 -- src/lib.rt:268:9
 returns-2 : tie.Need-returns-2
-returns-2 c = ?
+returns-2 c = rw (c .before .if1 .left) (omega arith)
 
 -- src/lib.rt:260:1
 returns-3 : tie.Need-returns-3
-returns-3 c = ?
+returns-3 c = rw (c .before .if1 .left) (omega arith)
 
 pub next-group-spec : {M : Type 1} → statement M
 next-group-spec = tie.close (tie.spec returns add-result returns-2 returns-3)

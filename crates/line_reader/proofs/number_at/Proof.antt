@@ -1,3 +1,5 @@
+use mathlib.Core.Path.{refl, sym, ap, _∙_}
+use Rattle.line_reader.proofs.Taking.{number-right, number-wrong, number-past}
 use borrow.Author.Needs.{needs}
 use Rattle.line_reader.proofs.number_at.Statement.{statement}
 use Rattle.line_reader.proofs.number_at.Tie as tie
@@ -29,15 +31,15 @@ digits-requires c κs = search needs
 
 -- src/lib.rt:105:13
 returns : tie.Need-returns
-returns c = ?
+returns c = number-right _ _ _ (c .before .before .before .before .before .if1 .taken) (sym (c .before .before .before .is-first .ensures) ∙ c .before .before .if2 .taken) refl (cc) (c .digits .ensures .1)
 
 -- src/lib.rt:98:1
 returns-2 : tie.Need-returns-2
-returns-2 c = ?
+returns-2 c = number-wrong _ _ _ (c .before .before .before .if1 .taken) (sym (c .before .is-first .ensures) ∙ c .if2 .left) refl
 
 -- src/lib.rt:98:1
 returns-3 : tie.Need-returns-3
-returns-3 c = ?
+returns-3 c = number-past _ _ _ (c .if1 .left) refl
 
 pub number-at-spec : {M : Type 1} → statement M
 number-at-spec =

@@ -1,3 +1,4 @@
+use borrow.Author.Tests.{lt-ltb, le-ltb}
 use borrow.Author.Needs.{needs}
 use Rattle.line_reader.proofs.stands.Statement.{statement}
 use Rattle.line_reader.proofs.stands.Tie as tie
@@ -10,11 +11,11 @@ shared-slice-read-result c = search needs
 
 -- src/lib.rt:65:9
 returns : tie.Need-returns
-returns c = ?
+returns c = rw (lt-ltb _ _ (c .before .if1 .taken))
 
 -- src/lib.rt:61:1
 returns-2 : tie.Need-returns-2
-returns-2 c = ?
+returns-2 c = rw (le-ltb _ _ (c .if1 .left))
 
 pub stands-spec : {M : Type 1} → statement M
 stands-spec = tie.close (tie.spec shared-slice-read-result returns returns-2)
