@@ -1,2 +1,3 @@
 pub mod Scanning
 pub mod Taking
+pub mod Noting

@@ -1,3 +1,7 @@
+use native.Mathlib.Omega.{arith}
+use mathlib.Core.Path.{refl, sym, ap, _∙_}
+use mathlib.Core.Bool.{true, _||_}
+use Rattle.line_reader.proofs.Noting.{note-far, note-none, note-workshop}
 use borrow.Author.Needs.{needs}
 use Rattle.line_reader.proofs.note.Statement.{statement}
 use Rattle.line_reader.proofs.note.Tie as tie
@@ -9,7 +13,7 @@ use Rattle.line_reader.proofs.capped.Reads as capped-reads
 
 -- src/lib.rt:237:9
 returns : tie.Need-returns
-returns c = ?
+returns c = note-far (c .before .before .args .m) (record { named = c .before .before .args .m .named; stray = true; nones = c .before .before .args .m .nones }) (c .before .before .args .groups .now) _ (c .before .before .args .x) (c .before .before .args .g) (c .before .before .pre .1) (c .if1 .taken) refl refl refl
 
 -- src/lib.rt:244:5
 mul-groups : tie.Need-mul-groups
@@ -33,7 +37,7 @@ same-length c = search needs
 
 -- src/lib.rt:246:9
 returns-2 : tie.Need-returns-2
-returns-2 c = ?
+returns-2 c = note-none (c .before .before .before .before .args .m) (record { named = c .before .before .before .before .args .m .named; stray = c .before .before .before .before .args .m .stray; nones = c .capped .result }) (c .before .before .before .before .args .groups .now) _ (c .before .before .before .before .args .x) (c .before .before .before .before .args .g) (c .before .before .before .before .pre .1) (omega arith) refl refl (c .capped .ensures) refl
 
 -- src/lib.rt:253:16
 with-bit-requires : tie.Need-with-bit-requires
@@ -49,7 +53,7 @@ same-length-2 c = search needs
 
 -- src/lib.rt:229:1
 returns-3 : tie.Need-returns-3
-returns-3 c = ?
+returns-3 c = note-workshop (c .before .before .before .before .before .args .m) (record { named = c .before .with-bit .result; stray = c .before .before .before .before .before .args .m .stray || c .has-bit .result; nones = c .before .before .before .before .before .args .m .nones }) (c .before .before .before .before .before .args .groups .now) _ (c .before .before .before .before .before .args .x) (c .before .before .before .before .before .args .g) (c .before .before .before .before .before .pre .1) (omega arith) (omega arith) (ap (λ z. c .before .before .before .before .before .args .m .stray || z) (c .has-bit .ensures)) (c .before .with-bit .ensures .1) refl refl
 
 pub note-spec : {M : Type 1} → statement M
 note-spec =
