@@ -1,3 +1,4 @@
 pub mod Scanning
 pub mod Taking
 pub mod Noting
+pub mod Reading

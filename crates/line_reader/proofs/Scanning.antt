@@ -43,7 +43,7 @@ scan-wrong : (b : ℕ) (t : List ℕ) (σ : State) → step σ b ≡ wrong → s
 unfolding scan
 scan-wrong b t σ e = rw e
 
-scan-past : (text : List ℕ) (i : ℕ) (σ : State) → length text ≤ i → scan (drop i text) σ ≡ none
+pub scan-past : (text : List ℕ) (i : ℕ) (σ : State) → length text ≤ i → scan (drop i text) σ ≡ none
 unfolding scan
 scan-past text i σ l = rw (drop-of-length-le text l)
 
