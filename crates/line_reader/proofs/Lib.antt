@@ -2,3 +2,4 @@ pub mod Scanning
 pub mod Taking
 pub mod Noting
 pub mod Reading
+pub mod Deciding

@@ -187,7 +187,7 @@ module _ (text : List ℕ) (i : ℕ) (within : Bool) (x : ℕ) where
   module _ (v j : ℕ) (at : ℕ → List (List ℕ) → List ℕ → State) (same : v ≡ cap x) (past : i ≤ j)
       (here : Each (λ s gs xs. scan (drop j text) (at s gs xs)))
       (ends : j < length text → (s : ℕ) (gs : List (List ℕ)) (xs : List ℕ) → Open within xs
-          → step (at s gs xs) (getD text j 0) ≡ endGroup s (gs ++ ((xs ++ (x ∷ [])) ∷ [])) (getD text j 0)) where
+      → step (at s gs xs) (getD text j 0) ≡ endGroup s (gs ++ ((xs ++ (x ∷ [])) ∷ [])) (getD text j 0)) where
     abbrev b : ℕ
     b = getD text j 0
 
