@@ -1,19 +1,15 @@
-use borrow.Author.Tests.{lt-ltb, le-ltb}
+-- `line_reader::stands` meets its contract.
 use borrow.Author.Needs.{needs}
+use borrow.Author.Tests.{lt-ltb, le-ltb}
 use Rattle.line_reader.proofs.stands.Statement.{statement}
 use Rattle.line_reader.proofs.stands.Tie as tie
-use Rattle.line_reader.proofs.stands.Reads as reads
-use Rattle.line_reader.proofs.stands.Lts as lts
 
--- src/lib.rt:65:16
 shared-slice-read-result : tie.Need-shared-slice-read-result
 shared-slice-read-result c = search needs
 
--- src/lib.rt:65:9
 returns : tie.Need-returns
 returns c = rw (lt-ltb _ _ (c .before .if1 .taken))
 
--- src/lib.rt:61:1
 returns-2 : tie.Need-returns-2
 returns-2 c = rw (le-ltb _ _ (c .if1 .left))
 
