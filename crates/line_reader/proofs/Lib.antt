@@ -1,0 +1,5 @@
+pub mod Scanning
+pub mod Taking
+pub mod Noting
+pub mod Reading
+pub mod Deciding

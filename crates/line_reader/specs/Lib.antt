@@ -1,0 +1,3 @@
+pub mod Checked
+pub mod Items
+pub mod Marks
