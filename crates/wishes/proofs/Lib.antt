@@ -9,3 +9,4 @@ pub mod Promises
 pub mod Table
 pub mod Records
 pub mod Working
+pub mod Judging

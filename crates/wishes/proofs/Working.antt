@@ -6,7 +6,7 @@ use mathlib.Core.Option.{some, none}
 use native.Mathlib.Omega.{arith}
 use lib.ListN.{length}
 use Rattle.format.specs.Layout.{rowCount}
-use Rattle.format.specs.Causes.{firstCause}
+use Rattle.format.specs.Causes.{firstCause, NothingFound}
 use Rattle.format.specs.Refusals.{caseCauses}
 use Rattle.format.specs.Engine.{marketIn}
 use Rattle.format.specs.Buffers.{withHead}
@@ -101,6 +101,9 @@ module _ (case text copy : List ℕ) where
 pub few : (case : List ℕ) → caseRefusal case ≡ none
     → ((1 ≤ marketIn case .students) × (marketIn case .students ≤ 512)) × ((1 ≤ marketIn case .workshops) × (marketIn case .workshops ≤ 64))
 few case e = case-counts case (table-none (caseCauses case) e)
+
+pub passed : (case : List ℕ) → caseRefusal case ≡ none → NothingFound (caseCauses case)
+passed case e = table-none (caseCauses case) e
 
 pub few-records : (case : List ℕ) → pairCount case ≤ rowCount case
 few-records = few-pairs

@@ -1,6 +1,18 @@
 // Wish lines (document 02, Paper 6): a case's lines are written into lent bytes, and lines are read into a copy of the case.
 ghost use mathlib.Core.Path.{_≡_};
-ghost use Rattle.wishes.specs.Answered.{wishesReportOf, WriteAnswered};
+ghost use mathlib.Core.List.{List};
+ghost use mathlib.Core.Option.{none};
+ghost use Prim.Native.Nat.{_≤_};
+ghost use lib.ListN.{length};
+ghost use Rattle.format.specs.Engine.{marketIn};
+ghost use Rattle.format.specs.Buffers.{withHead};
+ghost use Rattle.case_tests.specs.Checked.{caseRefusal};
+ghost use Rattle.tables.specs.Table.{Tabled};
+ghost use Rattle.wish_lines.specs.Lines.{Line};
+ghost use Rattle.wish_lines.specs.Reading.{read, readLines};
+ghost use Rattle.wishes.specs.Copy.{wished};
+ghost use Rattle.wishes.specs.Records.{Judged};
+ghost use Rattle.wishes.specs.Answered.{wishesReportOf, WriteAnswered, ReadAnswered};
 use api::PartReport;
 use case_tests::Checked;
 
@@ -38,6 +50,113 @@ pub fn write_wishes(case: &[u8], text: &mut [u8]) -> WishesAnswer
             }
             let bytes = line_writer::put_lines(case, &table, students, &mut *text);
             WishesAnswer::Given { bytes }
+        }
+    }
+}
+
+// The first fault of the text's lines: in each line 14 and then 15 before the next line.
+fn judge(case: &[u8], table: &[u64], students: usize, text: &[u8], groups: &mut [u16]) -> Verdict
+    requires { ⌜ caseRefusal (now case) ≡ none ⌝ }
+    requires { ⌜ Tabled (now case) (now table) ⌝ }
+    requires { ⌜ students ≡ marketIn (now case) .students ⌝ }
+    requires { ⌜ length (now groups) ≡ 65 ⌝ }
+    ensures { λ r. ⌜ Judged (marketIn (now (case .entry))) (now (text .entry)) r ⌝ }
+{
+    let mut at = 0;
+    let mut k = 0;
+    while k < students {
+        let found = line_reader::check_line(case, table, text, at, k, &mut *groups);
+        if found.fault > 0 {
+            return Verdict {
+                cause: found.fault,
+                place: k,
+            };
+        }
+        at = found.end;
+        k += 1;
+    }
+    if at < text.len() {
+        return Verdict {
+            cause: 14,
+            place: students,
+        };
+    }
+    Verdict { cause: 0, place: 0 }
+}
+
+// The copy of the case with the groups of the text's lines, in which there is no fault.
+fn put_wishes(
+    case: &[u8],
+    table: &[u64],
+    students: usize,
+    text: &[u8],
+    groups: &mut [u16],
+    copy: &mut [u8],
+)
+    requires { ⌜ caseRefusal (now case) ≡ none ⌝ }
+    requires { ⌜ Tabled (now case) (now table) ⌝ }
+    requires { ⌜ students ≡ marketIn (now case) .students ⌝ }
+    requires { ⌜ (length (now groups) ≡ 65) × (length (now case) ≤ length (now copy)) ⌝ }
+    requires { ⌜ ((ls : List Line) × (readLines (marketIn (now case)) (now text) ≡ read ls)) ⌝ }
+    ensures { λ _. ⌜ ((ls : List Line) → readLines (marketIn (now (case .entry))) (now (text .entry)) ≡ read ls
+        → now (copy .exit) ≡ withHead (wished ls (now (case .entry))) (now (copy .entry))) ⌝ }
+{
+    copying::copy_bytes(case, &mut *copy);
+    let mut at = 0;
+    let mut k = 0;
+    while k < students {
+        let found = line_reader::check_line(case, table, text, at, k, &mut *groups);
+        copying::put_student(case, table, k + 1, groups, &mut *copy);
+        at = found.end;
+        k += 1;
+    }
+}
+
+// The copy for a text, or its first fault.
+fn read_into(
+    case: &[u8],
+    table: &[u64],
+    students: usize,
+    text: &[u8],
+    copy: &mut [u8],
+) -> WishesAnswer
+    requires { ⌜ caseRefusal (now case) ≡ none ⌝ }
+    requires { ⌜ Tabled (now case) (now table) ⌝ }
+    requires { ⌜ students ≡ marketIn (now case) .students ⌝ }
+    requires { ⌜ length (now case) ≤ length (now copy) ⌝ }
+    ensures { λ a. ⌜ ReadAnswered (now (case .entry)) (now (text .entry)) (now (copy .entry)) a (now (copy .exit)) ⌝ }
+{
+    let mut groups = [0u16; 65];
+    let found = judge(case, table, students, text, &mut groups);
+    if found.cause > 0 {
+        return WishesAnswer::Refused {
+            cause: found.cause,
+            place: found.place,
+        };
+    }
+    put_wishes(case, table, students, text, &mut groups, &mut *copy);
+    WishesAnswer::Given { bytes: case.len() }
+}
+
+// Reads a case and its wish lines, and gives a copy of the case with their groups in `copy`.
+pub fn read_wishes(case: &[u8], text: &[u8], copy: &mut [u8]) -> WishesAnswer
+    ensures { λ a. ⌜ ReadAnswered (now (case .entry)) (now (text .entry)) (now (copy .entry)) a (now (copy .exit)) ⌝ }
+{
+    let mut table = [0u64; 1089];
+    match case_tests::check_case(case, &mut table) {
+        Checked::Refused { cause, record } => WishesAnswer::Refused {
+            cause,
+            place: record,
+        },
+        Checked::Counts {
+            students,
+            workshops: _,
+            pairs: _,
+        } => {
+            if copy.len() < case.len() {
+                return WishesAnswer::Refused { cause: 6, place: 0 };
+            }
+            read_into(case, &table, students, text, &mut *copy)
         }
     }
 }
