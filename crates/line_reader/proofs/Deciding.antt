@@ -34,7 +34,9 @@ same-digits : (d n m : ℕ) → n + m ≤ d → ((i : ℕ) → bit n i ≡ bit m
 unfolding bit
 same-digits zero n m l h = omega arith
 same-digits (suc d) n m l h =
-    ⊎-elim (λ (z : 0 < n + m). last (same-digits d (n / 2) (m / 2) (omega arith) (λ i. h (suc i))) (digit n) (digit m)) (λ (z : n + m ≤ 0). omega arith) (less? 0 (n + m))
+    ⊎-elim (λ (z : 0 < n + m). last (same-digits d (n / 2) (m / 2) (omega arith) (λ i. h (suc i))) (digit n) (digit m))
+    (λ (z : n + m ≤ 0). omega arith)
+    (less? 0 (n + m))
   where
     last : n / 2 ≡ m / 2 → (n % 2 ≡ 0) ⊎ (n % 2 ≡ 1) → (m % 2 ≡ 0) ⊎ (m % 2 ≡ 1) → n ≡ m
     last e (inl p) (inl q) = omega arith
@@ -210,7 +212,7 @@ module _ (M : Market) (text : List ℕ) (from k : ℕ) (groups : List ℕ) (r : 
       go (s, value, reads, fits) =
           ⊎-elim
           (λ (e : b .right ≡ true).
-          let L : (gs : List (List ℕ)) × ((s : ℕ) → scan (drop (h .end) text) (group s []) ≡ some (record { student = s; groups = gs }, drop (b .end) text)) × (b .end ≤ length text) × Marked gs (b .marks) groups = B .line e in
+          let L = B .line e in
           line-checked R high small set pairs (record { student = s; groups = L .0 }) (drop (b .end) text) (reads ∙ L .1 s) (rw end) (omega (arith, L .2))
           (b .marks) (L .3) (h .value) value (rw e at fault))
           (λ (e : b .right ≡ false). departs (reads ∙ B .departs e s) (fault ∙ rw e))

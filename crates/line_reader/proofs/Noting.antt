@@ -36,7 +36,8 @@ module _ (m m′ : Marks) (groups groups′ : List ℕ) (x g : ℕ) (small : m .
         nones = rw (ne-eqb x 0 (λ e. omega arith)) (omega arith);
       }
 
-  pub note-none : x ≡ 0 → m′ .stray ≡ m .stray → m′ .named ≡ m .named → m′ .nones ≡ cap (m .nones + 1) → groups′ ≡ set groups x g → Noted m m′ groups groups′ x g
+  pub note-none : x ≡ 0 → m′ .stray ≡ m .stray → m′ .named ≡ m .named → m′ .nones ≡ cap (m .nones + 1) → groups′ ≡ set groups x g
+      → Noted m m′ groups groups′ x g
   unfolding member
   note-none e s d n w =
       record {
@@ -87,7 +88,8 @@ any-none : (w : ℕ) (xs : List ℕ) → tally (eqb w) xs ≡ 0 → any (eqb w) 
 unfolding any tally
 any-none w [] e = refl
 any-none w (x ∷ xs) e =
-    ⊎-elim (λ (q : eqb w x ≡ true). absurd (omega (arith, rw q at e))) (λ (q : eqb w x ≡ false). rw q (any-none w xs (omega (arith, rw q at e)))) (bool-cases (eqb w x))
+    ⊎-elim (λ (q : eqb w x ≡ true). absurd (omega (arith, rw q at e)))
+    (λ (q : eqb w x ≡ false). rw q (any-none w xs (omega (arith, rw q at e)))) (bool-cases (eqb w x))
 
 any-no-times : (w : ℕ) (xs : List ℕ) → any (eqb w) xs ≡ false → tally (eqb w) xs ≡ 0
 unfolding any tally

@@ -24,7 +24,8 @@ extended-cap : (x y : ℕ) (t : List ℕ) → cap x ≡ cap y → cap (extended 
 unfolding extended
 extended-cap x y [] e = e
 extended-cap x y (b ∷ t) e =
-    ⊎-elim (λ (d : isDigit b ≡ true). rw d (extended-cap (withDigit x b) (withDigit y b) t (omega arith))) (λ (d : isDigit b ≡ false). rw d e) (bool-cases (isDigit b))
+    ⊎-elim (λ (d : isDigit b ≡ true). rw d (extended-cap (withDigit x b) (withDigit y b) t (omega arith))) (λ (d : isDigit b ≡ false). rw d e)
+    (bool-cases (isDigit b))
 
 -- from `from` to i the digits were read, and made x the number v
 pub record Counting (text : List ℕ) (from x i v : ℕ) : Type 0 where
@@ -33,7 +34,7 @@ pub record Counting (text : List ℕ) (from x i v : ℕ) : Type 0 where
   pub value : cap (extended v (drop i text)) ≡ cap (extended x (drop from text))
   pub digits : i + digitsIn (drop i text) ≡ from + digitsIn (drop from text)
 
-module _ (text : List ℕ) (from x i v : ℕ) (C : Counting text from x i v) where
+module _ {text : List ℕ} {from x i v : ℕ} (C : Counting text from x i v) where
   -- a digit
   pub counting-on : (v′ : ℕ) → i < length text → isDigit (getD text i 0) ≡ true → v′ ≡ cap (10 * v + (getD text i 0 - 48)) → Counting text from x (i + 1) v′
   unfolding extended digitsIn
@@ -95,7 +96,8 @@ module _ (text : List ℕ) (i : ℕ) where
 -- ---- in braces
 
 module _ (text : List ℕ) (i : ℕ) (more : Bool) (n : Number) where
-  pub braces-item : (p : Option (ℕ × ℕ)) → Shown i p n → n .right ≡ true → standsAt text (n .end) 44 ≡ true → inBraces text i more p ≡ made 1 (n .value) (n .end + 1)
+  pub braces-item : (p : Option (ℕ × ℕ)) → Shown i p n → n .right ≡ true → standsAt text (n .end) 44 ≡ true
+      → inBraces text i more p ≡ made 1 (n .value) (n .end + 1)
   braces-item none h e s = never e h
   braces-item (some (x, k)) h e s = rw (← h .2, s, h .1)
 
