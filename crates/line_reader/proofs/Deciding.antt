@@ -6,7 +6,7 @@ use mathlib.Core.Bool.{Bool, true, false, cond, not, _&&_}
 use mathlib.Core.List.{List, []}
 use mathlib.Core.Option.{some, none}
 use native.Mathlib.Omega.{arith}
-use borrow.Author.Tests.{eq-eqb, ne-eqb, eqb-true, eqb-false}
+use borrow.Author.Tests.{eq-eqb, ne-eqb, eqb-true}
 use lib.Dec.{eqb}
 use lib.ListN.{length, drop, getD}
 use Rattle.base.specs.Lists.{one}
@@ -15,7 +15,7 @@ use Rattle.base.proofs.Tests.{bool-cases, never, is-false, less?, eq?}
 use Rattle.base.proofs.Digits.{digit}
 use Rattle.lgs.specs.Market.{Market}
 use Rattle.wish_lines.specs.Lines.{Line, times, position, Formed}
-use Rattle.wish_lines.specs.Reading.{Parsed, scan, readLine, misnamed, start, group}
+use Rattle.wish_lines.specs.Reading.{scan, readLine, misnamed, start, group}
 use Rattle.wish_lines.specs.Wishes.{Option?, Ranged}
 use Rattle.wish_lines.proofs.Naming.{named-exactly, few-groups}
 use Rattle.wish_lines.proofs.Grammar.{read-sound}
@@ -25,7 +25,7 @@ use Rattle.line_reader.specs.declared.Body.{Body}
 use Rattle.line_reader.specs.declared.LineFound.{LineFound}
 use Rattle.line_reader.specs.Items.{cap, Headed}
 use Rattle.line_reader.specs.Marks.{timesIn, Marked, BodyRead}
-use Rattle.line_reader.specs.Checked.{faultOf, LineChecked}
+use Rattle.line_reader.specs.Checked.{LineChecked}
 
 -- ---- sets with the same members are the same number
 

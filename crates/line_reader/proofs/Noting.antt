@@ -1,5 +1,5 @@
 -- What is noted of the items that were read.
-use Prim.Native.Nat.{ℕ, zero, suc, _+_, _-_, _≤_, _<_}
+use Prim.Native.Nat.{ℕ, zero, suc, _+_, _≤_, _<_}
 use mathlib.Core.Path.{_≡_, refl, sym, ap, _∙_}
 use mathlib.Core.Logic.{⊎-elim, _⊎_, inl, inr}
 use mathlib.Core.Bool.{Bool, true, false, cond, _||_}
@@ -7,11 +7,11 @@ use mathlib.Core.List.{List, [], _∷_, _++_, flatten}
 use native.Mathlib.Omega.{arith}
 use borrow.Author.Tests.{eq-eqb, ne-eqb, le-leb, lt-leb}
 use lib.Dec.{eqb, leb}
-use lib.ListN.{length, getD, set, length-set, length-append}
+use lib.ListN.{length, getD, set, length-set}
 use lib.Seq.{getD-set-same, getD-set-other}
 use Rattle.base.specs.Lists.{one, any, tally}
 use Rattle.base.specs.Bits.{member}
-use Rattle.base.proofs.Tests.{bool-cases, never, or-false, or-true, or-none, eq?, less?}
+use Rattle.base.proofs.Tests.{bool-cases, never, or-false, or-none, eq?, less?}
 use Rattle.base.proofs.Below.{tally-append}
 use Rattle.base.proofs.Digits.{bit-zero}
 use Rattle.wish_lines.specs.Lines.{position}

@@ -1,23 +1,23 @@
 -- The numbers, the items and the turns of the code, against the reader's steps.
-use Prim.Native.Nat.{ℕ, suc, _+_, _-_, _*_, _≤_, _<_}
-use mathlib.Core.Path.{_≡_, refl, sym, ap, _∙_}
+use Prim.Native.Nat.{ℕ, suc, _+_, _-_, _≤_, _<_}
+use mathlib.Core.Path.{_≡_, refl, ap, _∙_}
 use mathlib.Core.Logic.{⊎-elim}
 use mathlib.Core.Bool.{Bool, true, false, cond, _&&_}
 use mathlib.Core.List.{List, [], _∷_, _++_}
 use mathlib.Core.Option.{Option, some, none}
 use native.Mathlib.Omega.{arith}
-use borrow.Author.Tests.{eq-eqb, eqb-true, lt-ltb, le-ltb, ltb-true, leb-true}
+use borrow.Author.Tests.{eqb-true, lt-ltb, le-ltb, ltb-true, leb-true}
 use lib.Dec.{eqb, ltb}
-use lib.ListN.{length, drop, getD, drop-of-length-le, length-drop}
+use lib.ListN.{length, drop, getD, drop-of-length-le}
 use lib.Seq.{drop-cons, drop-drop}
 use Rattle.base.proofs.Tests.{bool-cases, never, less?, and-left, and-right}
 use Rattle.wish_lines.specs.Lines.{Line}
-use Rattle.wish_lines.specs.Reading.{State, Step, Parsed, scan, step, isDigit, isFirst, withDigit, beginItem, endGroup, endItem}
+use Rattle.wish_lines.specs.Reading.{State, Parsed, scan, step, isDigit, isFirst, withDigit, beginItem, endGroup, endItem}
 use Rattle.wish_lines.specs.Reading.{start, number, colon, group, alone, inside, among, closed, on, done, wrong}
 use Rattle.line_reader.specs.declared.Number.{Number}
 use Rattle.line_reader.specs.declared.Turn.{Turn}
 use Rattle.line_reader.specs.Items.{cap, standsAt, digitsIn, extended, numberIn, itemIn, Shown, Headed}
-use Rattle.line_reader.specs.Items.{made, behindGroup, inBraces, before, Open, Leads, Turned}
+use Rattle.line_reader.specs.Items.{made, behindGroup, inBraces, before, Open, Turned}
 
 -- ---- bytes
 

@@ -2,12 +2,11 @@
 use Prim.Native.Nat.{ℕ, suc, _+_, _-_, _*_, _≤_, _<_}
 use mathlib.Core.Path.{_≡_, refl, sym, ap, _∙_}
 use mathlib.Core.Logic.{⊎-elim}
-use mathlib.Core.Bool.{Bool, true, false, cond, _&&_}
+use mathlib.Core.Bool.{Bool, true, false, _&&_}
 use mathlib.Core.List.{List, [], _∷_}
 use mathlib.Core.Option.{Option, some, none}
 use native.Mathlib.Omega.{arith}
-use borrow.Author.Tests.{lt-ltb, le-ltb}
-use lib.Dec.{eqb, ltb}
+use borrow.Author.Tests.{lt-ltb}
 use lib.ListN.{length, drop, getD, drop-of-length-le}
 use Rattle.base.proofs.Tests.{bool-cases, never, less?}
 use Rattle.wish_lines.specs.Reading.{isDigit, isFirst, withDigit}
@@ -16,9 +15,6 @@ use Rattle.line_reader.specs.Items.{cap, standsAt, digitsIn, extended, n
 use Rattle.line_reader.proofs.Scanning.{first-at, stands-first}
 
 -- ---- digits
-
-cap-digit : (x d : ℕ) → cap (10 * cap x + d) ≡ cap (10 * x + d)
-cap-digit x d = omega arith
 
 extended-cap : (x y : ℕ) (t : List ℕ) → cap x ≡ cap y → cap (extended x t) ≡ cap (extended y t)
 unfolding extended
