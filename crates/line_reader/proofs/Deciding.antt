@@ -6,7 +6,7 @@ use mathlib.Core.Bool.{Bool, true, false, cond, not, _&&_}
 use mathlib.Core.List.{List, []}
 use mathlib.Core.Option.{some, none}
 use native.Mathlib.Omega.{arith}
-use borrow.Author.Tests.{eq-eqb, ne-eqb, eqb-true, eqb-false}
+use borrow.Author.Tests.{eq-eqb, ne-eqb, eqb-true}
 use lib.Dec.{eqb}
 use lib.ListN.{length, drop, getD}
 use Rattle.base.specs.Lists.{one}
@@ -15,7 +15,7 @@ use Rattle.base.proofs.Tests.{bool-cases, never, is-false, less?, eq?}
 use Rattle.base.proofs.Digits.{digit}
 use Rattle.lgs.specs.Market.{Market}
 use Rattle.wish_lines.specs.Lines.{Line, times, position, Formed}
-use Rattle.wish_lines.specs.Reading.{Parsed, scan, readLine, misnamed, start, group}
+use Rattle.wish_lines.specs.Reading.{scan, readLine, misnamed, start, group}
 use Rattle.wish_lines.specs.Wishes.{Option?, Ranged}
 use Rattle.wish_lines.proofs.Naming.{named-exactly, few-groups}
 use Rattle.wish_lines.proofs.Grammar.{read-sound}
@@ -25,7 +25,7 @@ use Rattle.line_reader.specs.declared.Body.{Body}
 use Rattle.line_reader.specs.declared.LineFound.{LineFound}
 use Rattle.line_reader.specs.Items.{cap, Headed}
 use Rattle.line_reader.specs.Marks.{timesIn, Marked, BodyRead}
-use Rattle.line_reader.specs.Checked.{faultOf, LineChecked}
+use Rattle.line_reader.specs.Checked.{LineChecked}
 
 -- ---- sets with the same members are the same number
 
@@ -34,7 +34,9 @@ same-digits : (d n m : ℕ) → n + m ≤ d → ((i : ℕ) → bit n i ≡ bit m
 unfolding bit
 same-digits zero n m l h = omega arith
 same-digits (suc d) n m l h =
-    ⊎-elim (λ (z : 0 < n + m). last (same-digits d (n / 2) (m / 2) (omega arith) (λ i. h (suc i))) (digit n) (digit m)) (λ (z : n + m ≤ 0). omega arith) (less? 0 (n + m))
+    ⊎-elim (λ (z : 0 < n + m). last (same-digits d (n / 2) (m / 2) (omega arith) (λ i. h (suc i))) (digit n) (digit m))
+    (λ (z : n + m ≤ 0). omega arith)
+    (less? 0 (n + m))
   where
     last : n / 2 ≡ m / 2 → (n % 2 ≡ 0) ⊎ (n % 2 ≡ 1) → (m % 2 ≡ 0) ⊎ (m % 2 ≡ 1) → n ≡ m
     last e (inl p) (inl q) = omega arith
@@ -210,7 +212,7 @@ module _ (M : Market) (text : List ℕ) (from k : ℕ) (groups : List ℕ) (r : 
       go (s, value, reads, fits) =
           ⊎-elim
           (λ (e : b .right ≡ true).
-          let L : (gs : List (List ℕ)) × ((s : ℕ) → scan (drop (h .end) text) (group s []) ≡ some (record { student = s; groups = gs }, drop (b .end) text)) × (b .end ≤ length text) × Marked gs (b .marks) groups = B .line e in
+          let L = B .line e in
           line-checked R high small set pairs (record { student = s; groups = L .0 }) (drop (b .end) text) (reads ∙ L .1 s) (rw end) (omega (arith, L .2))
           (b .marks) (L .3) (h .value) value (rw e at fault))
           (λ (e : b .right ≡ false). departs (reads ∙ B .departs e s) (fault ∙ rw e))

@@ -1,5 +1,5 @@
 -- What is noted of the items that were read.
-use Prim.Native.Nat.{ℕ, zero, suc, _+_, _-_, _≤_, _<_}
+use Prim.Native.Nat.{ℕ, zero, suc, _+_, _≤_, _<_}
 use mathlib.Core.Path.{_≡_, refl, sym, ap, _∙_}
 use mathlib.Core.Logic.{⊎-elim, _⊎_, inl, inr}
 use mathlib.Core.Bool.{Bool, true, false, cond, _||_}
@@ -7,11 +7,11 @@ use mathlib.Core.List.{List, [], _∷_, _++_, flatten}
 use native.Mathlib.Omega.{arith}
 use borrow.Author.Tests.{eq-eqb, ne-eqb, le-leb, lt-leb}
 use lib.Dec.{eqb, leb}
-use lib.ListN.{length, getD, set, length-set, length-append}
+use lib.ListN.{length, getD, set, length-set}
 use lib.Seq.{getD-set-same, getD-set-other}
 use Rattle.base.specs.Lists.{one, any, tally}
 use Rattle.base.specs.Bits.{member}
-use Rattle.base.proofs.Tests.{bool-cases, never, or-false, or-true, or-none, eq?, less?}
+use Rattle.base.proofs.Tests.{bool-cases, never, or-false, or-none, eq?, less?}
 use Rattle.base.proofs.Below.{tally-append}
 use Rattle.base.proofs.Digits.{bit-zero}
 use Rattle.wish_lines.specs.Lines.{position}
@@ -36,7 +36,8 @@ module _ (m m′ : Marks) (groups groups′ : List ℕ) (x g : ℕ) (small : m .
         nones = rw (ne-eqb x 0 (λ e. omega arith)) (omega arith);
       }
 
-  pub note-none : x ≡ 0 → m′ .stray ≡ m .stray → m′ .named ≡ m .named → m′ .nones ≡ cap (m .nones + 1) → groups′ ≡ set groups x g → Noted m m′ groups groups′ x g
+  pub note-none : x ≡ 0 → m′ .stray ≡ m .stray → m′ .named ≡ m .named → m′ .nones ≡ cap (m .nones + 1) → groups′ ≡ set groups x g
+      → Noted m m′ groups groups′ x g
   unfolding member
   note-none e s d n w =
       record {
@@ -87,7 +88,8 @@ any-none : (w : ℕ) (xs : List ℕ) → tally (eqb w) xs ≡ 0 → any (eqb w) 
 unfolding any tally
 any-none w [] e = refl
 any-none w (x ∷ xs) e =
-    ⊎-elim (λ (q : eqb w x ≡ true). absurd (omega (arith, rw q at e))) (λ (q : eqb w x ≡ false). rw q (any-none w xs (omega (arith, rw q at e)))) (bool-cases (eqb w x))
+    ⊎-elim (λ (q : eqb w x ≡ true). absurd (omega (arith, rw q at e)))
+    (λ (q : eqb w x ≡ false). rw q (any-none w xs (omega (arith, rw q at e)))) (bool-cases (eqb w x))
 
 any-no-times : (w : ℕ) (xs : List ℕ) → any (eqb w) xs ≡ false → tally (eqb w) xs ≡ 0
 unfolding any tally

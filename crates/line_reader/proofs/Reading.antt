@@ -1,14 +1,14 @@
 -- The loop over the groups of a line.
 use Prim.Native.Nat.{ℕ, suc, _+_, _≤_, _<_}
-use mathlib.Core.Path.{_≡_, refl, sym, ap, _∙_}
+use mathlib.Core.Path.{_≡_, refl, _∙_}
 use mathlib.Core.Logic.{⊎-elim}
 use mathlib.Core.Bool.{Bool, true, false}
 use mathlib.Core.List.{List, [], _∷_, _++_}
-use mathlib.Core.Option.{some, none}
+use mathlib.Core.Option.{none}
 use native.Mathlib.Omega.{arith}
 use borrow.Author.Tests.{lt-ltb, le-ltb}
 use lib.Dec.{ltb}
-use lib.ListN.{length, drop, drop-of-length-le, length-append}
+use lib.ListN.{length, drop, length-append}
 use Rattle.base.proofs.Tests.{never, less?}
 use Rattle.wish_lines.specs.Reading.{scan, group}
 use Rattle.line_reader.specs.declared.Marks.{Marks}
@@ -34,7 +34,7 @@ pub going-start : (text : List ℕ) (from : ℕ) (m : Marks) (groups : List ℕ)
 going-start text from m groups l z d s n =
     record { whole = []; items = []; opened = refl; same = λ s. refl; fits = l; number = omega arith; marks = marked-start m groups d s n z }
 
-module _ (text : List ℕ) (from i : ℕ) (within : Bool) (g : ℕ) (m : Marks) (groups : List ℕ) (G : Going text from i within g m groups) where
+module _ {text : List ℕ} {from i : ℕ} {within : Bool} {g : ℕ} {m : Marks} {groups : List ℕ} (G : Going text from i within g m groups) where
   pub going-small : (m .nones ≤ 1000) × (g ≤ 1000)
   going-small = (omega (arith, G .marks .nones), omega (arith, G .number))
 
@@ -44,14 +44,14 @@ module _ (text : List ℕ) (from i : ℕ) (within : Bool) (g : ℕ) (m : Marks) 
   pub going-ends : (r : Body) → r .right ≡ false → length text ≤ i → BodyRead text from r groups
   going-ends r e l = departed r e (λ s. G .same s ∙ scan-past text i _ l)
 
-  module _ (t : Turn) (T : (x : ℕ) × Turned text i within x t) where
+  module _ {t : Turn} (T : (x : ℕ) × Turned text i within x t) where
     abbrev leads : (s : ℕ) → Leads text s (G .whole) (G .items) (T .0) (scan (drop i text) (before within s (G .whole) (G .items))) t
     leads s = T .1 .leads s (G .whole) (G .items) (G .opened)
 
     pub going-departs : (r : Body) → r .right ≡ false → t .kind < 1 → BodyRead text from r groups
     going-departs r e l = departed r e (λ s. G .same s ∙ leads s .departs (omega arith))
 
-    module _ (m′ : Marks) (groups′ : List ℕ) (l : 1 ≤ t .kind) (N : Noted m m′ groups groups′ (t .value) g) where
+    module _ {m′ : Marks} {groups′ : List ℕ} (l : 1 ≤ t .kind) (N : Noted m m′ groups groups′ (t .value) g) where
       noted : Noted m m′ groups groups′ (cap (T .0)) g
       noted = rw (T .1 .shown l .0) at N
 

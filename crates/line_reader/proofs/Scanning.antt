@@ -1,23 +1,23 @@
 -- The numbers, the items and the turns of the code, against the reader's steps.
-use Prim.Native.Nat.{ℕ, suc, _+_, _-_, _*_, _≤_, _<_}
-use mathlib.Core.Path.{_≡_, refl, sym, ap, _∙_}
+use Prim.Native.Nat.{ℕ, suc, _+_, _-_, _≤_, _<_}
+use mathlib.Core.Path.{_≡_, refl, ap, _∙_}
 use mathlib.Core.Logic.{⊎-elim}
 use mathlib.Core.Bool.{Bool, true, false, cond, _&&_}
 use mathlib.Core.List.{List, [], _∷_, _++_}
 use mathlib.Core.Option.{Option, some, none}
 use native.Mathlib.Omega.{arith}
-use borrow.Author.Tests.{eq-eqb, eqb-true, lt-ltb, le-ltb, ltb-true, leb-true}
+use borrow.Author.Tests.{eqb-true, lt-ltb, le-ltb, ltb-true, leb-true}
 use lib.Dec.{eqb, ltb}
-use lib.ListN.{length, drop, getD, drop-of-length-le, length-drop}
+use lib.ListN.{length, drop, getD, drop-of-length-le}
 use lib.Seq.{drop-cons, drop-drop}
 use Rattle.base.proofs.Tests.{bool-cases, never, less?, and-left, and-right}
 use Rattle.wish_lines.specs.Lines.{Line}
-use Rattle.wish_lines.specs.Reading.{State, Step, Parsed, scan, step, isDigit, isFirst, withDigit, beginItem, endGroup, endItem}
+use Rattle.wish_lines.specs.Reading.{State, Parsed, scan, step, isDigit, isFirst, withDigit, beginItem, endGroup, endItem}
 use Rattle.wish_lines.specs.Reading.{start, number, colon, group, alone, inside, among, closed, on, done, wrong}
 use Rattle.line_reader.specs.declared.Number.{Number}
 use Rattle.line_reader.specs.declared.Turn.{Turn}
 use Rattle.line_reader.specs.Items.{cap, standsAt, digitsIn, extended, numberIn, itemIn, Shown, Headed}
-use Rattle.line_reader.specs.Items.{made, behindGroup, inBraces, before, Open, Leads, Turned}
+use Rattle.line_reader.specs.Items.{made, behindGroup, inBraces, before, Open, Turned}
 
 -- ---- bytes
 
@@ -280,7 +280,9 @@ module _ (text : List ℕ) (i₀ : ℕ) (within : Bool) (i : ℕ) (more : Bool) 
 
   pub braces-turned : (x : ℕ) × Turned text i₀ within x (inBraces text i more (itemIn (drop i text)))
   unfolding step
-  braces-turned = go (itemIn (drop i text)) (λ s gs xs. item-reads (inside s gs xs) (among s gs xs) (goes-among s gs xs) (drop i text) (begins (drop i text) s gs xs))
+  braces-turned =
+      go (itemIn (drop i text))
+      (λ s gs xs. item-reads (inside s gs xs) (among s gs xs) (goes-among s gs xs) (drop i text) (begins (drop i text) s gs xs))
     where
       begins : (t : List ℕ) (s : ℕ) (gs : List (List ℕ)) (xs : List ℕ) → Begins (inside s gs xs) (among s gs xs) t
       begins [] s gs xs = tt
@@ -306,7 +308,8 @@ module _ (text : List ℕ) (i : ℕ) (bare : standsAt text i 123 ≡ false) wher
   pub alone-departs : (n : Number) → Shown i (itemIn (drop i text)) n → n .right ≡ false → Turned text i false 0 (made 0 0 0)
   alone-departs n h e = turn-departs text i false 0 (λ s gs xs o. go s gs (itemIn (drop i text)) h (reads-alone s gs))
     where
-      go : (s : ℕ) (gs : List (List ℕ)) (p : Option (ℕ × ℕ)) → Shown i p n → Reads (group s gs) (alone s gs) (drop i text) p → scan (drop i text) (group s gs) ≡ none
+      go : (s : ℕ) (gs : List (List ℕ)) (p : Option (ℕ × ℕ)) → Shown i p n → Reads (group s gs) (alone s gs) (drop i text) p
+          → scan (drop i text) (group s gs) ≡ none
       go s gs none h r = r
       go s gs (some (x, k)) h r = never (h .0) e
 
@@ -409,11 +412,14 @@ module _ (text : List ℕ) (from : ℕ) (n : Number) (shown : Shown from (number
         goes = λ g. (
           student a .whole,
           v ∙ student a .value,
-          colon-on a b ∙ (rw (stands-first text (n .end + 1) 32 c) (scan-on 32 _ (colon (student a .whole)) _ refl) ∙ ap (λ k. scan (drop k text) (group (student a .whole) [])) after),
+          colon-on a b ∙ (blank ∙ ap (λ k. scan (drop k text) (group (student a .whole) [])) after),
           omega (arith, stands-inside text (n .end + 1) 32 c),
         );
       }
     where
+      blank : scan (drop (n .end + 1) text) (colon (student a .whole)) ≡ scan (drop (n .end + 1 + 1) text) (group (student a .whole) [])
+      blank = rw (stands-first text (n .end + 1) 32 c) (scan-on 32 _ (colon (student a .whole)) _ refl)
+
       after : n .end + 1 + 1 ≡ r .end
       after = omega arith
 

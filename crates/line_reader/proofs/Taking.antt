@@ -2,12 +2,11 @@
 use Prim.Native.Nat.{ℕ, suc, _+_, _-_, _*_, _≤_, _<_}
 use mathlib.Core.Path.{_≡_, refl, sym, ap, _∙_}
 use mathlib.Core.Logic.{⊎-elim}
-use mathlib.Core.Bool.{Bool, true, false, cond, _&&_}
+use mathlib.Core.Bool.{Bool, true, false, _&&_}
 use mathlib.Core.List.{List, [], _∷_}
 use mathlib.Core.Option.{Option, some, none}
 use native.Mathlib.Omega.{arith}
-use borrow.Author.Tests.{lt-ltb, le-ltb}
-use lib.Dec.{eqb, ltb}
+use borrow.Author.Tests.{lt-ltb}
 use lib.ListN.{length, drop, getD, drop-of-length-le}
 use Rattle.base.proofs.Tests.{bool-cases, never, less?}
 use Rattle.wish_lines.specs.Reading.{isDigit, isFirst, withDigit}
@@ -17,14 +16,12 @@ use Rattle.line_reader.proofs.Scanning.{first-at, stands-first}
 
 -- ---- digits
 
-cap-digit : (x d : ℕ) → cap (10 * cap x + d) ≡ cap (10 * x + d)
-cap-digit x d = omega arith
-
 extended-cap : (x y : ℕ) (t : List ℕ) → cap x ≡ cap y → cap (extended x t) ≡ cap (extended y t)
 unfolding extended
 extended-cap x y [] e = e
 extended-cap x y (b ∷ t) e =
-    ⊎-elim (λ (d : isDigit b ≡ true). rw d (extended-cap (withDigit x b) (withDigit y b) t (omega arith))) (λ (d : isDigit b ≡ false). rw d e) (bool-cases (isDigit b))
+    ⊎-elim (λ (d : isDigit b ≡ true). rw d (extended-cap (withDigit x b) (withDigit y b) t (omega arith))) (λ (d : isDigit b ≡ false). rw d e)
+    (bool-cases (isDigit b))
 
 -- from `from` to i the digits were read, and made x the number v
 pub record Counting (text : List ℕ) (from x i v : ℕ) : Type 0 where
@@ -33,7 +30,7 @@ pub record Counting (text : List ℕ) (from x i v : ℕ) : Type 0 where
   pub value : cap (extended v (drop i text)) ≡ cap (extended x (drop from text))
   pub digits : i + digitsIn (drop i text) ≡ from + digitsIn (drop from text)
 
-module _ (text : List ℕ) (from x i v : ℕ) (C : Counting text from x i v) where
+module _ {text : List ℕ} {from x i v : ℕ} (C : Counting text from x i v) where
   -- a digit
   pub counting-on : (v′ : ℕ) → i < length text → isDigit (getD text i 0) ≡ true → v′ ≡ cap (10 * v + (getD text i 0 - 48)) → Counting text from x (i + 1) v′
   unfolding extended digitsIn
@@ -95,7 +92,8 @@ module _ (text : List ℕ) (i : ℕ) where
 -- ---- in braces
 
 module _ (text : List ℕ) (i : ℕ) (more : Bool) (n : Number) where
-  pub braces-item : (p : Option (ℕ × ℕ)) → Shown i p n → n .right ≡ true → standsAt text (n .end) 44 ≡ true → inBraces text i more p ≡ made 1 (n .value) (n .end + 1)
+  pub braces-item : (p : Option (ℕ × ℕ)) → Shown i p n → n .right ≡ true → standsAt text (n .end) 44 ≡ true
+      → inBraces text i more p ≡ made 1 (n .value) (n .end + 1)
   braces-item none h e s = never e h
   braces-item (some (x, k)) h e s = rw (← h .2, s, h .1)
 

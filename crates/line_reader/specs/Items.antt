@@ -6,7 +6,6 @@ use mathlib.Core.List.{List, [], _∷_, _++_}
 use mathlib.Core.Option.{Option, some, none}
 use lib.Dec.{eqb, ltb}
 use lib.ListN.{length, drop, getD}
-use Rattle.wish_lines.specs.Lines.{Line}
 use Rattle.wish_lines.specs.Reading.{State, Parsed, scan, isDigit, isFirst, withDigit, start, group, inside}
 use Rattle.line_reader.specs.declared.Number.{Number}
 use Rattle.line_reader.specs.declared.Turn.{Turn}

@@ -1,6 +1,6 @@
 // One wish line of a text: its form, whose it is, what it names, and the number of the group that each item stands in.
 ghost use mathlib.Core.Path.{_≡_};
-ghost use mathlib.Core.Bool.{cond, not, _&&_};
+ghost use mathlib.Core.Bool.{cond};
 ghost use Prim.Native.Nat.{ℕ, _+_, _-_, _≤_, _<_, min};
 ghost use lib.ListN.{length, drop};
 ghost use Rattle.format.specs.Engine.{marketIn};

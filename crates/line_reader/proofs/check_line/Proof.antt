@@ -38,8 +38,9 @@ returns c =
     let h = c .before .before .before .before .before .before .before .before .before .before .before .before .before .head in
     let b = c .before .before .before .before .before .before .before .before .before .before .read-groups in
     let own = c .before .before .set-of in
+    let right = c .before .before .before .before .before .before .before .before .before .before .before .before .if1 .taken in
     checked (marketIn (s .args .case .now)) (s .args .text .now) (s .args .from) (s .args .k) (b .last .1 .1 .0) _ (b .ensures .sized) (s .pre .1 .0)
-    (λ p w e. s .pre .0 .named p w e .1 .1) (s .pre .1 .1 .0 .0) (h .result) (h .ensures) (c .before .before .before .before .before .before .before .before .before .before .before .before .if1 .taken) (b .result) (b .ensures)
+    (λ p w e. s .pre .0 .named p w e .1 .1) (s .pre .1 .1 .0 .0) (h .result) (h .ensures) right (b .result) (b .ensures)
     (own .result) (own .ensures .1) refl (c .fault-of .ensures)
 
 returns-2 : tie.Need-returns-2

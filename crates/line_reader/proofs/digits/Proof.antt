@@ -43,22 +43,20 @@ loop-less c = search needs
 
 loop-again : tie.Need-loop-again Inv-loop μ-loop
 loop-again c =
-    let a = c .before .before .before .before .before .before .before .before .args in
     let l = c .before .before .before .before .before .before .loop in
     let v = c .capped .ensures ∙ ap (λ d. cap (10 * l .v + d)) (c .before .value .ensures .0) in
-    counting-on (a .text .now) (a .from) (a .x) (l .i) (l .v) (l .inv) (c .capped .result) (c .before .before .before .before .before .loop-test .taken) (sym (c .before .before .before .is-digit .ensures) ∙ c .before .before .if1 .taken) v
+    counting-on (l .inv) (c .capped .result) (c .before .before .before .before .before .loop-test .taken)
+    (sym (c .before .before .before .is-digit .ensures) ∙ c .before .before .if1 .taken) v
 
 returns : tie.Need-returns Inv-loop μ-loop
 returns c =
-    let a = c .before .before .before .before .before .before .args in
     let l = c .before .before .before .before .loop in
-    counting-stops (a .text .now) (a .from) (a .x) (l .i) (l .v) (l .inv) (c .before .before .before .loop-test .taken) (sym (c .before .is-digit .ensures) ∙ c .if1 .left)
+    counting-stops (l .inv) (c .before .before .before .loop-test .taken) (sym (c .before .is-digit .ensures) ∙ c .if1 .left)
 
 returns-2 : tie.Need-returns-2 Inv-loop μ-loop
 returns-2 c =
-    let a = c .before .before .before .args in
     let l = c .before .loop in
-    counting-ends (a .text .now) (a .from) (a .x) (l .i) (l .v) (l .inv) (c .loop-test .left)
+    counting-ends (l .inv) (c .loop-test .left)
 
 pub digits-spec : {M : Type 1} → statement M
 digits-spec =

@@ -53,7 +53,8 @@ returns-2 c =
     let x = c .before .before .before .before .before .before .item-at in
     let closes = ap (λ z. a .more && z) (sym (c .before .before .stands2 .ensures)) ∙ c .before .if3 .taken in
     c .behind-group .ensures
-    ∙ sym (braces-close (a .text .now) (a .i) (a .more) (x .result) (itemIn (drop (a .i) (a .text .now))) (x .ensures) (c .before .before .before .before .before .if1 .taken)
+    ∙ sym (braces-close (a .text .now) (a .i) (a .more) (x .result) (itemIn (drop (a .i) (a .text .now))) (x .ensures)
+    (c .before .before .before .before .before .if1 .taken)
     (sym (c .before .before .before .before .stands .ensures) ∙ c .before .before .before .if2 .left) closes)
 
 make-turn-requires-2 : tie.Need-make-turn-requires-2
@@ -65,7 +66,8 @@ returns-3 c =
     let x = c .before .before .before .before .before .before .item-at in
     let stays = ap (λ z. a .more && z) (sym (c .before .before .stands2 .ensures)) ∙ c .before .if3 .left in
     c .make-turn2 .ensures
-    ∙ sym (braces-stop (a .text .now) (a .i) (a .more) (x .result) (itemIn (drop (a .i) (a .text .now))) (x .ensures) (c .before .before .before .before .before .if1 .taken)
+    ∙ sym (braces-stop (a .text .now) (a .i) (a .more) (x .result) (itemIn (drop (a .i) (a .text .now))) (x .ensures)
+    (c .before .before .before .before .before .if1 .taken)
     (sym (c .before .before .before .before .stands .ensures) ∙ c .before .before .before .if2 .left) stays)
 
 make-turn-requires-3 : tie.Need-make-turn-requires-3
@@ -75,7 +77,8 @@ returns-4 : tie.Need-returns-4
 returns-4 c =
     let a = c .before .before .before .before .args in
     let x = c .before .before .item-at in
-    c .make-turn3 .ensures ∙ sym (braces-wrong (a .text .now) (a .i) (a .more) (x .result) (itemIn (drop (a .i) (a .text .now))) (x .ensures) (c .before .if1 .left))
+    c .make-turn3 .ensures
+    ∙ sym (braces-wrong (a .text .now) (a .i) (a .more) (x .result) (itemIn (drop (a .i) (a .text .now))) (x .ensures) (c .before .if1 .left))
 
 pub in-braces-spec : {M : Type 1} → statement M
 in-braces-spec =

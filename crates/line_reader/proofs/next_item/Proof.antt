@@ -28,7 +28,8 @@ in-braces-requires-2 c κs = search needs
 returns-2 : tie.Need-returns-2
 returns-2 c =
     let a = c .before .before .before .before .before .args in
-    rw (c .in-braces2 .ensures) (next-brace (a .text .now) (a .i) (a .within) (c .before .before .before .if1 .left) (sym (c .before .before .stands .ensures) ∙ c .before .if2 .taken))
+    rw (c .in-braces2 .ensures)
+    (next-brace (a .text .now) (a .i) (a .within) (c .before .before .before .if1 .left) (sym (c .before .before .stands .ensures) ∙ c .before .if2 .taken))
 
 item-at-requires : tie.Need-item-at-requires
 item-at-requires c κs = search needs
@@ -41,7 +42,8 @@ returns-3 c =
     let a = c .before .before .before .before .before .before .before .args in
     let bare = sym (c .before .before .before .before .stands .ensures) ∙ c .before .before .before .if2 .left in
     let x = c .before .before .item-at in
-    rw (c .behind-group .ensures) (next-alone (a .text .now) (a .i) (a .within) (c .before .before .before .before .before .if1 .left) bare (x .result) (x .ensures) (c .before .if3 .taken))
+    rw (c .behind-group .ensures)
+    (next-alone (a .text .now) (a .i) (a .within) (c .before .before .before .before .before .if1 .left) bare (x .result) (x .ensures) (c .before .if3 .taken))
 
 make-turn-requires : tie.Need-make-turn-requires
 make-turn-requires c κs = search needs
@@ -51,7 +53,8 @@ returns-4 c =
     let a = c .before .before .before .before .before .before .before .args in
     let bare = sym (c .before .before .before .before .stands .ensures) ∙ c .before .before .before .if2 .left in
     let x = c .before .before .item-at in
-    rw (c .make-turn .ensures) (next-none (a .text .now) (a .i) (a .within) (c .before .before .before .before .before .if1 .left) bare (x .result) (x .ensures) (c .before .if3 .left))
+    rw (c .make-turn .ensures)
+    (next-none (a .text .now) (a .i) (a .within) (c .before .before .before .before .before .if1 .left) bare (x .result) (x .ensures) (c .before .if3 .left))
 
 pub next-item-spec : {M : Type 1} → statement M
 next-item-spec =

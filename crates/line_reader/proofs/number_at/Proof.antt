@@ -22,7 +22,8 @@ digits-requires c κs = search needs
 
 returns : tie.Need-returns
 returns c =
-    number-right _ _ _ (c .before .before .before .before .before .if1 .taken) (sym (c .before .before .before .is-first .ensures) ∙ c .before .before .if2 .taken) refl (cc) (c .digits .ensures .1)
+    let inside = c .before .before .before .before .before .if1 .taken in
+    number-right _ _ _ inside (sym (c .before .before .before .is-first .ensures) ∙ c .before .before .if2 .taken) refl (cc) (c .digits .ensures .1)
 
 returns-2 : tie.Need-returns-2
 returns-2 c = number-wrong _ _ _ (c .before .before .before .if1 .taken) (sym (c .before .is-first .ensures) ∙ c .if2 .left) refl

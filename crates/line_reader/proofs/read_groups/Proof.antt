@@ -24,63 +24,56 @@ same-length c = omega (arith, c .before .before .before .before .loop .inv .mark
 
 returns : tie.Need-returns Inv-loop μ-loop
 returns c =
-    let a = c .before .before .before .before .before .before .before .args in
     let l = c .before .before .before .before .loop in
     let t = c .before .before .next-item in
-    going-departs (a .text .now) (a .from) (l .i) (l .within) (l .g) (l .m) (l .groups) (l .inv) (t .result) (t .ensures) _ refl (c .if1 .taken)
+    going-departs (l .inv) (t .ensures) _ refl (c .if1 .taken)
 
 note-requires : tie.Need-note-requires Inv-loop μ-loop
 note-requires c κs =
-    let a = c .before .before .before .before .before .before .before .before .args in
     let l = c .before .before .before .before .before .loop in
-    (l .inv .marks .sized, going-small (a .text .now) (a .from) (l .i) (l .within) (l .g) (l .m) (l .groups) (l .inv) .0)
+    (l .inv .marks .sized, going-small (l .inv) .0)
 
 same-length-2 : tie.Need-same-length-2 Inv-loop μ-loop
 same-length-2 c =
-    let a = c .before .before .before .before .before .before .before .before .before .before .before .before .before .args in
     let l = c .before .before .before .before .before .before .before .before .before .before .loop in
     let t = c .before .before .before .before .before .before .before .before .next-item in
     let n = c .before .before .before .before .note in
-    omega (arith, going-sized (a .text .now) (a .from) (l .i) (l .within) (l .g) (l .m) (l .groups) (l .inv) (t .result) (t .ensures) (n .result) (n .last .0) (c .before .before .before .before .before .before .if1 .left) (n .ensures), c .before .before .before .before .before .before .before .before .before .before .before .before .before .pre .1)
+    let s = c .before .before .before .before .before .before .before .before .before .before .before .before .before in
+    omega (arith, going-sized (l .inv) (t .ensures) (c .before .before .before .before .before .before .if1 .left) (n .ensures), s .pre .1)
 
 returns-2 : tie.Need-returns-2 Inv-loop μ-loop
 returns-2 c =
-    let a = c .before .before .before .before .before .before .before .before .before .before .before .before .before .args in
     let l = c .before .before .before .before .before .before .before .before .before .before .loop in
     let t = c .before .before .before .before .before .before .before .before .next-item in
     let n = c .before .before .before .before .note in
-    going-line (a .text .now) (a .from) (l .i) (l .within) (l .g) (l .m) (l .groups) (l .inv) (t .result) (t .ensures) (n .result) (n .last .0) (c .before .before .before .before .before .before .if1 .left) (n .ensures)
-    _ refl refl refl (c .if2 .taken)
+    going-line (l .inv) (t .ensures) (c .before .before .before .before .before .before .if1 .left) (n .ensures) _ refl refl refl (c .if2 .taken)
 
 next-group-requires : tie.Need-next-group-requires Inv-loop μ-loop
 next-group-requires c κs =
-    let a = c .before .before .before .before .before .before .before .before .before .before .before .before .before .before .args in
     let l = c .before .before .before .before .before .before .before .before .before .before .before .loop in
-    going-small (a .text .now) (a .from) (l .i) (l .within) (l .g) (l .m) (l .groups) (l .inv) .1
+    going-small (l .inv) .1
 
 loop-less : tie.Need-loop-less Inv-loop μ-loop
 loop-less c =
-    let s = c .before .before .before .before .before .before .before .before .before .before .next-item .ensures .1 .shown (c .before .before .before .before .before .before .before .before .if1 .left) in
+    let t = c .before .before .before .before .before .before .before .before .before .before .next-item in
+    let s = t .ensures .1 .shown (c .before .before .before .before .before .before .before .before .if1 .left) in
     omega (arith, s .1, s .2, c .before .before .before .before .before .before .before .before .before .before .before .loop-test .taken)
 
 loop-again : tie.Need-loop-again Inv-loop μ-loop
 loop-again c =
-    let a = c .before .before .before .before .before .before .before .before .before .before .before .before .before .before .before .args in
     let l = c .before .before .before .before .before .before .before .before .before .before .before .before .loop in
     let t = c .before .before .before .before .before .before .before .before .before .before .next-item in
     let n = c .before .before .before .before .before .before .note in
     rw (c .next-group .ensures)
-    (going-on (a .text .now) (a .from) (l .i) (l .within) (l .g) (l .m) (l .groups) (l .inv) (t .result) (t .ensures)
-    (n .result) (n .last .0) (c .before .before .before .before .before .before .before .before .if1 .left) (n .ensures) (c .before .before .if2 .left))
+    (going-on (l .inv) (t .ensures) (c .before .before .before .before .before .before .before .before .if1 .left) (n .ensures) (c .before .before .if2 .left))
 
 same-length-3 : tie.Need-same-length-3 Inv-loop μ-loop
 same-length-3 c = omega (arith, c .before .loop .inv .marks .sized, c .before .before .before .before .pre .1)
 
 returns-3 : tie.Need-returns-3 Inv-loop μ-loop
 returns-3 c =
-    let a = c .before .before .before .before .args in
     let l = c .before .loop in
-    going-ends (a .text .now) (a .from) (l .i) (l .within) (l .g) (l .m) (l .groups) (l .inv) _ refl (c .loop-test .left)
+    going-ends (l .inv) _ refl (c .loop-test .left)
 
 pub read-groups-spec : {M : Type 1} → statement M
 read-groups-spec =
