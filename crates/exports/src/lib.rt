@@ -5,6 +5,8 @@ ghost use Rattle.stages.specs.Outcome.{workOut};
 ghost use Rattle.api.specs.Answered.{Answered, answerIn};
 ghost use Rattle.api.specs.Answers.{reportOf};
 ghost use Rattle.stages.specs.Answered.{stagesAnswerFor, stagesReportOf, StagesAnswered};
+ghost use Rattle.wishes.specs.Outcome.{writeWishes, readWishes};
+ghost use Rattle.wishes.specs.Answered.{wishesAnswerFor, wishesReportOf, WriteAnswered, ReadAnswered};
 use api::PartReport;
 use api::Report;
 use api::StudentState;
@@ -49,4 +51,26 @@ pub extern "C" fn lgs_stages(case: &[u8], stages: &mut [u16]) -> PartReport
 {
     let a = stages::stages(case, &mut *stages);
     stages::numbers(a)
+}
+
+// The wish lines of a case are written (`wishes::write_wishes`): three numbers.
+#[no_mangle]
+pub extern "C" fn lgs_write_wishes(case: &[u8], text: &mut [u8]) -> PartReport
+    ensures { λ r. ⌜ r ≡ wishesReportOf (wishesAnswerFor (writeWishes (now (case .entry)) (length (now (text .entry))))) ⌝ }
+    ensures { λ r. ⌜ WriteAnswered (now (case .entry)) (now (text .entry))
+        (wishesAnswerFor (writeWishes (now (case .entry)) (length (now (text .entry))))) (now (text .exit)) ⌝ }
+{
+    let a = wishes::write_wishes(case, &mut *text);
+    wishes::numbers(a)
+}
+
+// Wish lines are read into a copy of the case (`wishes::read_wishes`): three numbers.
+#[no_mangle]
+pub extern "C" fn lgs_read_wishes(case: &[u8], text: &[u8], copy: &mut [u8]) -> PartReport
+    ensures { λ r. ⌜ r ≡ wishesReportOf (wishesAnswerFor (readWishes (now (case .entry)) (now (text .entry)) (length (now (copy .entry))))) ⌝ }
+    ensures { λ r. ⌜ ReadAnswered (now (case .entry)) (now (text .entry)) (now (copy .entry))
+        (wishesAnswerFor (readWishes (now (case .entry)) (now (text .entry)) (length (now (copy .entry))))) (now (copy .exit)) ⌝ }
+{
+    let a = wishes::read_wishes(case, text, &mut *copy);
+    wishes::numbers(a)
 }
