@@ -103,9 +103,9 @@ static inline const char *lgs_refusal_text(uint64_t number)
     case LGS_NO_STAGES:
         return "No stage numbers agree with every workshop's groups.";
     case LGS_WISH_FORM:
-        return "A line of the wishes departs from their form, is missing, or is left over.";
+        return "A line of wishes departs from the form, is missing, or is left over.";
     case LGS_WISH_NAMES:
-        return "A line of the wishes names a workshop twice, misses one, or names one that is no pair of hers.";
+        return "A line of wishes names a workshop twice, misses one, or names one with which she has no pair.";
     default:
         return "No refusal has this number.";
     }
@@ -243,8 +243,8 @@ lgs_part_report lgs_write_wishes(const uint8_t *case_bytes, size_t case_length,
  *
  * LGS_DONE: first is case_length, and as many bytes at the head of the copy are those of the case but for bytes 6 and 7, low byte first, of students and
  * pairs: in a student's record they are the position, from 1, of the group with `-` in her line, and in a pair's record that of the group with its workshop.
- * No function refuses the copy for its own bytes. A book with equal marks for two workshops that are now in one group is refused with it (LGS_BOOK_TIE).
- * In short:
+ * No function refuses the copy for its own bytes (1 to 5, 13). A book in which she gave equal marks to two workshops that are now in one group is refused
+ * with it (LGS_BOOK_TIE). In short:
  *
  *     static uint8_t copy[16 * 4096]; // for cases of up to 4,096 records
  *     lgs_part_report answer = lgs_read_wishes(case_bytes, case_length, text, text_length, copy, sizeof copy);
