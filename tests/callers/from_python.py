@@ -266,6 +266,17 @@ def test_wishes():
     refuses("512 x 64, the last line feed missing", 14, 511, lgs.read_wishes, apart, falling[:-1])
 
 
+def test_format():
+    """The table of texts in docs/FORMAT.md, for a case with two students and the one pair of student 1 and workshop 3."""
+    with open(os.path.join(os.path.dirname(os.path.abspath(__file__)), "..", "..", "docs", "FORMAT.md"), encoding="utf-8") as file:
+        rows = re.findall(r"^\| `(\d: ?[^`]*)` \| (.*?) \|", file.read(), re.MULTILINE)
+    case = lgs.pack_case([(1, 1, 1), (1, 1, 2)], [(1, 1)] * 3, [(1, 3, 1, 1)])
+    for text, refusal in rows:
+        found = read_or_refused(case, text.replace("/", "\n").encode())
+        equal(f"{text} in docs/FORMAT.md", "none" if isinstance(found, bytes) else "{} at {}".format(*found), refusal)
+    check("there are texts in docs/FORMAT.md", len(rows) > 10, rows)
+
+
 def random_year(draw):
     """Students, pairs and workshops of a small case; its groups have gaps, and some are equal."""
     students = [(draw.randint(1, 512), draw.randint(1, 65), lot) for lot in draw.sample(range(1, 513), draw.randint(1, 12))]
@@ -610,8 +621,8 @@ def test_file():
 
 def main():
     check("the lgs.py that is tested", os.path.samefile(lgs.__file__, BINDING), lgs.__file__)
-    for test in (test_threads, test_k, test_large, test_answers, test_wishes, test_random_wishes, test_refusals, test_exception, test_bytes, test_rows,
-                 test_room, test_kinds_of_bytes, test_header, test_file, test_library):
+    for test in (test_threads, test_k, test_large, test_answers, test_wishes, test_format, test_random_wishes, test_refusals, test_exception, test_bytes,
+                 test_rows, test_room, test_kinds_of_bytes, test_header, test_file, test_library):
         try:
             test()
         except Exception:
