@@ -28,7 +28,7 @@ import struct
 from typing import Any, Iterable, List, NamedTuple, Sequence, Tuple, Union
 
 __all__ = ["Cause", "NextVisit", "Pair", "Placement", "Refused", "Student", "VERSION", "Visit", "Workshop",
-           "pack_book", "pack_case", "place", "stages"]
+           "pack_book", "pack_case", "place", "read_wishes", "stages", "write_wishes"]
 
 VERSION = 1    # LGS_VERSION of the header include/lgs.h: the library's name has it
 
@@ -124,6 +124,8 @@ class Cause(enum.IntEnum):
     BOOK_REPEATED = 10
     BOOK_TIE = 11
     NO_STAGES = 12
+    WISH_FORM = 14
+    WISH_NAMES = 15
 
 
 _TEXTS = {
@@ -140,6 +142,8 @@ _TEXTS = {
     Cause.BOOK_REPEATED: "A visit in the book is of a pair that is in the book already.",
     Cause.BOOK_TIE: "A student gave two workshops of one group the same mark.",
     Cause.NO_STAGES: "No stage numbers agree with every workshop's groups.",
+    Cause.WISH_FORM: "A line of wishes departs from the form, is missing, or is left over.",
+    Cause.WISH_NAMES: "A line of wishes names a workshop twice, misses one, or names one with which she has no pair.",
 }
 
 
@@ -147,8 +151,8 @@ class Refused(Exception):
     """The library refused what it was given.
 
     number: the refusal's number, equal to one of `Cause`.
-    place: the record of the case (1 to 5, 13; students, then workshops, then pairs) or of the book (7 to 11) that it names, counted from 0; 0 where it
-        names none.
+    place: the record of the case (1 to 5, 13; students, then workshops, then pairs) or of the book (7 to 11), or the line of wishes (14, 15), that it
+        names, counted from 0; 0 where it names none.
     text: the refusal in a short plain sentence.
     """
 
@@ -168,7 +172,7 @@ class Refused(Exception):
 def place(case: bytes, book: bytes = b"") -> Union[Placement, NextVisit]:
     """The next visit or the finished placement, for a case and a book of the visits held so far.
 
-    Raises Refused: any `Cause` but NO_STAGES and SHORT_BUFFER.
+    Raises Refused: a cause that the case or the book gives.
     """
     case, book = _bytes(case), _bytes(book)
     records = len(case) // 16
@@ -190,6 +194,31 @@ def stages(case: bytes) -> List[int]:
     found = _numbers(512)
     report = _call("lgs_stages", _PartReport, _bytes(case), found)
     return found[:report.first]
+
+
+def write_wishes(case: bytes) -> bytes:
+    """The students' groups and line groups as text, a line for each student, as in b"3: 2,{1,4},-,5\\n".
+
+    That is student 3, her groups best first, braces around a group of two or more, and - for none; in braces - stands first and the workshops rise. Equal
+    lines come exactly from cases with the same students and pairs, and the same order of each student's groups, gaps aside.
+    Raises Refused: a cause that the case gives.
+    """
+    case = _bytes(case)
+    text = _room(8 * 512 + 4 * (len(case) // 16))
+    report = _call("lgs_write_wishes", _PartReport, case, text)
+    return bytes(text)[:report.first]
+
+
+def read_wishes(case: bytes, text: bytes) -> bytes:
+    """A copy of the case in which the students' groups and line groups are those of the text, counted from 1 in each line.
+
+    The text is as `write_wishes` makes it, but in braces any order will do: a line for each student, from 1 up, with each workshop that she has a pair with.
+    Raises Refused: WISH_FORM or WISH_NAMES at the first line that is wrong, whichever it is, or a cause that the case gives.
+    """
+    case = _bytes(case)
+    copy = _room(len(case))
+    report = _call("lgs_read_wishes", _PartReport, case, _bytes(text), copy)
+    return bytes(copy)[:report.first]
 
 
 # ---------------------------------------------------------------- the library, as include/lgs.h declares it
@@ -256,3 +285,7 @@ def _bytes(data: bytes) -> bytes:
 
 def _numbers(count: int) -> Any:
     return (ctypes.c_uint16 * count)()
+
+
+def _room(length: int) -> Any:
+    return (ctypes.c_uint8 * length)()

@@ -1,16 +1,18 @@
 /* The placing engine and its parts for programs in C (C99 or later), C++, Rust, Python and others. tools/build makes the library, target/lib/liblgs.a to
  * link or target/lib/liblgs.so to load; docs/FORMAT.md has the case and the book byte by byte; examples/ has complete callers.
  *
- *   lgs_place     a case and a book of visit results: the next visit, or the finished placement
- *   lgs_stages    a case: each student's stage
+ *   lgs_place           a case and a book of visit results: the next visit, or the finished placement
+ *   lgs_stages          a case: each student's stage
+ *   lgs_write_wishes    a case: the students' wishes as lines of text
+ *   lgs_read_wishes     a case and such lines: a copy of the case with their wishes
  *
  * Whatever the bytes, the lengths and the contents at entry, a call reads and writes only what is lent, and it returns.
  *
  * What is asked of the caller, of every function:
  *   - Each pointer has as many entries as the length after it says, and each entry was written before, with any value (calloc does it). With the
  *     length 0 it may be null, as for the empty book of a first call.
- *   - Pointers are aligned as their type: 1 byte for case and book, 2 for uint16_t, 8 for the states.
- *   - What is written overlaps nothing else that is lent. Case and book, which are only read, may overlap each other.
+ *   - Pointers are aligned as their type: 1 byte for uint8_t, 2 for uint16_t, 8 for the states.
+ *   - What is written overlaps nothing else that is lent. What is only read (case and book, case and a text to be read) may overlap.
  *   - No other thread writes to what is lent, or reads what is written, before the call returns.
  * Calls are reentrant: nothing is kept from call to call, so threads with buffers of their own may call at the same time. A call takes less than 16 KB
  * of the stack.
@@ -18,13 +20,15 @@
  * The buffers, counted in entries. Longer ones may be lent; shorter ones are refused (LGS_SHORT_BUFFER). lgs_needs gives the lengths for a case. The
  * last column suffices whatever the case.
  *
- *                           needed for n students and p pairs       always enough
- *   lgs_place    places     n                                       512
- *                visits     2 * p                                   2 * (case_length / 16)
- *                seats      the sum of all quotas                   32768
- *                index      p                                       case_length / 16
- *                states     n                                       512
- *   lgs_stages   stages     n                                       512
+ *                                 needed for n students and p pairs       always enough
+ *   lgs_place          places     n                                       512
+ *                      visits     2 * p                                   2 * (case_length / 16)
+ *                      seats      the sum of all quotas                   32768
+ *                      index      p                                       case_length / 16
+ *                      states     n                                       512
+ *   lgs_stages         stages     n                                       512
+ *   lgs_write_wishes   text       8 * n + 4 * p                           8 * 512 + 4 * (case_length / 16)
+ *   lgs_read_wishes    copy       case_length                             case_length
  *
  * Seats, index and states are scratch: they may hold anything at entry, and are zero over their whole length on return. The others are outputs: a refusal
  * leaves them as they were, and so stay, after every answer, the entries past those that the function's section names.
@@ -46,7 +50,7 @@ extern "C" {
 enum { LGS_MOST_PLACES = 512, LGS_MOST_STATES = 512, LGS_MOST_SEATS = 32768, LGS_MOST_STAGES = 512 };
 
 /* The kind of an answer that is a refusal, of every function. The answer's `first` is then the refusal's number, and its `second` the refusal's place, the
- * number of a record, from 0; the place is 0 for those that name no record. */
+ * number of a record, or of a line of a text, from 0; the place is 0 for those that name neither. */
 enum { LGS_REFUSED = 2 };
 
 /* The refusals, in the order of testing. Each function's section says which ones it gives. */
@@ -63,7 +67,9 @@ enum {
     LGS_BOOK_MARK = 9,      /* mark 0 or outside -1000 to 1000; place: as before */
     LGS_BOOK_REPEATED = 10, /* a pair that is in the book already; place: the first later record */
     LGS_BOOK_TIE = 11,      /* one student gave an equal mark, other than -1000, earlier in the same group; place: the first later record */
-    LGS_NO_STAGES = 12      /* no stage numbers agree with every workshop's groups */
+    LGS_NO_STAGES = 12,     /* no stage numbers agree with every workshop's groups */
+    LGS_WISH_FORM = 14,     /* a line departs from the form of wish lines, is missing, or is left over; place: the line */
+    LGS_WISH_NAMES = 15     /* a line names a workshop twice, misses one, or names one without a pair; place: the line */
 };
 
 /* A refusal in a short plain sentence. */
@@ -96,6 +102,10 @@ static inline const char *lgs_refusal_text(uint64_t number)
         return "A student gave two workshops of one group the same mark.";
     case LGS_NO_STAGES:
         return "No stage numbers agree with every workshop's groups.";
+    case LGS_WISH_FORM:
+        return "A line of wishes departs from the form, is missing, or is left over.";
+    case LGS_WISH_NAMES:
+        return "A line of wishes names a workshop twice, misses one, or names one with which she has no pair.";
     default:
         return "No refusal has this number.";
     }
@@ -105,6 +115,8 @@ static inline const char *lgs_refusal_text(uint64_t number)
 typedef struct {
     size_t places, visits, seats, index, states; /* lgs_place */
     size_t stages;                               /* lgs_stages */
+    size_t text;                                 /* lgs_write_wishes */
+    size_t copy;                                 /* lgs_read_wishes */
 } lgs_lengths;
 
 /* The least lengths with which no function refuses the case for a short buffer; of a case that is refused for its own bytes (1 to 5, 13) some lengths.
@@ -129,10 +141,12 @@ static inline lgs_lengths lgs_needs(const uint8_t *case_bytes, size_t case_lengt
     needs.visits = 2 * pairs;
     needs.seats = seats;
     needs.index = pairs;
+    needs.text = 8 * students + 4 * pairs;
+    needs.copy = case_length;
     return needs;
 }
 
-/* ---- lgs_place: the next visit, the finished placement, or one of twelve refusals (all but LGS_NO_STAGES).
+/* ---- lgs_place: the next visit, the finished placement, or one of twelve refusals (those down to LGS_BOOK_TIE in the list above).
  *
  * A mark of -1000 in the book, from either side and in any group, means that the two cannot be placed together. Each student has a lot, at bytes 8 and 9
  * of her record, low byte first: 1 to 512, all different. A workshop may give equal marks in one group, and of two such students it ranks the one with
@@ -200,6 +214,48 @@ typedef struct {
  * Each stage then goes into its student's record, at bytes 4 and 5, low byte first: that of student i + 1 is at case_bytes[16 * i + 4]. */
 lgs_part_report lgs_stages(const uint8_t *case_bytes, size_t case_length,
                            uint16_t *stages, size_t stages_length);
+
+/* ---- Wish lines: the students' groups and line groups as text, a line for each student, from student 1 up. Each line is as `3: 2,{4,1},-,5` and a line
+ * feed: student 3, her groups best first, braces around a group of two or more items, and `-` for none exactly once, alone or inside braces. Numbers
+ * begin with 1 to 9, and the only blank follows the colon. A line names every workshop that the student has a pair with, and no other. docs/FORMAT.md has
+ * more of it. */
+
+/* lgs_write_wishes: the lines of a case, or one of the refusals down to LGS_SHORT_BUFFER in the list above.
+ *
+ * Items in braces are written rising, with `-` first. Two cases write the same lines exactly when they have the same students and pairs, and each student
+ * has the same order of groups, with her line group in it; gaps between the numbers of groups do not show, nor does anything else.
+ *
+ * LGS_DONE: first is how many bytes were put at the head of the text; no zero byte is put behind them. In short:
+ *
+ *     static uint8_t text[8 * 512 + 4 * 4096]; // for cases of up to 4,096 records; lgs_needs gives the length for any
+ *     lgs_part_report answer = lgs_write_wishes(case_bytes, case_length, text, sizeof text);
+ *     if (answer.kind == LGS_DONE)
+ *         fwrite(text, 1, answer.first, stdout);
+ *     else
+ *         printf("%s (refused %d at %d)\n", lgs_refusal_text(answer.first), (int)answer.first, (int)answer.second);
+ */
+lgs_part_report lgs_write_wishes(const uint8_t *case_bytes, size_t case_length,
+                                 uint8_t *text, size_t text_length);
+
+/* lgs_read_wishes: a copy of the case with the groups of these lines, or one of the refusals down to LGS_SHORT_BUFFER in the list above or, tested last,
+ * LGS_WISH_FORM and LGS_WISH_NAMES: line by line, and in each line first its form and then its names. The place is the line's, from 0; something left over
+ * has the place after the last student's line. The text may have any length, also 0, and items in braces any order.
+ *
+ * LGS_DONE: first is case_length, and as many bytes at the head of the copy are those of the case but for bytes 6 and 7, low byte first, of students and
+ * pairs: in a student's record they are the position, from 1, of the group with `-` in her line, and in a pair's record that of the group with its workshop.
+ * No function refuses the copy for its own bytes (1 to 5, 13). A book in which she gave equal marks to two workshops that are now in one group is refused
+ * with it (LGS_BOOK_TIE). In short:
+ *
+ *     static uint8_t copy[16 * 4096]; // for cases of up to 4,096 records
+ *     lgs_part_report answer = lgs_read_wishes(case_bytes, case_length, text, text_length, copy, sizeof copy);
+ *     if (answer.kind == LGS_DONE)
+ *         fwrite(copy, 1, answer.first, stdout);
+ *     else
+ *         printf("%s (refused %d at %d)\n", lgs_refusal_text(answer.first), (int)answer.first, (int)answer.second);
+ */
+lgs_part_report lgs_read_wishes(const uint8_t *case_bytes, size_t case_length,
+                                const uint8_t *text, size_t text_length,
+                                uint8_t *copy, size_t copy_length);
 
 #ifdef __cplusplus
 }

@@ -1,29 +1,9 @@
 /* Calls of lgs_place and lgs_stages from C, each buffer between two pages that cannot be touched, and the place of each answer full of 0xA5 before the
  * call. Last line 'N passed, M failed'. */
 #define _GNU_SOURCE
-#include "check.h"
-#include "lgs.h"
+#include "guard.h"
 
-#include <pthread.h>
-#include <stdlib.h>
-#include <string.h>
-#include <sys/mman.h>
-
-/* Example K of document 01; each student's lot, at bytes 8 and 9 of her record, is her number, and each pair's fare, at bytes 10 and 11, is 0. */
-enum { STUDENTS = 3, WORKSHOPS = 2, PAIRS = 6, RECORDS = STUDENTS + WORKSHOPS + PAIRS, SEATS = 2, VISITS = 4 };
-static const uint8_t K_CASE[16 * RECORDS] = {
-    1, 0, 1, 0, 1, 0, 2, 0, 1, 0, 0, 0, 0, 0, 0, 0,
-    1, 0, 2, 0, 2, 0, 2, 0, 2, 0, 0, 0, 0, 0, 0, 0,
-    1, 0, 3, 0, 2, 0, 2, 0, 3, 0, 0, 0, 0, 0, 0, 0,
-    2, 0, 1, 0, 1, 0, 3, 0, 0, 0, 0, 0, 0, 0, 0, 0,
-    2, 0, 2, 0, 1, 0, 3, 0, 0, 0, 0, 0, 0, 0, 0, 0,
-    3, 0, 1, 0, 1, 0, 1, 0, 1, 0, 0, 0, 0, 0, 0, 0,
-    3, 0, 1, 0, 2, 0, 1, 0, 1, 0, 0, 0, 0, 0, 0, 0,
-    3, 0, 2, 0, 1, 0, 1, 0, 2, 0, 0, 0, 0, 0, 0, 0,
-    3, 0, 2, 0, 2, 0, 1, 0, 2, 0, 0, 0, 0, 0, 0, 0,
-    3, 0, 3, 0, 1, 0, 1, 0, 2, 0, 0, 0, 0, 0, 0, 0,
-    3, 0, 3, 0, 2, 0, 2, 0, 2, 0, 0, 0, 0, 0, 0, 0,
-};
+enum { SEATS = 2, VISITS = 4 };
 static const uint8_t K_BOOK[8 * VISITS] = {
     1, 0, 1, 0, 5, 0, 3, 0,
     1, 0, 2, 0, 2, 0, 4, 0,
@@ -37,33 +17,6 @@ static const uint16_t K_VISITS[2 * VISITS] = {1, 1, 1, 2, 2, 2, 3, 2};
 static const unsigned FARES[PAIRS] = {1, 256, 65535, 4660, 65535, 16};
 static const uint64_t COST[VISITS + 1] = {0, 1, 257, 4917, 4933};
 static uint8_t K_FARES[sizeof K_CASE]; /* K with these fares, from the start of main on */
-
-/* The largest case. */
-enum { ALL = 512, SHOPS = 64, LARGE_PAIRS = ALL * SHOPS, LARGE_RECORDS = ALL + SHOPS + LARGE_PAIRS };
-
-enum { PAGE = 4096, PAGES = 16 * LARGE_RECORDS / PAGE + 1, ROOM = PAGE * PAGES };
-
-/* Bytes that start right behind a forbidden page, or end right before one. */
-static void *guarded(size_t length, int at_end)
-{
-    uint8_t *all = mmap(NULL, ROOM + 2 * PAGE, PROT_NONE, MAP_PRIVATE | MAP_ANONYMOUS, -1, 0);
-    if (all == MAP_FAILED || length > ROOM || mprotect(all + PAGE, ROOM, PROT_READ | PROT_WRITE) != 0)
-        exit(2);
-    return at_end ? all + PAGE + ROOM - length : all + PAGE;
-}
-
-static void give_back(void *bytes, size_t length, int at_end)
-{
-    munmap((uint8_t *)bytes - PAGE - (at_end ? ROOM - length : 0), ROOM + 2 * PAGE);
-}
-
-/* The pages of these bytes may not be written any more. */
-static void only_read(void *bytes, size_t length)
-{
-    uintptr_t first = (uintptr_t)bytes / PAGE * PAGE, end = ((uintptr_t)bytes + length + PAGE - 1) / PAGE * PAGE;
-    if (mprotect((void *)first, end - first, PROT_READ) != 0)
-        exit(2);
-}
 
 /* The functions as the machine calls them on x86-64: the address of the answer's place goes in first, and comes back. So the place is ours, and full of
  * 0xA5: a field that is written only in part shows, and so does what is written behind the last one. */
@@ -91,14 +44,6 @@ static int all_zero(const void *bytes, size_t length)
     const uint8_t *b = bytes;
     for (size_t i = 0; i < length; i++)
         if (b[i] != 0)
-            return 0;
-    return 1;
-}
-
-static int all_lent(const uint8_t *bytes, size_t length)
-{
-    for (size_t i = 0; i < length; i++)
-        if (bytes[i] != 0xA5)
             return 0;
     return 1;
 }
@@ -222,13 +167,6 @@ static void refusals(int at_end)
     refusal(l, LGS_BOOK_REPEATED, 1, "a pair twice", at_end);
     l.book_bytes = changed(K_BOOK, sizeof K_BOOK, 8 * 1 + 4, 5);
     refusal(l, LGS_BOOK_TIE, 1, "an equal mark of a student", at_end);
-}
-
-/* Writes a field of two bytes at this byte of a record. */
-static void put(uint8_t *bytes, size_t record, size_t at, unsigned value)
-{
-    bytes[16 * record + at] = (uint8_t)(value & 255);
-    bytes[16 * record + at + 1] = (uint8_t)(value >> 8);
 }
 
 /* K's case with these lots. */
@@ -372,21 +310,6 @@ static void *many_calls(void *number)
     return NULL;
 }
 
-static void threads(void *(*calls)(void *))
-{
-    pthread_t thread[4];
-    size_t number[4];
-    for (size_t i = 0; i < 4; i++) {
-        number[i] = i;
-        if (pthread_create(&thread[i], NULL, calls, &number[i]) != 0)
-            exit(2);
-    }
-    for (size_t i = 0; i < 4; i++) {
-        pthread_join(thread[i], NULL);
-        check(number[i] == 0, "calls at the same time");
-    }
-}
-
 /* Two students with the lots 1 and 2, two workshops, and both the other way round at the second workshop. */
 enum { TURNED_STUDENTS = 2, TURNED_QUOTA = 16 * 3 + 4 };
 static const uint8_t TURNED[16 * 8] = {
@@ -424,11 +347,6 @@ static stages_result call_stages(const uint8_t *bytes, size_t length, size_t roo
     give_back(lent_case, length, at_end);
     give_back(lent, 2 * room, at_end);
     return r;
-}
-
-static int is_part(lgs_part_report r, uint64_t kind, uint64_t first, uint64_t second)
-{
-    return r.kind == kind && r.first == first && r.second == second;
 }
 
 static void stages_refusal(const uint8_t *bytes, size_t length, size_t room, uint64_t number, uint64_t place, const char *what, int at_end)

@@ -14,6 +14,8 @@ import ctypes
 import io
 import os
 import pickle
+import random
+import re
 import shutil
 import subprocess
 import sys
@@ -88,7 +90,8 @@ FARES = [((0,) * 6, (0,) * 5), ((1, 2, 4, 8, 16, 32), (0, 1, 3, 11, 43)), ((6553
 TURNED_PAIRS = [(1, 1, 1, 1, 5), (1, 2, 1, 2, 65535), (2, 1, 1, 2, 0), (2, 2, 1, 1, 256)]
 TURNED = lgs.pack_case([(1, 1, 1), (1, 1, 2)], [(1, 2), (1, 2)], TURNED_PAIRS)
 
-# Cases that both functions refuse: what, the bytes, the number and the place.
+K_WISHES = b"1: {1,2},-\n2: {1,2},-\n3: 1,{-,2}\n"
+# Cases that every function refuses: what, the bytes, the number and the place.
 WRONG_CASES = [
     ("a byte short", K[:-1], 1, 0),
     ("a byte too many", K + b"\0", 1, 0),
@@ -124,6 +127,41 @@ WRONG_BOOKS = [
 ]
 
 
+# The case of the paper's line, with gaps between the groups, and what reading that line makes of it.
+PAPER = lgs.pack_case([(1, 65, 9), (512, 64, 8), (7, 30, 512)], [(0, 1)] * 5,
+                      [(1, 3, 2, 513, 65535), (3, 1, 20, 1), (3, 2, 7, 9), (3, 4, 20, 9, 256), (3, 5, 65, 1)])
+PAPER_COPY = lgs.pack_case([(1, 2, 9), (512, 1, 8), (7, 3, 512)], [(0, 1)] * 5,
+                           [(1, 3, 1, 513, 65535), (3, 1, 2, 1), (3, 2, 1, 9), (3, 4, 2, 9, 256), (3, 5, 4, 1)])
+PAPER_REST = b"2: -\n3: 2,{4,1},-,5\n"
+PAPER_LINES = b"1: 3,-\n" + PAPER_REST
+# Texts that are no wishes for that case: what, the text, the number and the place.
+WRONG_WISHES = [
+    ("nothing", b"", 14, 0),
+    ("a line missing", b"1: 3,-\n2: -\n", 14, 2),
+    ("the last line feed missing", PAPER_LINES[:-1], 14, 2),
+    ("a line left over", PAPER_LINES + b"4: -\n", 14, 3),
+    ("an empty line left over", PAPER_LINES + b"\n", 14, 3),
+    ("a zero byte left over", PAPER_LINES + b"\0", 14, 3),
+    ("lines of Windows", PAPER_LINES.replace(b"\n", b"\r\n"), 14, 0),
+    ("UTF-16", PAPER_LINES.decode().encode("utf-16-le"), 14, 0),
+    ("a mark of byte order", b"\xef\xbb\xbf" + PAPER_LINES, 14, 0),
+    ("another student", b"1: 3,-\n3: -\n", 14, 1),
+    ("a zero before", b"1: 03,-\n" + PAPER_REST, 14, 0),
+    ("a blank", b"1: 3, -\n" + PAPER_REST, 14, 0),
+    ("one in braces", b"1: {3},-\n" + PAPER_REST, 14, 0),
+    ("empty braces", b"1: 3,{},-\n" + PAPER_REST, 14, 0),
+    ("none nowhere", b"1: 3\n" + PAPER_REST, 14, 0),
+    ("none twice", b"1: {-,3},-\n" + PAPER_REST, 14, 0),
+    ("a workshop twice", b"1: {3,3},-\n" + PAPER_REST, 15, 0),
+    ("a workshop missing", PAPER_LINES.replace(b",5", b""), 15, 2),
+    ("a workshop without a pair", b"1: 3,-\n2: 1,-\n", 15, 1),
+    ("a large number", b"1: 18446744073709551619,-\n" + PAPER_REST, 15, 0),
+    ("14 and 15 in one line", b"1: 2,3,-,-\n" + PAPER_REST, 14, 0),
+    ("15 before a line with 14", b"1: 2,-\n2: \n", 15, 0),
+    ("14 before a line with 15", b"1: 3,-,\n2: 1,-\n", 14, 0),
+]
+
+
 # ---------------------------------------------------------------- answers
 
 
@@ -136,6 +174,7 @@ def test_k():
             equal(f"K with fares {fares}, {held} visits", answer, expected)
             equal(f"K with fares {fares}, {held} visits: which answer", type(answer), type(expected))
         equal(f"K's stages with fares {fares}", lgs.stages(case), [1, 2, 2])
+        equal(f"K's wishes with fares {fares}", (lgs.write_wishes(case), lgs.read_wishes(case, K_WISHES)), (K_WISHES, case))
     equal("K with its visits in another order", lgs.place(K, lgs.pack_book(K_VISITS[::-1])), lgs.place(K, K_BOOK))
     equal("K without a book", lgs.place(K), lgs.NextVisit(1, 1, [], 0))
     equal("the names of what is taken", lgs.place(case=K, book=K_BOOK), lgs.place(K, K_BOOK))
@@ -160,6 +199,7 @@ def test_large():
 def test_answers():
     """The fields of the answers, and that they are plain lists, tuples and ints."""
     placement, following, stages = lgs.place(K, K_BOOK), lgs.place(K, K_BOOK[:16]), lgs.stages(K)
+    equal("the types of wishes", (type(lgs.write_wishes(K)), type(lgs.read_wishes(K, K_WISHES))), (bytes, bytes))
     equal("the fields of a placement", placement._fields, ("places", "visits", "fares"))
     equal("the fields of a next visit", following._fields, ("student", "workshop", "visits", "fares"))
     equal("the types of lists", {type(found) for found in (placement.places, placement.visits, following.visits, stages)}, {list})
@@ -178,7 +218,8 @@ def test_threads():
     upward, downward = full_case(lambda s, w: s), full_case(lambda s, w: 513 - s, fare=1)
     books = [lgs.pack_book([(s, 1, 1, s) for s in range(1, held + 1)]) for held in (512, 500)]
     calls = [(lgs.stages, upward), (lgs.stages, downward), (lgs.place, upward, books[0]), (lgs.place, downward, books[0]), (lgs.place, upward, books[1]),
-             (lgs.place, K, K_BOOK), (lgs.place, K), (lgs.stages, K), (lgs.stages, TURNED), (lgs.place, K, K_BOOK[:-1])]
+             (lgs.place, K, K_BOOK), (lgs.place, K), (lgs.stages, K), (lgs.stages, TURNED), (lgs.place, K, K_BOOK[:-1]), (lgs.write_wishes, K),
+             (lgs.write_wishes, upward), (lgs.read_wishes, K, K_WISHES), (lgs.read_wishes, PAPER, PAPER_LINES), (lgs.read_wishes, PAPER, K_WISHES)]
 
     def one(number):
         function, *arguments = calls[number % len(calls)]
@@ -203,6 +244,113 @@ def test_threads():
     check("threads at the same time", wrong == 0 and sum(map(len, together)) == 1600, f"{wrong} wrong answers")
 
 
+# ---------------------------------------------------------------- wish lines
+
+ITEM = "(?:-|[1-9][0-9]*)"
+GROUP = f"(?:{ITEM}|{{{ITEM}(?:,{ITEM})+}})"
+LINE = re.compile(f"([1-9][0-9]*): ({GROUP}(?:,{GROUP})*)\n")
+
+
+def test_wishes():
+    equal("the lines of groups with gaps", lgs.write_wishes(PAPER), PAPER_LINES.replace(b"4,1", b"1,4"))
+    for what, case in [("with gaps", PAPER), ("without gaps", PAPER_COPY)]:
+        for text in (PAPER_LINES, lgs.write_wishes(case), lgs.write_wishes(PAPER)):
+            equal(f"{text} read, {what}", lgs.read_wishes(case, text), PAPER_COPY)
+    equal("the names of what is taken", lgs.read_wishes(case=PAPER, text=PAPER_LINES), lgs.read_wishes(PAPER, lgs.write_wishes(case=PAPER)))
+    together, apart = full_case(lambda s, w: s, lambda w: 65), full_case(lambda s, w: s, lambda w: 65 - w, 7)
+    items = ",".join(map(str, range(1, 65)))
+    equal("512 x 64 in one group", lgs.write_wishes(together), "".join(f"{s}: {{-,{items}}}\n" for s in range(1, 513)).encode())
+    falling = "".join(f"{s}: {','.join(map(str, range(64, 0, -1)))},-\n" for s in range(1, 513)).encode()
+    equal("512 x 64 in groups of one", (lgs.write_wishes(apart), lgs.read_wishes(apart, falling)), (falling, apart))
+    equal("512 x 64 from one group into others", lgs.read_wishes(together, falling), full_case(lambda s, w: s, lambda w: 65 - w))
+    refuses("512 x 64, the last line feed missing", 14, 511, lgs.read_wishes, apart, falling[:-1])
+
+
+def test_format():
+    """The table of texts in docs/FORMAT.md, for a case with two students and the one pair of student 1 and workshop 3."""
+    with open(os.path.join(os.path.dirname(os.path.abspath(__file__)), "..", "..", "docs", "FORMAT.md"), encoding="utf-8") as file:
+        rows = re.findall(r"^\| `(\d: ?[^`]*)` \| (.*?) \|", file.read(), re.MULTILINE)
+    case = lgs.pack_case([(1, 1, 1), (1, 1, 2)], [(1, 1)] * 3, [(1, 3, 1, 1)])
+    for text, refusal in rows:
+        found = read_or_refused(case, text.replace("/", "\n").encode())
+        equal(f"{text} in docs/FORMAT.md", "none" if isinstance(found, bytes) else "{} at {}".format(*found), refusal)
+    check("there are texts in docs/FORMAT.md", len(rows) > 10, rows)
+
+
+def random_year(draw):
+    """Students, pairs and workshops of a small case; its groups have gaps, and some are equal."""
+    students = [(draw.randint(1, 512), draw.randint(1, 65), lot) for lot in draw.sample(range(1, 513), draw.randint(1, 12))]
+    workshops, groups = [(1, 1)] * draw.randint(1, 13), [draw.randint(1, 65) for _ in range(4)]
+    pairs = [(s, w, draw.choice(groups), draw.randint(1, 513), draw.randint(0, 65535)) for s in range(1, len(students) + 1)
+             for w in range(1, len(workshops) + 1) if draw.random() < 0.5]
+    return [(stage, draw.choice(groups + [group]), lot) for stage, group, lot in students], workshops, pairs
+
+
+def lines_of(students, pairs, order):
+    """The lines of these wishes; `order` puts the items of a group into the order of writing."""
+    lines = ""
+    for number, (_, line_group, _) in enumerate(students, 1):
+        groups = {line_group: [0]}
+        for _, workshop, group, _, _ in (pair for pair in pairs if pair[0] == number):
+            groups.setdefault(group, []).append(workshop)
+        items = [[str(item) if item else "-" for item in order(groups[group])] for group in sorted(groups)]
+        lines += f"{number}: {','.join('{' + ','.join(group) + '}' if group[1:] else group[0] for group in items)}\n"
+    return lines
+
+
+def meaning(students, pairs, text):
+    """What the paper says of a text: the refusal and the line, or the students and the pairs with the groups of the lines."""
+    at, places = 0, {}
+    for number in range(1, len(students) + 1):
+        line = LINE.match(text, at)
+        groups = [group.strip("{}").split(",") for group in re.findall("{.*?}|[^,]+", line[2])] if line else []
+        if not line or int(line[1]) != number or sum(groups, []).count("-") != 1:
+            return 14, number - 1
+        if sorted(int(item) for item in sum(groups, []) if item != "-") != [pair[1] for pair in pairs if pair[0] == number]:
+            return 15, number - 1
+        places.update({(number, item): place for place, group in enumerate(groups, 1) for item in group})
+        at = line.end()
+    if at < len(text):
+        return 14, len(students)
+    return ([(stage, places[number, "-"], lot) for number, (stage, _, lot) in enumerate(students, 1)],
+            [(s, w, places[s, str(w)], group, fare) for s, w, _, group, fare in pairs])
+
+
+def damaged(draw, text):
+    """The text with one to three characters other, more or less."""
+    for _ in range(draw.randint(1, 3)):
+        at = draw.randrange(len(text))
+        text = text[:at] + draw.choice(["", draw.choice("0123456789,:{}- \n\r")]) + text[at + draw.randint(0, 1):]
+    return text
+
+
+def read_or_refused(case, text):
+    try:
+        return lgs.read_wishes(case, text)
+    except lgs.Refused as error:
+        return error.args
+
+
+def test_random_wishes():
+    """Cases and texts by chance, against the paper's form as a pattern."""
+    draw, wrong, seen = random.Random(6), [], {0: 0, 14: 0, 15: 0}
+    for _ in range(400):
+        students, workshops, pairs = random_year(draw)
+        case, text = lgs.pack_case(students, workshops, pairs), lines_of(students, pairs, sorted)
+        mixed = lines_of(students, pairs, lambda items: draw.sample(items, len(items)))
+        copy = read_or_refused(case, mixed.encode())
+        if not lgs.write_wishes(case) == text.encode() == lgs.write_wishes(copy) or copy != read_or_refused(case, text.encode()):
+            wrong.append((students, pairs, lgs.write_wishes(case)))
+        for lines in [mixed, *(damaged(draw, mixed) for _ in range(9))]:
+            expected, found = meaning(students, pairs, lines), read_or_refused(case, lines.encode())
+            refused = expected[0] in (14, 15)
+            seen[expected[0] if refused else 0] += 1
+            if found != (expected if refused else lgs.pack_case(expected[0], workshops, expected[1])):
+                wrong.append((students, pairs, lines, found))
+    check("400 cases and 4,000 texts by chance", not wrong, f"{len(wrong)} wrong: {wrong[:1]!r:.600}")
+    check("texts that are read, depart and misname", seen[0] > 420 and seen[14] > 1000 and seen[15] > 300, seen)
+
+
 # ---------------------------------------------------------------- refusals
 
 
@@ -210,12 +358,17 @@ def test_refusals():
     for what, case, number, at in WRONG_CASES:
         refuses(f"place: {what}", number, at, lgs.place, case, K_BOOK)
         refuses(f"stages: {what}", number, at, lgs.stages, case)
+        refuses(f"writing wishes: {what}", number, at, lgs.write_wishes, case)
+        for text in (K_WISHES, b""):
+            refuses(f"reading wishes {text}: {what}", number, at, lgs.read_wishes, case, text)
     for what, visits, number, at in WRONG_BOOKS:
         refuses(f"a book with {what}", number, at, lgs.place, K, lgs.pack_book(visits))
     for fares, _ in FARES:
         refuses(f"a book a byte short, fares {fares}", 7, 0, lgs.place, example_k(fares=fares), K_BOOK[:-1])
     refuses("two students turned", 12, 0, lgs.stages, TURNED)
-    given = {number for _, _, number, _ in WRONG_CASES + WRONG_BOOKS} | {7, 12}
+    for what, text, number, at in WRONG_WISHES:
+        refuses(f"wishes with {what}", number, at, lgs.read_wishes, PAPER, text)
+    given = {number for _, _, number, _ in WRONG_CASES + WRONG_BOOKS + WRONG_WISHES} | {7, 12}
     equal("every cause but the short buffer is given above", given, set(lgs.Cause) - {lgs.Cause.SHORT_BUFFER})
 
 
@@ -280,14 +433,18 @@ def test_room():
 
 
 def test_kinds_of_bytes():
-    placement, stages = lgs.place(K, K_BOOK), lgs.stages(K)
+    placement, stages, text = lgs.place(K, K_BOOK), lgs.stages(K), b"1: 2,{1,-}\n2: -,2,1\n"
+    wished = lgs.read_wishes(TURNED, text)
     for what, make in [("bytearray", bytearray), ("memoryview", memoryview), ("array of bytes", lambda data: array.array("B", data)),
                        ("array of numbers", lambda data: array.array("H", data)), ("ctypes array", lambda data: (ctypes.c_char * len(data))(*data)),
                        ("memoryview of every other byte", lambda data: memoryview(bytes(x for y in data for x in (y, 7)))[::2])]:
         equal(what, (lgs.place(make(K), make(K_BOOK)), lgs.stages(make(K))), (placement, stages))
+        equal(f"{what}: wishes", (lgs.write_wishes(make(K)), lgs.read_wishes(make(TURNED), make(text))), (K_WISHES, wished))
     for wrong in (5, "case", None, [1, 2], 1.5):
         check(f"{wrong!r} as a case", raised(TypeError, lgs.place, wrong) is not None and raised(TypeError, lgs.stages, wrong) is not None)
         check(f"{wrong!r} as a book", raised(TypeError, lgs.place, K, wrong) is not None)
+        check(f"{wrong!r} as a case with wishes", raised(TypeError, lgs.write_wishes, wrong) and raised(TypeError, lgs.read_wishes, wrong, K_WISHES))
+        check(f"{wrong!r} as wishes", raised(TypeError, lgs.read_wishes, K, wrong) is not None)
 
 
 # ---------------------------------------------------------------- the header
@@ -328,16 +485,17 @@ def test_lent(header):
     """What the binding lends stands in the order of the header's names, and has the lengths that always suffice."""
     most = named_numbers(header["most"])
     records = len(K) // 16
-    lengths = {"case": len(K), "book": 16, "visits": 2 * records, "index": records, "places": most["MOST_PLACES"], "seats": most["MOST_SEATS"],
-               "states": most["MOST_STATES"], "stages": most["MOST_STAGES"]}
-    sizes = {"const uint8_t": 1, "uint16_t": 2, "lgs_student_state": ctypes.sizeof(lgs._StudentState)}
+    lengths = {"const case": len(K), "const book": 16, "visits": 2 * records, "index": records, "places": most["MOST_PLACES"],
+               "seats": most["MOST_SEATS"], "states": most["MOST_STATES"], "stages": most["MOST_STAGES"], "text": 8 * 512 + 4 * records,
+               "const text": len(K_WISHES), "copy": len(K)}
+    sizes = {"uint8_t": 1, "uint16_t": 2, "lgs_student_state": ctypes.sizeof(lgs._StudentState)}
     expected = {}
     for line in header["function"]:
         function, parameters = line.split(" ", 1)
         words = parameters.split(", ")
-        pointers = [word.replace("_bytes", "").split(" *") for word in words[::2]]
-        equal(f"{function}: a length after each pointer", words[1::2], [f"size_t {name}_length" for _, name in pointers])
-        expected[function] = [(lengths[name], sizes[kind]) for kind, name in pointers]
+        pointers = [re.fullmatch(r"(const )?(\w+) \*(\w+?)(?:_bytes)?", word).groups("") for word in words[::2]]
+        equal(f"{function}: a length after each pointer", words[1::2], [f"size_t {name}_length" for _, _, name in pointers])
+        expected[function] = [(lengths[const + name], sizes[kind]) for const, kind, name in pointers]
     equal("what is lent", lent(), expected)
 
 
@@ -351,7 +509,7 @@ def lent():
 
     lgs._call = note
     try:
-        lgs.place(K, K_BOOK[:16]), lgs.stages(K)
+        lgs.place(K, K_BOOK[:16]), lgs.stages(K), lgs.write_wishes(K), lgs.read_wishes(K, K_WISHES)
     finally:
         lgs._call = call
     return found
@@ -463,8 +621,8 @@ def test_file():
 
 def main():
     check("the lgs.py that is tested", os.path.samefile(lgs.__file__, BINDING), lgs.__file__)
-    for test in (test_threads, test_k, test_large, test_answers, test_refusals, test_exception, test_bytes, test_rows, test_room, test_kinds_of_bytes,
-                 test_header, test_file, test_library):
+    for test in (test_threads, test_k, test_large, test_answers, test_wishes, test_format, test_random_wishes, test_refusals, test_exception, test_bytes,
+                 test_rows, test_room, test_kinds_of_bytes, test_header, test_file, test_library):
         try:
             test()
         except Exception:

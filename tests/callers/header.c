@@ -30,6 +30,7 @@ ASSERT(offsetof(lgs_part_report, kind) == 0 && sizeof(((lgs_part_report *)0)->ki
 ASSERT(offsetof(lgs_part_report, first) == 8 && sizeof(((lgs_part_report *)0)->first) == 8);
 ASSERT(offsetof(lgs_part_report, second) == 16 && sizeof(((lgs_part_report *)0)->second) == 8);
 ASSERT(LGS_DONE == 0 && LGS_NO_STAGES == 12 && LGS_MOST_STAGES == 512);
+ASSERT(LGS_WISH_FORM == 14 && LGS_WISH_NAMES == 15);
 
 /* The prototypes again: another type in the header is an error here. The order of the names is tested by header_facts.c and
  * from_python.py. */
@@ -39,6 +40,8 @@ extern "C" {
 lgs_report lgs_place(const uint8_t *, size_t, const uint8_t *, size_t, uint16_t *, size_t, uint16_t *, size_t,
                      uint16_t *, size_t, uint16_t *, size_t, lgs_student_state *, size_t);
 lgs_part_report lgs_stages(const uint8_t *, size_t, uint16_t *, size_t);
+lgs_part_report lgs_write_wishes(const uint8_t *, size_t, uint8_t *, size_t);
+lgs_part_report lgs_read_wishes(const uint8_t *, size_t, const uint8_t *, size_t, uint8_t *, size_t);
 #ifdef __cplusplus
 }
 #endif
@@ -59,6 +62,37 @@ static int stages_called(void)
     return nothing && no_room && one && stages[1] == 7;
 }
 
+/* The wish lines of nothing at all, of one student, and of one student without room. */
+static int wishes_written(void)
+{
+    uint8_t text[9] = {7, 7, 7, 7, 7, 7, 7, 7, 7};
+    lgs_part_report r = lgs_write_wishes(ALONE, 0, text, 0);
+    int nothing = r.kind == LGS_REFUSED && r.first == LGS_CASE_COUNTS && r.second == 0 && text[0] == 7;
+    r = lgs_write_wishes(ALONE, sizeof ALONE, text, 7);
+    int no_room = r.kind == LGS_REFUSED && r.first == LGS_SHORT_BUFFER && r.second == 0 && text[0] == 7;
+    r = lgs_write_wishes(ALONE, sizeof ALONE, text, 8);
+    int one = r.kind == LGS_DONE && r.first == 5 && r.second == 0 && text[0] == '1' && text[3] == '-' && text[4] == '\n';
+    return nothing && no_room && one && text[5] == 7 && text[8] == 7;
+}
+
+/* The line of one student read, without room, with another student's number, and with a workshop that she has no pair with. */
+static int wishes_read(void)
+{
+    const uint8_t line[5] = {'1', ':', ' ', '-', '\n'}, other[5] = {'2', ':', ' ', '-', '\n'}, named[7] = {'1', ':', ' ', '-', ',', '1', '\n'};
+    uint8_t copy[sizeof ALONE + 1] = {0};
+    lgs_part_report r = lgs_read_wishes(ALONE, sizeof ALONE, line, sizeof line, copy, sizeof ALONE - 1);
+    int no_room = r.kind == LGS_REFUSED && r.first == LGS_SHORT_BUFFER && r.second == 0 && copy[0] == 0;
+    r = lgs_read_wishes(ALONE, sizeof ALONE, other, sizeof other, copy, sizeof ALONE);
+    int form = r.kind == LGS_REFUSED && r.first == LGS_WISH_FORM && r.second == 0 && copy[0] == 0;
+    r = lgs_read_wishes(ALONE, sizeof ALONE, named, sizeof named, copy, sizeof ALONE);
+    int names = r.kind == LGS_REFUSED && r.first == LGS_WISH_NAMES && r.second == 0 && copy[0] == 0;
+    r = lgs_read_wishes(ALONE, sizeof ALONE, line, sizeof line, copy, sizeof copy);
+    int one = r.kind == LGS_DONE && r.first == sizeof ALONE && r.second == 0;
+    for (size_t i = 0; i < sizeof ALONE; i++)
+        one &= copy[i] == ALONE[i];
+    return no_room && form && names && one && copy[sizeof ALONE] == 0;
+}
+
 int main(void)
 {
     uint8_t none = 0;
@@ -69,5 +103,6 @@ int main(void)
     int left = entry == 7 && state.reached == 0 && state.held == 0 && state.openings == 0;
     lgs_lengths needs = lgs_needs(ALONE, sizeof ALONE);
     int needed = needs.places == 1 && needs.visits == 0 && needs.seats == 1 && needs.index == 0 && needs.states == 1 && needs.stages == 1;
-    return refused && left && needed && lgs_refusal_text(r.first)[0] == 'T' && stages_called() ? 0 : 1;
+    needed &= needs.text == 8 && needs.copy == sizeof ALONE;
+    return refused && left && needed && lgs_refusal_text(r.first)[0] == 'T' && stages_called() && wishes_written() && wishes_read() ? 0 : 1;
 }

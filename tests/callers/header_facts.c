@@ -3,9 +3,11 @@
  *   version N   refusal NAME N   kind NAME N   most NAME N   text N SENTENCE   size STRUCT BYTES   field STRUCT FIELD OFFSET BYTES
  *   function NAME PARAMETERS
  *
- * The parameters are the header's own words: here the two names are macros, so each declaration becomes that of a function without parameters and a string. */
+ * The parameters are the header's own words: here their names are macros, so each declaration becomes that of a function without parameters and a string. */
 #define lgs_place(...) place_parameters(void); static const char PLACE[] = #__VA_ARGS__
 #define lgs_stages(...) stages_parameters(void); static const char STAGES[] = #__VA_ARGS__
+#define lgs_write_wishes(...) write_parameters(void); static const char WRITE_WISHES[] = #__VA_ARGS__
+#define lgs_read_wishes(...) read_parameters(void); static const char READ_WISHES[] = #__VA_ARGS__
 #include "lgs.h"
 
 #include <stdio.h>
@@ -20,7 +22,7 @@ static void numbers(void)
     NUMBER(refusal, CASE_LENGTH), NUMBER(refusal, CASE_FORM), NUMBER(refusal, CASE_ORDER), NUMBER(refusal, CASE_COUNTS);
     NUMBER(refusal, CASE_RANGE), NUMBER(refusal, CASE_LOT), NUMBER(refusal, SHORT_BUFFER), NUMBER(refusal, BOOK_LENGTH);
     NUMBER(refusal, BOOK_PAIR), NUMBER(refusal, BOOK_MARK), NUMBER(refusal, BOOK_REPEATED), NUMBER(refusal, BOOK_TIE);
-    NUMBER(refusal, NO_STAGES);
+    NUMBER(refusal, NO_STAGES), NUMBER(refusal, WISH_FORM), NUMBER(refusal, WISH_NAMES);
     NUMBER(kind, PLACED), NUMBER(kind, NEXT), NUMBER(kind, REFUSED), NUMBER(kind, DONE);
     NUMBER(most, MOST_PLACES), NUMBER(most, MOST_STATES), NUMBER(most, MOST_SEATS), NUMBER(most, MOST_STAGES);
 }
@@ -43,5 +45,7 @@ int main(void)
     structs();
     printf("function lgs_place %s\n", PLACE);
     printf("function lgs_stages %s\n", STAGES);
+    printf("function lgs_write_wishes %s\n", WRITE_WISHES);
+    printf("function lgs_read_wishes %s\n", READ_WISHES);
     return fflush(stdout) != 0;
 }

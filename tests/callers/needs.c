@@ -63,6 +63,23 @@ static lgs_part_report staged(const uint8_t *bytes, size_t length, lgs_lengths l
     return r;
 }
 
+/* The answers of lgs_write_wishes and lgs_read_wishes with these lengths. */
+static lgs_part_report written(const uint8_t *bytes, size_t length, lgs_lengths l)
+{
+    uint8_t *text = lend(l.text, 1);
+    lgs_part_report r = lgs_write_wishes(bytes, length, text, l.text);
+    free(text);
+    return r;
+}
+
+static lgs_part_report read_back(const uint8_t *bytes, size_t length, const uint8_t *text, size_t text_length, lgs_lengths l)
+{
+    uint8_t *copy = lend(l.copy, 1);
+    lgs_part_report r = lgs_read_wishes(bytes, length, text, text_length, copy, l.copy);
+    free(copy);
+    return r;
+}
+
 /* The refusal of lgs_place with a null book, or 0 for an answer. */
 static uint64_t place(const uint8_t *bytes, size_t length, lgs_lengths l)
 {
@@ -73,6 +90,26 @@ static uint64_t place(const uint8_t *bytes, size_t length, lgs_lengths l)
 static uint64_t stages(const uint8_t *bytes, size_t length, lgs_lengths l)
 {
     lgs_part_report r = staged(bytes, length, l);
+    return r.kind == LGS_REFUSED ? r.first : 0;
+}
+
+static uint64_t write_wishes(const uint8_t *bytes, size_t length, lgs_lengths l)
+{
+    lgs_part_report r = written(bytes, length, l);
+    return r.kind == LGS_REFUSED ? r.first : 0;
+}
+
+/* The same of lgs_read_wishes with the case's own lines, in as many bytes as they have; with a null text where the case has none. */
+static uint64_t read_wishes(const uint8_t *bytes, size_t length, lgs_lengths l)
+{
+    size_t room = lgs_needs(bytes, length).text;
+    uint8_t *all = lend(room, 1);
+    lgs_part_report lines = lgs_write_wishes(bytes, length, all, room);
+    uint8_t *text = lines.kind == LGS_DONE ? lend(lines.first, 1) : NULL;
+    if (text != NULL)
+        memcpy(text, all, lines.first);
+    lgs_part_report r = read_back(bytes, length, text, text == NULL ? 0 : lines.first, l);
+    free(all), free(text);
     return r.kind == LGS_REFUSED ? r.first : 0;
 }
 
@@ -103,12 +140,16 @@ static void exactly(size_t students, size_t pairs, size_t seats, const char *wha
     lgs_lengths l = lgs_needs(case_bytes, 16 * records);
     check(l.places == students && l.visits == 2 * pairs && l.seats == seats && l.index == pairs && l.states == students, what);
     check(l.stages == students && place(case_bytes, 16 * records, l) == 0 && stages(case_bytes, 16 * records, l) == 0, what);
+    check(l.text == 8 * students + 4 * pairs && l.copy == 16 * records, what);
+    check(write_wishes(case_bytes, 16 * records, l) == 0 && read_wishes(case_bytes, 16 * records, l) == 0, what);
     one_short(&l.places, &l, place, "places one short");
     one_short(&l.visits, &l, place, "visits one short");
     one_short(&l.seats, &l, place, "seats one short");
     one_short(&l.index, &l, place, "index one short");
     one_short(&l.states, &l, place, "states one short");
     one_short(&l.stages, &l, stages, "stages one short");
+    one_short(&l.text, &l, write_wishes, "text one short");
+    one_short(&l.copy, &l, read_wishes, "copy one short");
 }
 
 static void made_cases(void)
@@ -148,12 +189,14 @@ static void any_bytes(void)
         lgs_lengths l = lgs_needs(bytes, length);
         bounded &= l.places <= LGS_MOST_PLACES && l.states <= LGS_MOST_STATES && l.stages <= LGS_MOST_STAGES && l.seats <= LGS_MOST_SEATS;
         bounded &= l.visits <= 2 * (length / 16) && l.index <= length / 16;
+        bounded &= l.text <= 8 * 512 + 4 * (length / 16) && l.copy <= length;
         enough &= place(bytes, length, l) != LGS_SHORT_BUFFER && stages(bytes, length, l) != LGS_SHORT_BUFFER;
+        enough &= write_wishes(bytes, length, l) != LGS_SHORT_BUFFER && read_wishes(bytes, length, l) != LGS_SHORT_BUFFER;
         free(bytes);
     }
     make(513, 65, 65535, 0);
     lgs_lengths l = lgs_needs(case_bytes, 16 * records);
-    bounded &= l.places == 512 && l.states == 512 && l.stages == 512 && l.seats == 32768;
+    bounded &= l.places == 512 && l.states == 512 && l.stages == 512 && l.seats == 32768 && l.text == 8 * 512 && l.copy == 16 * records;
     check(bounded, "lengths within what is always enough");
     check(enough, "lengths that are enough");
 }
@@ -179,12 +222,31 @@ static void nulls(void)
     check(place(case_bytes, 16 * records, lgs_needs(case_bytes, 16 * records)) == 0, "the book, the visits, the seats and the index null");
 }
 
+static void null_wishes(void)
+{
+    static const uint8_t LINES[16] = "1: -\n2: -\n3: -\n";
+    lgs_lengths none = lgs_needs(NULL, 0), all;
+    check(none.text + none.copy == 0, "no case, no lengths for wishes");
+    check(part_refused(written(NULL, 0, none), LGS_CASE_COUNTS), "case and text null");
+    check(part_refused(read_back(NULL, 0, NULL, 0, none), LGS_CASE_COUNTS), "case, text and copy null");
+    make(3, 2, 1, 0);
+    all = lgs_needs(case_bytes, 16 * records);
+    check(part_refused(written(case_bytes, 16 * records, none), LGS_SHORT_BUFFER), "the text null");
+    check(part_refused(written(NULL, 0, all), LGS_CASE_COUNTS), "the case null");
+    check(part_refused(read_back(case_bytes, 16 * records, NULL, 0, none), LGS_SHORT_BUFFER), "text and copy null");
+    check(part_refused(read_back(case_bytes, 16 * records, LINES, sizeof LINES - 1, none), LGS_SHORT_BUFFER), "the copy null");
+    check(part_refused(read_back(NULL, 0, LINES, sizeof LINES - 1, all), LGS_CASE_COUNTS), "the case null, with lines");
+    check(part_refused(read_back(case_bytes, 16 * records, NULL, 0, all), LGS_WISH_FORM), "the text to be read null");
+    lgs_part_report r = read_back(case_bytes, 16 * records, LINES, sizeof LINES - 1, all);
+    check(r.kind == LGS_DONE && r.first == 16 * records && r.second == 0, "nothing null");
+}
+
 /* Each refusal has a sentence of its own, and every other number the same one. */
 static void texts(void)
 {
     const char *other = lgs_refusal_text(0);
-    const uint64_t unknown[5] = {14, 255, 256 + 1, UINT32_MAX, UINT64_MAX};
-    for (uint64_t i = 1; i <= 13; i++) {
+    const uint64_t unknown[5] = {16, 255, 256 + 1, UINT32_MAX, UINT64_MAX};
+    for (uint64_t i = 1; i <= 15; i++) {
         const char *text = lgs_refusal_text(i);
         int different = strcmp(text, other) != 0;
         for (uint64_t j = 1; j < i; j++)
@@ -194,6 +256,7 @@ static void texts(void)
     for (size_t i = 0; i < 5; i++)
         check(strcmp(lgs_refusal_text(unknown[i]), other) == 0, "a number that no refusal has");
     check(strstr(lgs_refusal_text(LGS_CASE_LOT), "lot") != NULL && strstr(lgs_refusal_text(LGS_NO_STAGES), "stage") != NULL, "what the sentences are about");
+    check(strstr(lgs_refusal_text(LGS_WISH_FORM), "form") != NULL && strstr(lgs_refusal_text(LGS_WISH_NAMES), "names") != NULL, "form and names");
 }
 
 int main(int count, char **names)
@@ -204,6 +267,7 @@ int main(int count, char **names)
     made_cases();
     any_bytes();
     nulls();
+    null_wishes();
     texts();
     return counted();
 }

@@ -1,4 +1,4 @@
-/* How much of the stack lgs_place and lgs_stages take, by calls on a stack that is filled with a pattern before: arguments case.dat, book.dat of the example.
+/* How much of the stack a call of each function takes, by calls on a stack that is filled with a pattern before: arguments case.dat, book.dat of the example.
  * Last line 'N passed, M failed'. */
 #define _GNU_SOURCE
 #include "check.h"
@@ -16,6 +16,8 @@ static uint16_t places[LGS_MOST_PLACES], visits[FILE_LIMIT / 8], seats[LGS_MOST_
 static lgs_student_state states[LGS_MOST_STATES];
 static uint8_t full_case[16 * RECORDS];
 static uint16_t stages[LGS_MOST_STAGES];
+static uint8_t text[8 * STUDENTS + 4 * STUDENTS * WORKSHOPS], copy[16 * RECORDS];
+static size_t text_length;
 static lgs_report report;
 static lgs_part_report part_report;
 static ucontext_t here, there;
@@ -38,6 +40,16 @@ static void call(void)
 static void call_stages(void)
 {
     part_report = lgs_stages(full_case, sizeof full_case, stages, LGS_MOST_STAGES);
+}
+
+static void call_write(void)
+{
+    part_report = lgs_write_wishes(full_case, sizeof full_case, text, sizeof text);
+}
+
+static void call_read(void)
+{
+    part_report = lgs_read_wishes(full_case, sizeof full_case, text, text_length, copy, sizeof copy);
 }
 
 /* One call; how many bytes of the stack it touched. */
@@ -75,6 +87,13 @@ static void measure_stages(const char *what, uint64_t kind, uint64_t first, uint
     memset(stages, 0, sizeof stages);
     size_t used = call_on_stack(call_stages);
     tell(what, used, part_report.kind == kind && part_report.first == first && stages[STUDENTS - 1] == last);
+}
+
+/* One call of lgs_write_wishes or lgs_read_wishes. */
+static void measure_wishes(const char *what, void (*function)(void), uint64_t kind, uint64_t first, uint64_t second)
+{
+    size_t used = call_on_stack(function);
+    tell(what, used, part_report.kind == kind && part_report.first == first && part_report.second == second);
 }
 
 static void put(size_t record, unsigned kind, unsigned a, unsigned b, unsigned c, unsigned d)
@@ -123,6 +142,40 @@ static void measure_all_stages(void)
     measure_stages("stages: a lot twice", LGS_REFUSED, LGS_CASE_LOT, 0);
 }
 
+/* The full case with this line group and groups of so many workshops for all students. */
+static void make_wishes(unsigned size, unsigned line)
+{
+    make_full_case();
+    for (unsigned s = 1; s <= STUDENTS; s++)
+        put(s - 1, 1, s, 1, line, s);
+    for (unsigned i = 0; i < STUDENTS * WORKSHOPS; i++)
+        put(STUDENTS + WORKSHOPS + i, 3, i / WORKSHOPS + 1, i % WORKSHOPS + 1, i % WORKSHOPS / size + 1, 1);
+}
+
+/* The stack of lgs_write_wishes and lgs_read_wishes at the largest size: lines of many groups and of one, a fault in the last line of either kind, no
+ * text, a number that fills the text, and a fault in the last record. */
+static void measure_all_wishes(void)
+{
+    for (unsigned size = 1; size <= WORKSHOPS; size *= 2) {
+        make_wishes(size, size == 2 ? 1 : 65);
+        call_write();
+        text_length = part_report.first;
+        measure_wishes("wishes: written", call_write, LGS_DONE, text_length, 0);
+        measure_wishes("wishes: read", call_read, LGS_DONE, sizeof full_case, 0);
+    }
+    text_length -= 1;
+    measure_wishes("wishes: the last line feed missing", call_read, LGS_REFUSED, LGS_WISH_FORM, STUDENTS - 1);
+    text_length += 1;
+    put(RECORDS - 1, 3, STUDENTS, WORKSHOPS, 66, 1);
+    measure_wishes("wishes: written, the last record out of range", call_write, LGS_REFUSED, LGS_CASE_RANGE, RECORDS - 1);
+    measure_wishes("wishes: read, the last record out of range", call_read, LGS_REFUSED, LGS_CASE_RANGE, RECORDS - 1);
+    make_wishes(1, 65);
+    memset(text, '9', sizeof text), memcpy(text, "1: ", 3), memcpy(text + sizeof text - 3, ",-\n", 3), text_length = sizeof text;
+    measure_wishes("wishes: one number of 135,162 digits", call_read, LGS_REFUSED, LGS_WISH_NAMES, 0);
+    text_length = 0;
+    measure_wishes("wishes: no text", call_read, LGS_REFUSED, LGS_WISH_FORM, 0);
+}
+
 /* All marks of one side, at this byte of each record, are 5. */
 static void equal_marks(size_t at)
 {
@@ -149,5 +202,6 @@ int main(int count, char **names)
     case_bytes[16 + 8] = 0;
     measure("a lot of 0", LGS_REFUSED, LGS_CASE_LOT);
     measure_all_stages();
+    measure_all_wishes();
     return counted();
 }
