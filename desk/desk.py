@@ -203,7 +203,7 @@ def explain_missing(file):
 
 def check_kind(file, there):
     """A table is an ordinary file, and not endless; so are wish lines."""
-    what, help_there = ("a table", "Save the table under this name, as CSV.") if file in COLUMNS else ("a file of lines", "Name a file of wish lines.")
+    what, help_there = ("a table", "Save the table under this name, as CSV.") if file in COLUMNS else ("a file of lines", "Name the file with the wish lines.")
     if not stat.S_ISREG(there.st_mode):
         raise Stop(f"{file} is no ordinary file. {help_there}")
     if there.st_size > MOST_BYTES:
@@ -1111,14 +1111,14 @@ def equal_marks(year, row):
 ONE_BLANK = "The only blank in a line follows the colon."
 BEGIN = "A line begins with the student's number, a colon and a blank."
 LINE_FAULTS = [
-    (r"\A\Z", "the line is empty. Write her wishes there, or delete the line if it is one too many."),
+    (r"\A\Z", "the line is empty. Write the student's wishes there, or delete the line if it is one too many."),
     (r"\r", 'a carriage return (CR) is in it. Save the file with the line ends LF ("Unix").'),
     (r"\A[^:]*\Z", f"there is no colon. {BEGIN}"),
     (r"\A[^:]*?([^0-9:\s])", f'"%s" is there, before the colon. {BEGIN}'),
     (r"(\t)", f"a tab is there. {ONE_BLANK}"),
     (r"((?<!:) |[^\S ])", f"a blank is there, or something like one. {ONE_BLANK}"),
     (r"\A:", f"there is no number before the colon. {BEGIN}"),
-    (r"\A(0)", "her number begins with 0. Numbers begin with 1 to 9."),
+    (r"\A(0)", "the student's number begins with 0. Numbers begin with 1 to 9."),
     (r"\A[0-9]+(:)(?! )", f"the blank after this colon is missing. {BEGIN}"),
 ]
 WISH_FAULTS = [
@@ -1157,19 +1157,26 @@ def explain_lines(year, file, text, refused):
 
 def wrong_form(year, file, number, line, rest):
     """Where a line departs from the form, and how. `rest` is what follows its line feed, if there is one."""
-    repair = f"or type\n  sed -i 's/^\\xef\\xbb\\xbf//; s/\\r$//' {shlex.quote(file)}"
-    if number == 1 and line.startswith(codecs.BOM_UTF8):
-        return [("", f'the file begins with a byte order mark. Save it as "UTF-8", not as "UTF-8 with BOM", {repair}')]
     if number == 1 and any(re.match(form, line, re.DOTALL) for form, _ in NO_TEXT):
         return [("", "this is no plain text. Save the lines as plain text in UTF-8, and not as a document or in UTF-16.")]
     if not line and not rest:
         return [("", f"this line is missing. The file has {number - 1} lines, and {STUDENTS} has {len(year.students)} students.")]
-    line = line.decode("utf-8", "replace")
-    if line.endswith("\r") and rest:
-        return [("", f'it ends with CR LF, as editors on Windows save it. Save the file with the line ends LF ("Unix"), {repair}')]
+    has_mark, has_return = number == 1 and line.startswith(codecs.BOM_UTF8), bool(rest) and line.endswith(b"\r")
+    line = line[3 * has_mark:len(line) - has_return].decode("utf-8", "replace")
     head, _, wishes = line.partition(": ")
-    return (first_fault(LINE_FAULTS, line) or wrong_student(year, number, head) or first_fault(WISH_FAULTS, wishes, len(head) + 2)
+    return (first_fault(LINE_FAULTS, line) or saved_otherwise(file, has_mark, has_return) or wrong_student(year, number, head)
+            or first_fault(WISH_FAULTS, wishes, len(head) + 2)
             or ([] if rest else [("", "the line feed at its end is missing. Press Enter at the end of the last line, and save.")]))
+
+
+def saved_otherwise(file, has_mark, has_return):
+    """What editors add that is no part of lines, and a command that takes it away."""
+    repair = f"or type\n  sed -i 's/^\\xef\\xbb\\xbf//; s/\\r$//' {shlex.quote(file)}"
+    if has_mark:
+        return [("", f'the file begins with a byte order mark. Save it as "UTF-8", not as "UTF-8 with BOM", {repair}')]
+    if has_return:
+        return [("", f'it ends with CR LF, as editors on Windows save it. Save the file with the line ends LF ("Unix"), {repair}')]
+    return []
 
 
 def first_fault(faults, text, before=0):
@@ -1514,13 +1521,14 @@ def read_wish_lines(file):
 
 def wishes(names, new_file):
     """Reads wish lines from the file that is named, or writes them in a new one."""
-    return read_wish_lines(os.path.expanduser(names[0])) if new_file is None else write_wish_lines(os.path.expanduser(new_file))
+    file = os.path.expanduser(names[0] if new_file is None else new_file)
+    if os.path.basename(file) in COLUMNS:
+        raise Stop(f"{file} has the name of a table. Nothing was written. Name a file for wish lines, for instance wishes.txt.")
+    return read_wish_lines(file) if new_file is None else write_wish_lines(file)
 
 
 def write_wish_lines(file):
     """Writes the wishes of the tables as lines in a new file, and tells who has which number in them."""
-    if os.path.basename(file) in COLUMNS:
-        raise Stop(f"{file} is the name of a table. Nothing was written. Name another file, for instance wishes.txt.")
     folder = os.path.dirname(os.path.abspath(file))
     if not os.path.isdir(folder):
         raise Stop(f"There is no folder {folder}. Nothing was written.")
