@@ -250,6 +250,8 @@ def wrong_lines(folder):
     write(folder, "pairs.csv", rows)
     no_row = "workshop 1 (Dye house) is named, and pairs.csv has no row with the two."
     refused(folder, "no row in pairs.csv", b"1: {1,2},-\n2: 2,1,-\n3: 1,{-,2}\n", f"wishes.txt, line 2 (Ben Olsen): {no_row}")
+    refused(folder, "one is missing, and one has no row", b"1: {1,2},-\n2: -\n3: 1,{-,2}\n",
+            "wishes.txt, line 2 (Ben Olsen): workshop 2 (Weaving mill) is missing.")
     check("the guide shows a workshop without a row", f"\n| `2: 2,1,-`, without his row for the dye house in pairs.csv | {no_row} |\n" in text)
 
 
@@ -504,6 +506,9 @@ def renumbered(folder):
     write(folder, "wishes.txt", "1: {1,2},-\n2: 2,1,-\n3: 1,{2,-}\n")
     only = WROTE.format("pairs.csv", "2 cells", "pairs.csv")
     answers("the other table", read_in(folder), (0, READ.format(1) + "    2  Ben Olsen\n" + only + NOTE, ""))
+    write(folder, "pairs.csv", read(folder, "pairs.csv").replace(b"Ben Olsen,Dye house,2", b"Ben Olsen,Dye house,"))
+    only = WROTE.format("pairs.csv", "1 cell", "pairs.csv")
+    answers("one cell was empty", read_in(folder), (0, READ.format(1) + "    2  Ben Olsen\n" + only + NOTE, ""))
 
 
 def notes(folder):
