@@ -8,6 +8,10 @@
     python3 desk.py --csv DIR the same, and writes it as tables in the folder DIR: next.csv, placement.csv
     python3 desk.py why STUDENT WORKSHOP
                               says why the student is not placed at the workshop
+    python3 desk.py wishes FILE
+                              reads wish lines from FILE, and writes the students' groups in pairs.csv and their line groups in students.csv
+    python3 desk.py wishes --write FILE
+                              writes the students' wishes as lines in a new file FILE, and says who has which number
 
 It works in the current folder. Of the four files it writes only what is said above, and reads the rest. Several may work in one folder at the same time:
 an answer is of the four files as they were at one moment, and a table is written by one run at a time.
@@ -26,6 +30,7 @@ if sys.version_info < (3, 8):
 import argparse
 import bisect
 import codecs
+import collections
 import contextlib
 import csv
 import difflib
@@ -35,7 +40,9 @@ import io
 import os
 import re
 import secrets
+import shlex
 import stat
+import struct
 import time
 import unicodedata
 from dataclasses import dataclass, field
@@ -45,7 +52,7 @@ sys.path.insert(0, os.path.dirname(os.path.abspath(__file__)))
 try:
     import lgs
     # all that is used below is there
-    lgs.Cause, lgs.NextVisit, lgs.Placement, lgs.Refused, lgs.pack_book, lgs.pack_case, lgs.place, lgs.stages
+    lgs.Cause, lgs.NextVisit, lgs.Placement, lgs.Refused, lgs.pack_book, lgs.pack_case, lgs.place, lgs.read_wishes, lgs.stages, lgs.write_wishes
 except ModuleNotFoundError as missing:
     if missing.name != "lgs":
         raise
@@ -82,20 +89,22 @@ NEVER = -1000    # the mark which says that the two cannot be placed together
 STUDENTS, WORKSHOPS, PAIRS, VISITS = "students.csv", "workshops.csv", "pairs.csv", "visits.csv"
 STAGE = Number("stage", 1, 512, help=' "python3 desk.py stages" works it out.')
 LOT = Number("lot", 1, 512, help=' "python3 desk.py lots" draws it.', help_column='\n"python3 desk.py lots" adds it and draws a lot for each student.')
+LINE_GROUP, GROUP = Number("line group", 1, 65), Number("group from student", 1, 65)    # a student's
 FARE = Number("fare", 0, 65535, optional=True, unit=" of pence", help=" Write 0 where there is nothing to pay.")
 
 # Each file's columns. Their order is that of the fields in lgs.py; in the files the columns may stand in any order.
 COLUMNS = {
-    STUDENTS: [Name("student"), STAGE, Number("line group", 1, 65), LOT],
+    STUDENTS: [Name("student"), STAGE, LINE_GROUP, LOT],
     WORKSHOPS: [Name("workshop"), Number("quota", 0, 512), Number("line group", 1, 513)],
     PAIRS: [Name("student", STUDENTS), Name("workshop", WORKSHOPS),
-            Number("group from student", 1, 65), Number("group from workshop", 1, 513), FARE],
+            GROUP, Number("group from workshop", 1, 513), FARE],
     VISITS: [Name("student", STUDENTS), Name("workshop", WORKSHOPS),
              Number("mark from student", NEVER, 1000, zero=False, word="never"),
              Number("mark from workshop", NEVER, 1000, zero=False, word="never")],
 }
+WISHES = {STUDENTS: LINE_GROUP, PAIRS: GROUP}    # the columns that wish lines are about
 MOST = {STUDENTS: 512, WORKSHOPS: 64}
-MOST_BYTES = 32 << 20    # of a table: 1,024 bytes for each of 32,768 pairs
+MOST_BYTES = 32 << 20    # of a table: 1,024 bytes for each of 32,768 pairs; and of any other file
 ENDS = {signal.SIGINT, signal.SIGHUP, signal.SIGTERM, signal.SIGQUIT}    # what ends a run
 # Seconds: how long a run waits for others in the same folder, with which pauses, and for how long after a change a table may be half written still.
 MOMENT, PAUSE, AT_REST = 3.0, 0.05, 0.05
@@ -180,18 +189,25 @@ def read_file(file):
             state = there.st_dev, there.st_ino, there.st_size, there.st_mtime_ns, there.st_ctime_ns
             return Reading(f.read(), state, age)
     except FileNotFoundError:
-        raise Missing(f"{file} is not in this folder ({os.getcwd()}). " + ("Was it saved under another name, or not as CSV?" if any(map(os.path.exists, COLUMNS))
-                      else '"python3 desk.py new" writes an example to start from.'))
+        raise Missing(explain_missing(file))
     except OSError as e:
         raise Stop(f"{file} cannot be read: {e.strerror}.")
 
 
+def explain_missing(file):
+    if file not in COLUMNS:
+        return f"There is no file {os.path.abspath(file)}. Nothing was written."
+    return f"{file} is not in this folder ({os.getcwd()}). " + ("Was it saved under another name, or not as CSV?" if any(map(os.path.exists, COLUMNS))
+                                                                else '"python3 desk.py new" writes an example to start from.')
+
+
 def check_kind(file, there):
-    """A table is an ordinary file, and not endless."""
+    """A table is an ordinary file, and not endless; so are wish lines."""
+    what, help_there = ("a table", "Save the table under this name, as CSV.") if file in COLUMNS else ("a file of lines", "Name the file with the wish lines.")
     if not stat.S_ISREG(there.st_mode):
-        raise Stop(f"{file} is no ordinary file. Save the table under this name, as CSV.")
+        raise Stop(f"{file} is no ordinary file. {help_there}")
     if there.st_size > MOST_BYTES:
-        raise Stop(f"{file} has {there.st_size} bytes; a table has at most {MOST_BYTES}. Is this the right file?")
+        raise Stop(f"{file} has {there.st_size} bytes; {what} has at most {MOST_BYTES}. Is this the right file?")
 
 
 def read_tables(files):
@@ -492,6 +508,33 @@ def read_year(tables, for_stages=False):
     return Year(students, workshops, pairs, visits, planned, names, delimiter_of(text_of(STUDENTS, tables[STUDENTS])))
 
 
+def read_wishes(tables, needed):
+    """The year as far as wish lines are about it: the names in three tables, and the wishes, which must be there where they are `needed`. No other number
+    is looked at."""
+    problems = Problems()
+    students, workshops = (read_named(file, tables, problems, needed) for file in (STUDENTS, WORKSHOPS))
+    names = {file: check_people(file, rows, problems) for file, rows in ((STUDENTS, students), (WORKSHOPS, workshops))}
+    problems.stop_if_any()
+    by_couple = check_couples(PAIRS, read_named(PAIRS, tables, problems, needed), names, problems)
+    problems.stop_if_any()
+    pairs = sorted(by_couple.values(), key=lambda row: numbers_of(row, PAIRS, names)[:2])
+    return Year(students, workshops, pairs, [], {}, names)
+
+
+def read_named(file, tables, problems, needed):
+    """The rows of a table, each with its wish, if it has one: None where there is no number."""
+    wish = WISHES.get(file)
+    others = [column.heading for column in COLUMNS[file] if isinstance(column, Number) and not (needed and column is wish)]
+    rows = read_rows(file, tables, problems, may_miss=others)
+    for row in rows if wish else []:
+        row.cells.setdefault(wish.heading, "")
+        if needed:
+            check_number(file, row, wish, problems)
+        else:
+            row.cells[wish.heading] = number_in(row, wish)
+    return rows
+
+
 # ---------------------------------------------------------------- asking the engine
 
 
@@ -511,12 +554,12 @@ def book_bytes(year):
     return lgs.pack_book(numbers_of(row, VISITS, year.names) for row in year.visits)
 
 
-def ask(year, function, *files):
-    """What a function of lgs.py says of these bytes."""
+def ask(year, function, *files, explain=None):
+    """What a function of lgs.py says of these bytes. `explain` is for refusals that are not about the tables."""
     try:
         return function(*files)
     except lgs.Refused as refused:
-        raise Stop(explain_refusal(year, refused))
+        raise Stop((explain or explain_refusal)(year, refused))
     except OSError as e:
         raise Stop(f"The engine cannot be used: {f'{e.filename}: {e.strerror}' if e.filename else e}.\n"
                    "desk.py, lgs.py and liblgs.so of one version belong in one folder, on Linux with an Intel or AMD processor (x86-64).")
@@ -525,6 +568,29 @@ def ask(year, function, *files):
 def find_answer(year):
     """The next visit, or the placement."""
     return ask(year, lgs.place, case_bytes(year), book_bytes(year))
+
+
+def wish_rows(year):
+    """The rows that have a wish, with their table: the students, whose line group it is, and the pairs."""
+    return [(STUDENTS, row) for row in year.students] + [(PAIRS, row) for row in year.pairs]
+
+
+def wishes_of(year):
+    """The wishes of these rows, in this order."""
+    return [row.cells[WISHES[file].heading] for file, row in wish_rows(year)]
+
+
+def wish_case(year, wishes):
+    """A case with these wishes, in this order. Wish lines are about nothing else in it: there it has any numbers that will do."""
+    lines, groups = wishes[:len(year.students)], wishes[len(year.students):]
+    couples = [numbers_of(row, PAIRS, year.names)[:2] for row in year.pairs]
+    return lgs.pack_case([(1, line, number) for number, line in enumerate(lines, 1)], [(0, 1)] * len(year.workshops),
+                         [(*couple, group, 1) for couple, group in zip(couples, groups)])
+
+
+def wishes_in(case):
+    """The wishes in a case, in this order: bytes 6 and 7 of the records of students and pairs."""
+    return [wish for kind, wish in struct.iter_unpack("<B5xH8x", case) if kind != 2]
 
 
 # ---------------------------------------------------------------- writing, one run at a time
@@ -681,7 +747,7 @@ def keep_rights(path, part):
                 change()
 
 
-# ---------------------------------------------------------------- stages and lots in students.csv
+# ---------------------------------------------------------------- stages, lots and wishes in the tables
 
 
 def first_row(text):
@@ -689,8 +755,8 @@ def first_row(text):
     return [clean(cell).lower() for cell in next(split_rows(text))]
 
 
-def with_cells(data, heading, numbers):
-    """The bytes of students.csv with these numbers in one column, by row number. The column is added where it is missing. All else is as it was,
+def with_cells(data, heading, numbers, file=STUDENTS):
+    """The bytes of a table with these numbers in one column, by row number. The column is added where it is missing. All else is as it was,
     byte for byte."""
     text = data.decode("utf-8-sig")
     lead = lead_of(text)
@@ -710,19 +776,19 @@ def with_cells(data, heading, numbers):
         parts += [inside, end]
         at, column = (at, column + 1) if end == delimiter else (at + 1, 0)
     new = mark + "".join(parts).encode()
-    check_only_cells(data, new, place, texts)
+    check_only_cells(data, new, place, texts, file)
     return new
 
 
-def check_only_cells(old, new, place, texts):
-    """Reads both contents of students.csv again: they differ in these cells of one column, and in nothing else."""
+def check_only_cells(old, new, place, texts, file=STUDENTS):
+    """Reads both contents of a table again: they differ in these cells of one column, and in nothing else."""
     rows, new_rows = ([list(row) for row in split_rows(data.decode("utf-8-sig"))] for data in (old, new))
     for at, text in texts.items():
         row = rows[at - 1]
         row += [""] * (place + 1 - len(row))
         row[place] = text
     if rows != new_rows:
-        raise Stop(f"desk.py cannot write in {STUDENTS} without changing other cells. Nothing was written.\n"
+        raise Stop(f"desk.py cannot write in {file} without changing other cells. Nothing was written.\n"
                    "Save the table again with your spreadsheet, as CSV, and type the command again.")
 
 
@@ -739,16 +805,19 @@ def is_open(name):
     return any(os.path.lexists(os.path.join(folder, f".~lock.{file}#")) for folder, file in map(os.path.split, (name, os.path.realpath(name))))
 
 
-def write_cells(data, heading, numbers):
-    """Writes these numbers in one column, if students.csv is not open in LibreOffice and still has these bytes."""
-    new = with_cells(data, heading, numbers)
-    check_free(STUDENTS)
+def write_cells(files, changes):
+    """Writes numbers in one column of each table in `changes`, which has a heading and the numbers by row, if it is not open in LibreOffice, and if `files`,
+    from which they come, still have these bytes."""
+    contents = {file: with_cells(files[file], heading, numbers, file) for file, (heading, numbers) in changes.items()}
+    for file in contents:
+        check_free(file)
 
     def last_look():
-        if read_file(STUDENTS).data != data:
-            raise Stop(f"{STUDENTS} was changed by somebody else at this moment. Nothing was written. Type the command again.")
+        for file, data in files.items():
+            if read_file(file).data != data:
+                raise Stop(f"{file} was changed by somebody else at this moment. Nothing was written. Type the command again.")
 
-    write_files({STUDENTS: new}, last_look)
+    write_files(contents, last_look)
 
 
 # ---------------------------------------------------------------- telling the answer
@@ -894,9 +963,12 @@ def tell_worked_out(year, stages, before):
     return lines
 
 
-def tell_written(count, what, added=""):
-    return [f"Wrote them in {STUDENTS}: {added}{count} {'cell' if count == 1 else 'cells'} changed, all else is as it was.",
-            f"A spreadsheet that still shows {STUDENTS} shows the old {what}: open the file again there before you change it."]
+def tell_written(tables, changes, what):
+    """In which tables how many cells changed, and which columns were not there before."""
+    added = "".join(f'the column "{heading}" was added, ' for file, (heading, _) in changes.items() if heading not in first_row(text_of(file, tables[file])))
+    count = sum(len(numbers) for _, numbers in changes.values())
+    return [f"Wrote them in {' and '.join(changes)}: {added}{count} {'cell' if count == 1 else 'cells'} changed, all else is as it was.",
+            f"A spreadsheet that still shows {' or '.join(changes)} shows the old {what}: open the file again there before you change it."]
 
 
 def tell_lots(rows, drawn):
@@ -956,6 +1028,49 @@ def way_back(counts, orders, start):
     return steps if start in came else []
 
 
+RENUMBERED = "the same order, in other numbers"
+
+
+def changed_wishes(year, before, after):
+    """The students whose wishes were other numbers before, with what is to be said of them."""
+    hers = {row.cells["student"]: [] for row in year.students}
+    for (_, row), old, new in zip(wish_rows(year), before, after):
+        hers[row.cells["student"]].append((old, new))
+    return {name: how_changed(*map(list, zip(*wishes))) for name, wishes in hers.items() if any(old != new for old, new in wishes)}
+
+
+def how_changed(old, new):
+    """Of a student's line group and groups, as they were, None where there was no number, and as they are now, counted from 1."""
+    if None in old:
+        return "new" if set(old) == {None} else ""
+    return RENUMBERED if [sorted(set(old)).index(number) + 1 for number in old] == new else ""
+
+
+def tell_wishes(year, file, changed):
+    """How many lines were read, and whose wishes changed by them."""
+    count = sum(how != RENUMBERED for how in changed.values())
+    return ([f"Lines read from {file}: {len(year.students)}. Students whose wishes changed: {count}."]
+            + [f"  {year.names[STUDENTS][name]:3}  {name}" + (f" ({how})" if how else "") for name, how in changed.items()])
+
+
+def tell_marks(changed):
+    """A note where wishes changed and visits were held. visits.csv need not be there or right for it: that is told when it counts."""
+    marks = [column.heading for column in COLUMNS[VISITS] if isinstance(column, Number)]
+    try:
+        rows = read_rows(VISITS, {VISITS: read_file(VISITS).data}, Problems())
+    except Stop:
+        return []
+    if set(changed.values()) <= {RENUMBERED} or not any(row.cells[mark] for row in rows for mark in marks):
+        return []
+    return ["", f"Note: {VISITS} has marks already. They stay good, but with other wishes desk.py may ask for other visits and find another placement."]
+
+
+def tell_numbers(year):
+    """Who has which number in wish lines."""
+    return (["Students:"] + [f"  {number:3}  {name}" for name, number in year.names[STUDENTS].items()]
+            + ["Workshops:"] + [f"  {number:3}  {name}" for name, number in year.names[WORKSHOPS].items()] + ["    -  none"])
+
+
 def explain_refusal(year, refused):
     """What was refused, with the row that it points to."""
     if refused.number == lgs.Cause.NO_STAGES:
@@ -987,6 +1102,121 @@ def equal_marks(year, row):
     same = [early for early in year.visits[:year.visits.index(row)] if early.cells["student"] == student
             and early.cells["mark from student"] == mark and groups[couple_of(early)] == groups[couple_of(row)]]
     return [f'  {student} gave {mark} in row {early.at} too, column "mark from student".' for early in same]
+
+
+# ---------------------------------------------------------------- what is wrong with wish lines
+
+# What departs from the form of a line, and what to say; the first one that is found is told. A pattern's group, if it has one, marks where it is, and stands
+# for %s. First of the line, then of what follows the colon and its blank.
+ONE_BLANK = "The only blank in a line follows the colon."
+BEGIN = "A line begins with the student's number, a colon and a blank."
+LINE_FAULTS = [
+    (r"\A\Z", "the line is empty. Write the student's wishes there, or delete the line if it is one too many."),
+    (r"\r", 'a carriage return (CR) is in it. Save the file with the line ends LF ("Unix").'),
+    (r"\A[^:]*\Z", f"there is no colon. {BEGIN}"),
+    (r"\A[^:]*?([^0-9:\s])", f'"%s" is there, before the colon. {BEGIN}'),
+    (r"(\t)", f"a tab is there. {ONE_BLANK}"),
+    (r"((?<!:) |[^\S ])", f"a blank is there, or something like one. {ONE_BLANK}"),
+    (r"\A:", f"there is no number before the colon. {BEGIN}"),
+    (r"\A(0)", "the student's number begins with 0. Numbers begin with 1 to 9."),
+    (r"\A[0-9]+(:)(?! )", f"the blank after this colon is missing. {BEGIN}"),
+]
+WISH_FAULTS = [
+    (r"\A\Z", "there is nothing after the colon. At least - must stand there, for none."),
+    (r"([^0-9,{}-])", '"%s" is there. After the colon there are only numbers, commas, braces and the plain dash -.'),
+    (r"\{[^}]*?(\{)", "a brace is opened inside braces."),
+    (r"(\{)[^}]*\Z", "this brace is opened and not closed."),
+    (r"(?:\A|\})[^{}]*(\})", "this brace is closed and was not opened."),
+    (r"(\{)\}", "there is nothing in these braces."),
+    (r"(?:\A|(?<=[,{]))(,)|(,)(?=\}|\Z)", "there is nothing before this comma, or nothing after it."),
+    (r"-[^-]*(-)", "this is the second dash. None, which is -, stands in a line exactly once."),
+    (r"(?<=[^,{])(\{)|(?<=\})([^,])|(?<=[0-9])(-)|(?<=-)([0-9])", 'a comma is missing before "%s".'),
+    (r"(?<![0-9])(0[0-9]*)", 'the number "%s" begins with 0. Numbers begin with 1 to 9.'),
+    (r"(\{)[^,}]*\}", "these braces are around one item. Write it without them."),
+    (r"\A[^-]*\Z", "none is missing: - stands in a line exactly once."),
+]
+
+
+def explain_lines(year, file, text, refused):
+    """Which line was refused, and what is wrong with it. The engine has decided that; here it is only looked for, and where nothing is found its own words
+    stand."""
+    if refused.number not in (lgs.Cause.WISH_FORM, lgs.Cause.WISH_NAMES):
+        return explain_refusal(year, refused)
+    number, (line, *rest) = refused.place + 1, text.split(b"\n", refused.place + 1)[refused.place:] or [b""]
+    if refused.number == lgs.Cause.WISH_NAMES:
+        faults = wrong_names(year, number, line.decode("utf-8", "replace"))
+    elif number > len(year.students):
+        faults = [("", f"there is more than a line for each of the {len(year.students)} students in {STUDENTS}. "
+                       + ("Delete what is left over." if (line + b"".join(rest)).strip() else "Delete the empty line."))]
+    else:
+        faults = wrong_form(year, file, number, line, rest)
+    whose = f" ({year.student(number)})" if number <= len(year.students) else ""
+    return "\n".join([f"{file}, line {number}{whose}{at}: {fault}" for at, fault in faults or [("", refused.text)]]
+                     + ["Nothing was written. Correct this and type the command again."])
+
+
+def wrong_form(year, file, number, line, rest):
+    """Where a line departs from the form, and how. `rest` is what follows its line feed, if there is one."""
+    if number == 1 and any(re.match(form, line, re.DOTALL) for form, _ in NO_TEXT):
+        return [("", "this is no plain text. Save the lines as plain text in UTF-8, and not as a document or in UTF-16.")]
+    if not line and not rest:
+        return [("", f"this line is missing. The file has {number - 1} lines, and {STUDENTS} has {len(year.students)} students.")]
+    has_mark, has_return = number == 1 and line.startswith(codecs.BOM_UTF8), bool(rest) and line.endswith(b"\r")
+    line = line[3 * has_mark:len(line) - has_return].decode("utf-8", "replace")
+    head, _, wishes = line.partition(": ")
+    return (first_fault(LINE_FAULTS, line) or saved_otherwise(file, has_mark, has_return) or wrong_student(year, number, head)
+            or first_fault(WISH_FAULTS, wishes, len(head) + 2)
+            or ([] if rest else [("", "the line feed at its end is missing. Press Enter at the end of the last line, and save.")]))
+
+
+def saved_otherwise(file, has_mark, has_return):
+    """What editors add that is no part of lines, and a command that takes it away."""
+    repair = f"or type\n  sed -i 's/^\\xef\\xbb\\xbf//; s/\\r$//' {shlex.quote(file)}"
+    if has_mark:
+        return [("", f'the file begins with a byte order mark. Save it as "UTF-8", not as "UTF-8 with BOM", {repair}')]
+    if has_return:
+        return [("", f'it ends with CR LF, as editors on Windows save it. Save the file with the line ends LF ("Unix"), {repair}')]
+    return []
+
+
+def first_fault(faults, text, before=0):
+    """The first one that is in this text, which stands after so many signs of the line."""
+    for pattern, fault in faults:
+        found = re.search(pattern, text)
+        if found and found.lastindex:
+            sign = found[found.lastindex]
+            return [(f", sign {before + found.start(found.lastindex) + 1}", fault.replace("%s", short(sign)))]
+        if found:
+            return [("", fault)]
+    return []
+
+
+def short(text):
+    """What is shown of something that may be long, or cannot be shown."""
+    return "".join(sign if sign.isprintable() else f"(U+{ord(sign):04X})" for sign in text[:20]) + ".." * (len(text) > 20)
+
+
+def wrong_student(year, number, head):
+    if head == str(number):
+        return []
+    name = next((name for name, other in year.names[STUDENTS].items() if head == str(other)), "")
+    whose = f"it is the line of student {head} ({name})" if name else f"it begins with {short(head)}, which is no student's number"
+    return [("", f"{whose}. Here the line of student {number} must stand: there is one for each student, from 1 up.")]
+
+
+def wrong_names(year, number, line):
+    """Which workshops are named wrongly, and which are missing."""
+    named, name_of = collections.Counter(re.findall("[0-9]+", line.partition(":")[2])), {str(n): name for name, n in year.names[WORKSHOPS].items()}
+    hers, faults = {w for s, w in year.pair_of if s == year.student(number)}, []
+    for item, count in named.items():
+        if item not in name_of:
+            faults.append(f"there is no workshop {short(item)}. {WORKSHOPS} has {len(name_of)}.")
+        elif name_of[item] not in hers:
+            faults.append(f"workshop {item} ({name_of[item]}) is named, and {PAIRS} has no row with the two.")
+        elif count > 1:
+            faults.append(f"workshop {item} ({name_of[item]}) is named {'twice' if count == 2 else f'{count} times'}.")
+    faults += [f"workshop {item} ({name}) is missing." for item, name in name_of.items() if name in hers and item not in named]
+    return [("", fault) for fault in faults[:5]] + ([("", f"and {len(faults) - 5} more such faults.")] if len(faults) > 5 else [])
 
 
 # ---------------------------------------------------------------- why a student is not at a workshop
@@ -1246,9 +1476,9 @@ def fill_in_lots():
     lines = tell_lots(rows, drawn) + [""]
     if not drawn:
         return lines + [f"Every student in {STUDENTS} has a lot. Nothing was written."]
-    write_cells(tables[STUDENTS], "lot", drawn)
-    added = "" if "lot" in first_row(tables[STUDENTS].decode("utf-8-sig")) else 'the column "lot" was added, '
-    return lines + tell_written(len(drawn), "lots", added) + ["Keep this list: lots are drawn once for a year."]
+    changes = {STUDENTS: ("lot", drawn)}
+    write_cells(tables, changes)
+    return lines + tell_written(tables, changes, "lots") + ["Keep this list: lots are drawn once for a year."]
 
 
 @one_at_a_time("stages")
@@ -1264,8 +1494,64 @@ def work_out_stages():
     lines = tell_worked_out(year, stages, before) + [""]
     if not changed:
         return lines + [f"{STUDENTS} has these stages already. Nothing was written."]
-    write_cells(tables[STUDENTS], "stage", changed)
-    return lines + tell_written(len(changed), "stages")
+    changes = {STUDENTS: ("stage", changed)}
+    write_cells({STUDENTS: tables[STUDENTS]}, changes)
+    return lines + tell_written(tables, changes, "stages")
+
+
+@one_at_a_time("wishes")
+def read_wish_lines(file):
+    """Reads wish lines, writes the students' line groups in students.csv and their groups in pairs.csv, and tells whose wishes changed."""
+    files = read_tables([STUDENTS, WORKSHOPS, PAIRS, file])
+    year, text = read_wishes(files, needed=False), files[file]
+    before = wishes_of(year)
+    case = wish_case(year, [1] * len(before))    # any will do
+    after = wishes_in(ask(year, lgs.read_wishes, case, text, explain=lambda year, refused: explain_lines(year, file, text, refused)))
+    changes = {}
+    for (table, row), old, new in zip(wish_rows(year), before, after):
+        if old != new:
+            changes.setdefault(table, (WISHES[table].heading, {}))[1][row.at] = new
+    changed = changed_wishes(year, before, after)
+    lines = tell_wishes(year, file, changed)
+    if not changes:
+        return lines + [f"{STUDENTS} and {PAIRS} have these wishes already. Nothing was written."]
+    write_cells(files, changes)
+    return lines + [""] + tell_written(files, changes, "wishes") + tell_marks(changed)
+
+
+def wishes(names, new_file):
+    """Reads wish lines from the file that is named, or writes them in a new one."""
+    file = os.path.expanduser(names[0] if new_file is None else new_file)
+    if os.path.basename(file) in COLUMNS:
+        raise Stop(f"{file} has the name of a table. Nothing was written. Name a file for wish lines, for instance wishes.txt.")
+    return read_wish_lines(file) if new_file is None else write_wish_lines(file)
+
+
+def write_wish_lines(file):
+    """Writes the wishes of the tables as lines in a new file, and tells who has which number in them."""
+    folder = os.path.dirname(os.path.abspath(file))
+    if not os.path.isdir(folder):
+        raise Stop(f"There is no folder {folder}. Nothing was written.")
+    with one_at_a_time("wishes --write", file):
+        year = read_wishes(read_tables([STUDENTS, WORKSHOPS, PAIRS]), needed=True)
+        text = ask(year, lgs.write_wishes, wish_case(year, wishes_of(year)))
+        if has_bytes(file, text):
+            return [f"{file} has these lines already. Nothing was written.", ""] + tell_numbers(year)
+        check_not_there(file)
+        write_files({file: text}, lambda: check_not_there(file))
+    return [f"Wrote {file}: the wishes of {len(year.students)} students, a line for each.", ""] + tell_numbers(year)
+
+
+def has_bytes(file, data):
+    try:
+        return read_file(file).data == data
+    except Stop:
+        return False
+
+
+def check_not_there(file):
+    if os.path.lexists(file):
+        raise Stop(f"{file} is there already. Nothing was written. Delete it, or name another file.")
 
 
 def tell(lines):
@@ -1275,7 +1561,7 @@ def tell(lines):
     except OSError as e:
         os.dup2(os.open(os.devnull, os.O_WRONLY), sys.stdout.fileno())
         if not isinstance(e, BrokenPipeError):
-            raise Stop(f"The answer could not be written: {e.strerror}." + (" The tables were written." if LOCK.wrote else ""))
+            raise Stop(f"The answer could not be written: {e.strerror}." + (" The files were written." if LOCK.wrote else ""))
 
 
 LETTERS = dict(zip("ßæøłđðþœıÆØŁĐÐÞŒ", "ss ae o l d d th oe i AE O L D D Th OE".split()))    # those that are no letter with an accent
@@ -1295,16 +1581,21 @@ def shown(error):
 
 def read_command():
     parser = argparse.ArgumentParser(description=__doc__, formatter_class=argparse.RawDescriptionHelpFormatter)
-    parser.add_argument("command", nargs="?", default="next", choices=["next", "new", "lots", "stages", "why"],
-                        help="next, the same as none, or new, lots, stages, why")
-    parser.add_argument("names", nargs="*", metavar="NAME", help="why: the student, and the workshop")
+    parser.add_argument("command", nargs="?", default="next", choices=["next", "new", "lots", "stages", "why", "wishes"],
+                        help="next, the same as none, or new, lots, stages, why, wishes")
+    parser.add_argument("names", nargs="*", metavar="NAME", help="why: the student, and the workshop; wishes: the file with the lines")
     parser.add_argument("--csv", metavar="DIR", help="next: write the answer as tables in this folder, too")
     parser.add_argument("--visits", action="store_true", help="next: list the visits held, too")
+    parser.add_argument("--write", metavar="FILE", help="wishes: write them as lines in this new file")
     parser.add_argument("--semicolon", action="store_true", help="new: semicolons between the cells, not commas")
     options = parser.parse_args()
-    if len(options.names) != (2 if options.command == "why" else 0):
-        parser.error('why takes two names: desk.py why "Anna Berg" "Dye house"' if options.command == "why" else f"{options.command} takes no names")
-    for name, given, command in (("--csv", options.csv is not None, "next"), ("--visits", options.visits, "next"), ("--semicolon", options.semicolon, "new")):
+    takes = {"why": (2, 'two names: desk.py why "Anna Berg" "Dye house"'),
+             "wishes": (1 if options.write is None else 0, "one file: desk.py wishes wishes.txt, or desk.py wishes --write wishes.txt")}
+    count, what = takes.get(options.command, (0, "no names"))
+    if len(options.names) != count or (options.command == "wishes" and "" in (*options.names, options.write)):
+        parser.error(f"{options.command} takes {what}")
+    for name, given, command in (("--csv", options.csv is not None, "next"), ("--visits", options.visits, "next"), ("--semicolon", options.semicolon, "new"),
+                                 ("--write", options.write is not None, "wishes")):
         if given and options.command != command:
             parser.error(f"{options.command} takes no {name}")
     return options
@@ -1319,6 +1610,7 @@ def main():
         if signal.getsignal(number) == signal.SIG_DFL:
             signal.signal(number, lambda number, _: sys.exit(128 + number))
     commands = {"new": lambda: new(options.semicolon), "lots": fill_in_lots, "stages": work_out_stages, "why": lambda: why(*options.names),
+                "wishes": lambda: wishes(options.names, options.write),
                 "next": lambda: answer(options.visits, options.csv and os.path.expanduser(options.csv))}
     try:
         tell(commands[options.command]())

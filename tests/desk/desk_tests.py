@@ -920,14 +920,15 @@ class InProcess:
         self.module = module
 
     def run(self, folder, command="answer", **settings):
-        """With other values for names of desk.py; that a table was written just now is fine unless they say otherwise."""
+        """With other values for names of desk.py; that a table was written just now is fine unless they say otherwise. `command` may be a function that
+        takes the module."""
         before, names = os.getcwd(), dict(vars(self.module))
         os.chdir(folder)
         vars(self.module).update({"AT_REST": 0, **settings})
         try:
             commands = {"answer": lambda: self.module.answer(False, None), "stages": self.module.work_out_stages, "lots": self.module.fill_in_lots,
                         "new": lambda: self.module.new(False)}
-            lines = commands[command]()
+            lines = commands[command]() if command in commands else command(self.module)
             return 0, "\n".join(lines) + "\n", ""
         except self.module.Stop as stop:
             return 1, "", str(stop)
@@ -1191,7 +1192,7 @@ def other_folders(folder):
     with open("/dev/full", "wb") as full, tempfile.TemporaryDirectory() as empty:
         answers("all files are missing", desk(empty)[2], f"students.csv is not in this folder ({os.path.realpath(empty)}). "
                 '"python3 desk.py new" writes an example to start from.\n')
-        for words, more in ((("new",), b" The tables were written."), ((), b""), (("lots",), b"")):
+        for words, more in ((("new",), b" The files were written."), ((), b""), (("lots",), b"")):
             done = subprocess.run([sys.executable, DESK, *words], cwd=empty, stdout=full, stderr=subprocess.PIPE)
             answers(f"a full disk {words}", (done.returncode, done.stderr), (1, b"The answer could not be written: No space left on device." + more + b"\n"))
 
