@@ -256,7 +256,11 @@ fn parts(options: &Options) -> Vec<Part<'_>> {
             wishes::tests::room(tally, rng, own, options.count(50));
         }),
         part("wishes, mutants", |tally, options| {
-            wishes::tests::mutants_told_apart(tally, options.rng(38), options.count(4000).max(2000));
+            wishes::tests::mutants_told_apart(
+                tally,
+                options.rng(38),
+                options.count(3000).max(1000),
+            );
         }),
         part("wishes, flaws", |tally, options| {
             wishes::tests::flaws_found(tally, options.rng(39), options.count(2000).max(1000));

@@ -34,7 +34,10 @@ pub fn all_of_form(longest: usize) -> HashMap<Vec<u8>, Vec<Group>> {
     let mut items = vec![NONE];
     let mut numbers = vec![0];
     for _ in 0..longest - 2 {
-        numbers = numbers.iter().flat_map(|n| [10 * n + 1, 10 * n + 2]).collect();
+        numbers = numbers
+            .iter()
+            .flat_map(|n| [10 * n + 1, 10 * n + 2])
+            .collect();
         items.extend(&numbers);
     }
     // Every group that is short enough, with its text.
@@ -123,7 +126,9 @@ fn all_of_one(workshops: usize, top: u16) -> Vec<Vec<u16>> {
     let mut all: Vec<Vec<u16>> = (1..=top).map(|line| vec![line]).collect();
     for _ in 0..workshops {
         let more = |one: &Vec<u16>| -> Vec<Vec<u16>> {
-            (0..=top).map(|group| [&one[..], &[group]].concat()).collect()
+            (0..=top)
+                .map(|group| [&one[..], &[group]].concat())
+                .collect()
         };
         all = all.iter().flat_map(more).collect();
     }
@@ -163,7 +168,10 @@ pub fn order(case: &Case) -> Order {
 
 /// How each two of a student's groups compare, none among them.
 fn compared(case: &Case, s: usize) -> Vec<Ordering> {
-    let hers = case.pairs.iter().filter(|p| usize::from(p.student) == s + 1);
+    let hers = case
+        .pairs
+        .iter()
+        .filter(|p| usize::from(p.student) == s + 1);
     let mut groups: Vec<u16> = hers.map(|pair| pair.student_group).collect();
     groups.push(case.students[s].line);
     let mut all = Vec::new();
@@ -176,7 +184,10 @@ fn compared(case: &Case, s: usize) -> Vec<Ordering> {
 /// The groups of a student are counted from 1 without gaps.
 pub fn without_gaps(case: &Case) -> bool {
     (0..case.students.len()).all(|s| {
-        let hers = case.pairs.iter().filter(|p| usize::from(p.student) == s + 1);
+        let hers = case
+            .pairs
+            .iter()
+            .filter(|p| usize::from(p.student) == s + 1);
         let mut groups: Vec<u16> = hers.map(|pair| pair.student_group).collect();
         groups.push(case.students[s].line);
         groups.sort_unstable();

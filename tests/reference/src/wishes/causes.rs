@@ -46,7 +46,13 @@ impl Draft {
 
     fn text(&self) -> String {
         let groups: Vec<String> = self.groups.iter().map(|items| group_text(items)).collect();
-        format!("{}{}{}{}", self.number, self.colon, groups.join(","), self.end)
+        format!(
+            "{}{}{}{}",
+            self.number,
+            self.colon,
+            groups.join(","),
+            self.end
+        )
     }
 
     /// Where the items are, as group and place in it, that this holds of.
@@ -121,7 +127,9 @@ impl Sheet {
         let wishes = gen::any_wishes(rng, case);
         let lines = wishes.iter().zip(1..);
         Sheet {
-            lines: lines.map(|(wishes, student)| Draft::new(student, wishes)).collect(),
+            lines: lines
+                .map(|(wishes, student)| Draft::new(student, wishes))
+                .collect(),
             behind: String::new(),
             workshops: case.workshops.len() as u16,
         }
@@ -204,7 +212,8 @@ const OF_TEXT: [Cause; 9] = [
     }),
     of_text("a line left over", |rng, sheet, _| {
         let next = sheet.lines.len() + 1;
-        sheet.behind = format!("{next}: -{}", rng.pick(&["\n", ""]));
+        let more = format!("\n{}: -\n", next + 1);
+        sheet.behind = format!("{next}: -{}", rng.pick(&["\n", "", &more]));
         Some(sheet.lines.len())
     }),
     of_text("carriage returns everywhere", |_, sheet, _| {
@@ -221,7 +230,9 @@ const OF_ENDS: [Cause; 7] = [
         let number: u16 = sheet.lines[at].number.parse().ok()?;
         sheet.lines[at].number = match rng.below(4) {
             0 => far_above(rng, number),
-            1 => rng.pick(&["", "0", "x", "-", "-1", "+1", "1.", "{1}"]).to_string(),
+            1 => rng
+                .pick(&["", "0", "x", "-", "-1", "+1", "1.", "{1}"])
+                .to_string(),
             2 => format!("{number}{}", rng.below(10)),
             _ => (number ^ rng.pick(&[1, 2, 8])).to_string(),
         };
@@ -232,7 +243,9 @@ const OF_ENDS: [Cause; 7] = [
         Some(at)
     }),
     cause("no colon and blank", 14, |rng, sheet, at| {
-        let others = [":", " ", "", ";", ": :", ":\t", " :", "::", ":-", "=", ":\u{a0}"];
+        let others = [
+            ":", " ", "", ";", ": :", ":\t", " :", "::", ":-", "=", ":\u{a0}",
+        ];
         sheet.lines[at].colon = rng.pick(&others).to_string();
         Some(at)
     }),
@@ -241,14 +254,16 @@ const OF_ENDS: [Cause; 7] = [
         Some(at)
     }),
     cause("another end", 14, |rng, sheet, at| {
-        let others = ["\r", " \n", ",\n", "\t\n", "\0\n", ".\n", "}\n", "{\n", ":\n", ";\n"];
+        let others = [
+            "\r", " \n", ",\n", "\t\n", "\0\n", ".\n", "}\n", "{\n", ":\n", ";\n",
+        ];
         sheet.lines[at].end = rng.pick(&others).to_string();
         Some(at)
     }),
     cause("a blank elsewhere", 14, |rng, sheet, at| {
         let line = &mut sheet.lines[at];
         let (g, i) = line.any_item(rng);
-        let blank = rng.pick(&[" ", "\t", "\u{a0}"]);
+        let blank = rng.pick(&[" ", " ", " ", "\t", "\u{a0}"]);
         match rng.below(5) {
             0 => line.number.insert_str(0, blank),
             1 => line.colon = format!("{blank}: "),
@@ -280,7 +295,9 @@ const OF_GROUPS: [Cause; 14] = [
     }),
     cause("none in other signs", 14, |rng, sheet, at| {
         let (g, i) = sheet.lines[at].items(|item| item == "-")[0];
-        let others = ["--", "0", "none", "\u{2212}", "_", "-1", "1-", "", "{-}", "(-)"];
+        let others = [
+            "--", "0", "none", "\u{2212}", "_", "-1", "1-", "", "{-}", "{}",
+        ];
         sheet.lines[at].groups[g][i] = rng.pick(&others).to_string();
         Some(at)
     }),
@@ -346,7 +363,11 @@ const OF_GROUPS: [Cause; 14] = [
     cause("no comma between two groups", 14, |rng, sheet, at| {
         let line = &mut sheet.lines[at];
         let g = line.any_group(rng, 2)?;
-        let low = if g + 1 < line.groups.len() { g } else { g.checked_sub(1)? };
+        let low = if g + 1 < line.groups.len() {
+            g
+        } else {
+            g.checked_sub(1)?
+        };
         let behind = group_text(&line.groups.remove(low + 1));
         line.groups[low] = vec![group_text(&line.groups[low]) + &behind];
         Some(at)
@@ -379,21 +400,29 @@ const OF_NAMES: [Cause; 6] = [
         sheet.lines[at].take(item);
         Some(at)
     }),
-    cause("a workshop of the case without a pair", 15, |rng, sheet, at| {
-        let line = &mut sheet.lines[at];
-        let all = (1..=sheet.workshops).map(|number| number.to_string());
-        let others: Vec<String> = all.filter(|item| !line.names(item)).collect();
-        let item = others.get(rng.below(others.len().max(1)))?;
-        line.add_item(rng, item);
-        Some(at)
-    }),
-    cause("a workshop that is not in the case", 15, |rng, sheet, at| {
-        let next = usize::from(sheet.workshops) + 1;
-        let number = rng.pick(&[next, next, next + 1, 65, 66, 99, 100, 999]);
-        let number = number.max(next).to_string();
-        sheet.lines[at].add_item(rng, &number);
-        Some(at)
-    }),
+    cause(
+        "a workshop of the case without a pair",
+        15,
+        |rng, sheet, at| {
+            let line = &mut sheet.lines[at];
+            let all = (1..=sheet.workshops).map(|number| number.to_string());
+            let others: Vec<String> = all.filter(|item| !line.names(item)).collect();
+            let item = others.get(rng.below(others.len().max(1)))?;
+            line.add_item(rng, item);
+            Some(at)
+        },
+    ),
+    cause(
+        "a workshop that is not in the case",
+        15,
+        |rng, sheet, at| {
+            let next = usize::from(sheet.workshops) + 1;
+            let number = rng.pick(&[next, next, next + 1, 65, 66, 99, 100, 999]);
+            let number = number.max(next).to_string();
+            sheet.lines[at].add_item(rng, &number);
+            Some(at)
+        },
+    ),
     cause("a number far too high", 15, |rng, sheet, at| {
         let near = rng.range(1, usize::from(sheet.workshops)) as u16;
         let number = far_above(rng, near);
@@ -418,5 +447,7 @@ pub fn all() -> impl Iterator<Item = &'static Cause> {
 
 /// The causes of this number that spoil one line.
 pub fn local(number: u16) -> Vec<&'static Cause> {
-    all().filter(|cause| cause.local && cause.number == number).collect()
+    all()
+        .filter(|cause| cause.local && cause.number == number)
+        .collect()
 }

@@ -20,16 +20,36 @@ pub fn small(rng: &mut Rng) -> Case {
     gen::case(rng, &shape)
 }
 
-/// 512 students and 64 workshops, or nearly, with this many pairs in a hundred and groups that a
-/// student may use.
-pub fn large(rng: &mut Rng, pairs: usize, groups: usize) -> Case {
+/// What a large case has.
+#[derive(Clone, Copy)]
+pub struct Large {
+    pub students: usize,
+    pub workshops: usize,
+    /// Of a hundred possible ones.
+    pub pairs: usize,
+    /// How many groups a student may use.
+    pub groups: usize,
+    /// How many students have all pairs, or none, instead, in percent.
+    pub uneven: usize,
+}
+
+/// The largest, with all pairs.
+pub const LARGEST: Large = Large {
+    students: MAX_STUDENTS,
+    workshops: MAX_WORKSHOPS,
+    pairs: 100,
+    groups: MAX_STUDENT_GROUP as usize,
+    uneven: 0,
+};
+
+pub fn large(rng: &mut Rng, large: Large) -> Case {
     let shape = Shape {
-        students: rng.pick(&[511, 512, 512, 512]),
-        workshops: rng.pick(&[63, 64, 64, 64]),
-        student_groups: groups,
+        students: large.students,
+        workshops: large.workshops,
+        student_groups: large.groups,
         workshop_groups: rng.range(1, 8),
-        pairs,
-        uneven: rng.pick(&[0, 20]),
+        pairs: large.pairs,
+        uneven: large.uneven,
         agreeing: false,
         ..Shape::small(rng)
     };
@@ -48,6 +68,11 @@ pub fn workshops_of(case: &Case) -> Vec<Vec<u16>> {
 /// Any wishes for each student that name what has to be named, items of a group in any order.
 pub fn any_wishes(rng: &mut Rng, case: &Case) -> Vec<Vec<Group>> {
     let joined = rng.pick(&[0, 30, 60, 90, 100]);
+    wishes_joined(rng, case, joined)
+}
+
+/// The same, where so many of a hundred items are in the group of the item before.
+pub fn wishes_joined(rng: &mut Rng, case: &Case, joined: usize) -> Vec<Vec<Group>> {
     let of_one = |mut items: Vec<u16>| {
         items.push(NONE);
         rng.shuffle(&mut items);
@@ -66,7 +91,9 @@ pub fn any_wishes(rng: &mut Rng, case: &Case) -> Vec<Vec<Group>> {
 /// The lines of these wishes.
 pub fn text(wishes: &[Vec<Group>]) -> Vec<u8> {
     let lines = wishes.iter().zip(1..);
-    let lines: Vec<String> = lines.map(|(wishes, student)| line(student, wishes)).collect();
+    let lines: Vec<String> = lines
+        .map(|(wishes, student)| line(student, wishes))
+        .collect();
     lines.concat().into_bytes()
 }
 
@@ -145,7 +172,8 @@ pub fn other_gaps(rng: &mut Rng, case: &Case) -> Case {
 /// Characters that a line has, and some that it may not have.
 pub const CHARACTERS: &[u8] = b"0123456789{},-: \n\r\t+;.x\0\x0b/[]|\x7f\x80\xad\xff";
 
-/// Changes, adds, takes away, repeats or swaps one character; or a line gets a carriage return.
+/// Changes, adds, takes away or repeats one character, or swaps it with one before it; or a line gets
+/// a carriage return.
 fn damage_once(rng: &mut Rng, text: &mut Vec<u8>) {
     let other = match rng.chance(80) {
         true => rng.pick(&CHARACTERS[..18]),
@@ -159,13 +187,12 @@ fn damage_once(rng: &mut Rng, text: &mut Vec<u8>) {
         }
         return;
     }
-    match rng.below(7) {
+    match rng.below(9) {
         0 | 1 => text[at] = other,
         2 => text.insert(at, other),
         3 => drop(text.remove(at)),
         4 => text.insert(at, text[at]),
-        5 if at > 0 => text.swap(at - 1, at),
-        5 => text[at] = other,
+        5..8 => text.swap(at.saturating_sub(rng.pick(&[1, 2, 2])), at),
         _ => {
             let ends = text.iter().enumerate().filter(|(_, byte)| **byte == b'\n');
             let ends: Vec<usize> = ends.map(|(end, _)| end).collect();

@@ -7,6 +7,7 @@ pub mod brute;
 pub mod causes;
 pub mod fast;
 pub mod gen;
+pub mod kinds;
 pub mod lending;
 pub mod mutants;
 pub mod rows;

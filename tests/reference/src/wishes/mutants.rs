@@ -3,8 +3,8 @@
 //! A reader that accepts too much is the right one behind something that mends the text.
 
 use super::{
-    answer, cut_line, item_text, misnames, named_in, room_for_text, wishes, Answer, Group, Named, Request, Task, FORM,
-    NAMES, NONE,
+    answer, cut_line, item_text, misnames, named_in, room_for_text, wishes, Answer, Group, Named,
+    Request, Task, FORM, NAMES, NONE,
 };
 use crate::literal;
 use crate::model::*;
@@ -29,7 +29,9 @@ pub fn controls() -> Vec<Mutant> {
         on_text("no character mended", |_, text| text.to_vec()),
         on_line("no line mended", |line, _| line.to_vec()),
         on_names("no name mended", |_, _, named| named),
-        on_lines("lines written with nothing changed", |_, _, wishes| line(&Style::RIGHT, wishes)),
+        on_lines("lines written with nothing changed", |_, _, wishes| {
+            line(&Style::RIGHT, wishes)
+        }),
         on_copy("nothing put into the copy", |_, _| ()),
         on_refused("the same refusal", |_, refusal| refusal),
     ]
@@ -57,7 +59,9 @@ pub fn of_size() -> Vec<Mutant> {
         on_copy("64 groups at most", |_, copy| {
             each_group(copy, |_, group| group.min(64))
         }),
-        on_copy("groups in 6 bits", |_, copy| each_group(copy, |_, group| group & 63)),
+        on_copy("groups in 6 bits", |_, copy| {
+            each_group(copy, |_, group| group & 63)
+        }),
         on_lines("forgets workshop 64", |_, _, wishes| {
             line(&Style::RIGHT, &without(wishes, |item| item == 64))
         }),
@@ -110,21 +114,32 @@ fn on_text(name: &'static str, mend: MendText) -> Mutant {
 }
 
 const OF_TEXT: [(&str, MendText); 9] = [
-    ("a missing line feed at the end accepted", |_, text| match text.last() {
-        Some(b'\n') | None => text.to_vec(),
-        Some(_) => [text, b"\n"].concat(),
-    }),
+    (
+        "a missing line feed at the end accepted",
+        |_, text| match text.last() {
+            Some(b'\n') | None => text.to_vec(),
+            Some(_) => [text, b"\n"].concat(),
+        },
+    ),
     ("what is left over accepted", |students, text| {
         lines_of(text).take(students).collect::<Vec<_>>().concat()
     }),
     ("an empty line at the end accepted", |_, text| {
-        text.strip_suffix(b"\n\n").map_or(text.to_vec(), |text| [text, b"\n"].concat())
+        text.strip_suffix(b"\n\n")
+            .map_or(text.to_vec(), |text| [text, b"\n"].concat())
     }),
     ("empty lines accepted", |_, text| {
-        lines_of(text).filter(|line| *line != b"\n").collect::<Vec<_>>().concat()
+        lines_of(text)
+            .filter(|line| *line != b"\n")
+            .collect::<Vec<_>>()
+            .concat()
     }),
-    ("carriage returns accepted", |_, text| replaced(text, b"\r\n", b"\n")),
-    ("a carriage return alone accepted", |_, text| replaced(text, b"\r", b"\n")),
+    ("carriage returns accepted", |_, text| {
+        replaced(text, b"\r\n", b"\n")
+    }),
+    ("a carriage return alone accepted", |_, text| {
+        replaced(text, b"\r", b"\n")
+    }),
     ("NUL passed over", |_, text| replaced(text, b"\0", b"")),
     ("lines missing at the end accepted", |students, text| {
         let mut text = text.to_vec();
@@ -135,7 +150,11 @@ const OF_TEXT: [(&str, MendText); 9] = [
     }),
     ("lines in any order", |_, text| {
         let mut lines: Vec<&[u8]> = lines_of(text).collect();
-        lines.sort_by_key(|line| line.iter().position(|&byte| byte == b':').map(|end| (end, &line[..end])));
+        lines.sort_by_key(|line| {
+            line.iter()
+                .position(|&byte| byte == b':')
+                .map(|end| (end, &line[..end]))
+        });
         lines.concat()
     }),
 ];
@@ -208,7 +227,9 @@ const OF_LINES_READ: [(&str, MendLine); 27] = [
     }),
     ("one item in braces accepted", |line, _| {
         let mut mended = line.to_vec();
-        while let Some((open, close)) = braces(&mended, |inside| !inside.contains(&b',') && !inside.is_empty()) {
+        while let Some((open, close)) = braces(&mended, |inside| {
+            !inside.contains(&b',') && !inside.is_empty()
+        }) {
             mended.remove(close);
             mended.remove(open);
         }
@@ -218,13 +239,19 @@ const OF_LINES_READ: [(&str, MendLine); 27] = [
         let line = replaced(line, b",{}", b"");
         replaced(&line, b"{},", b"")
     }),
-    ("empty braces taken for none", |line, _| replaced(line, b"{}", b"-")),
+    ("empty braces taken for none", |line, _| {
+        replaced(line, b"{}", b"-")
+    }),
     ("an empty group accepted", |line, _| {
         let line = replaced(line, b",,", b",");
         replaced(&line, b": ,", b": ")
     }),
-    ("a comma at the end accepted", |line, _| replaced(line, b",\n", b"\n")),
-    ("a comma at the end of braces accepted", |line, _| replaced(line, b",}", b"}")),
+    ("a comma at the end accepted", |line, _| {
+        replaced(line, b",\n", b"\n")
+    }),
+    ("a comma at the end of braces accepted", |line, _| {
+        replaced(line, b",}", b"}")
+    }),
     ("a line without none accepted", |line, _| {
         if line.contains(&b'-') {
             return line.to_vec();
@@ -237,10 +264,18 @@ const OF_LINES_READ: [(&str, MendLine); 27] = [
         [head, &replaced(tail, b",-", b"")].concat()
     }),
     ("-- accepted", |line, _| replaced(line, b"--", b"-")),
-    ("blanks behind commas accepted", |line, _| replaced(line, b", ", b",")),
-    ("blanks at the end accepted", |line, _| replaced(line, b" \n", b"\n")),
-    ("two blanks accepted", |line, _| replaced(line, b":  ", b": ")),
-    ("a blank before the colon accepted", |line, _| replaced(line, b" :", b":")),
+    ("blanks behind commas accepted", |line, _| {
+        replaced(line, b", ", b",")
+    }),
+    ("blanks at the end accepted", |line, _| {
+        replaced(line, b" \n", b"\n")
+    }),
+    ("two blanks accepted", |line, _| {
+        replaced(line, b":  ", b": ")
+    }),
+    ("a blank before the colon accepted", |line, _| {
+        replaced(line, b" :", b":")
+    }),
     ("a blank before the line accepted", |line, _| {
         line.strip_prefix(b" ").unwrap_or(line).to_vec()
     }),
@@ -248,7 +283,9 @@ const OF_LINES_READ: [(&str, MendLine); 27] = [
         let line = replaced(line, b": ", b":");
         replaced(&line, b":", b": ")
     }),
-    ("a tab behind the colon accepted", |line, _| replaced(line, b":\t", b": ")),
+    ("a tab behind the colon accepted", |line, _| {
+        replaced(line, b":\t", b": ")
+    }),
     ("a closing brace missing at the end accepted", |line, _| {
         let opened = line.iter().filter(|&&byte| byte == b'{').count();
         let closed = line.iter().filter(|&&byte| byte == b'}').count();
@@ -269,15 +306,18 @@ const OF_LINES_READ: [(&str, MendLine); 27] = [
     ("the student's number not read", |line, student| {
         let (head, tail) = halves(line);
         match head {
-            [digits @ .., b':', b' '] if !digits.is_empty() && digits.iter().all(u8::is_ascii_digit) => {
+            [digits @ .., b':', b' ']
+                if !digits.is_empty() && digits.iter().all(u8::is_ascii_digit) =>
+            {
                 [format!("{student}: ").as_bytes(), tail].concat()
             }
             _ => line.to_vec(),
         }
     }),
-    ("the student's number wraps at 2^8 and 2^16", |line, student| {
-        head_wrapped(line, student, |number| number & 0xffff)
-    }),
+    (
+        "the student's number wraps at 2^8 and 2^16",
+        |line, student| head_wrapped(line, student, |number| number & 0xffff),
+    ),
     ("the student's number wraps at 2^32", |line, student| {
         head_wrapped(line, student, |number| number & 0xffff_ffff)
     }),
@@ -305,7 +345,9 @@ fn braces(line: &[u8], inside: impl Fn(&[u8]) -> bool) -> Option<(usize, usize)>
 /// A number by its digits that wraps at 2 to the power 128.
 fn wrapped(digits: &[u8]) -> u128 {
     digits.iter().fold(0u128, |number, digit| {
-        number.wrapping_mul(10).wrapping_add(u128::from(digit - b'0'))
+        number
+            .wrapping_mul(10)
+            .wrapping_add(u128::from(digit - b'0'))
     })
 }
 
@@ -315,7 +357,11 @@ fn head_wrapped(line: &[u8], student: usize, wrap: fn(u128) -> u128) -> Vec<u8> 
     match head {
         [digits @ .., b':', b' '] if digits.iter().all(u8::is_ascii_digit) => {
             let right = !digits.starts_with(b"0") && wrap(wrapped(digits)) == student as u128;
-            let head = if right { format!("{student}: ").into_bytes() } else { head.to_vec() };
+            let head = if right {
+                format!("{student}: ").into_bytes()
+            } else {
+                head.to_vec()
+            };
             [&head[..], tail].concat()
         }
         _ => line.to_vec(),
@@ -338,7 +384,9 @@ fn on_names(name: &'static str, mend: MendNames) -> Mutant {
         let lines = lines_of(text).zip(1..);
         let mended: Vec<Vec<u8>> = lines
             .map(|(line, student)| {
-                let named = line.strip_suffix(b"\n").and_then(|line| named_in(line, student));
+                let named = line
+                    .strip_suffix(b"\n")
+                    .and_then(|line| named_in(line, student));
                 match named {
                     Some(named) => text_of(student, &mend(&case, student, owned(&named))),
                     None => line.to_vec(),
@@ -353,7 +401,8 @@ fn on_names(name: &'static str, mend: MendNames) -> Mutant {
 }
 
 fn owned(named: &Named) -> Owned {
-    let group = |group: &Vec<Option<&[u8]>>| group.iter().map(|item| item.map(<[u8]>::to_vec)).collect();
+    let group =
+        |group: &Vec<Option<&[u8]>>| group.iter().map(|item| item.map(<[u8]>::to_vec)).collect();
     named.iter().map(group).collect()
 }
 
@@ -380,22 +429,34 @@ fn named_where(named: Owned, kept: impl FnMut(&Option<Vec<u8>>) -> bool + Copy) 
 /// The workshops that the student has a pair with, as digits.
 fn hers(case: &Case, student: u16) -> Vec<Vec<u8>> {
     let pairs = case.pairs.iter().filter(|pair| pair.student == student);
-    pairs.map(|pair| pair.workshop.to_string().into_bytes()).collect()
+    pairs
+        .map(|pair| pair.workshop.to_string().into_bytes())
+        .collect()
 }
 
 /// The numbers of a line after the wrapping.
 fn names_wrapped(named: Owned, wrap: fn(u128) -> u128) -> Owned {
     let number = |digits: &Vec<u8>| wrap(wrapped(digits)).max(1).to_string().into_bytes();
-    let group = |group: &Vec<Option<Vec<u8>>>| group.iter().map(|item| item.as_ref().map(number)).collect();
+    let group =
+        |group: &Vec<Option<Vec<u8>>>| group.iter().map(|item| item.as_ref().map(number)).collect();
     named.iter().map(group).collect()
 }
 
 const OF_NAMES: [(&str, MendNames); 15] = [
-    ("named twice accepted", |_, _, named| first_names(named, true)),
-    ("named twice in one group accepted", |_, _, named| first_names(named, false)),
+    ("named twice accepted", |_, _, named| {
+        first_names(named, true)
+    }),
+    ("named twice in one group accepted", |_, _, named| {
+        first_names(named, false)
+    }),
     ("missing accepted", |case, student, mut named| {
         for digits in hers(case, student) {
-            if !named.iter().flatten().flatten().any(|other| *other == digits) {
+            if !named
+                .iter()
+                .flatten()
+                .flatten()
+                .any(|other| *other == digits)
+            {
                 named.push(vec![Some(digits)]);
             }
         }
@@ -403,43 +464,68 @@ const OF_NAMES: [(&str, MendNames); 15] = [
     }),
     ("no names at all accepted", |case, student, mut named| {
         if named.len() == 1 && named[0].len() == 1 {
-            named.extend(hers(case, student).into_iter().map(|digits| vec![Some(digits)]));
+            named.extend(
+                hers(case, student)
+                    .into_iter()
+                    .map(|digits| vec![Some(digits)]),
+            );
         }
         named
     }),
     ("without a pair accepted", |case, student, named| {
         let hers = hers(case, student);
-        named_where(named, |item| item.as_ref().is_none_or(|digits| hers.contains(digits)))
-    }),
-    ("without a pair, but in the case, accepted", |case, student, named| {
-        let hers = hers(case, student);
-        let known = case.workshops.len() as u128;
         named_where(named, |item| {
-            item.as_ref().is_none_or(|digits| {
-                let in_case = digits.len() < 4 && wrapped(digits) <= known;
-                hers.contains(digits) || !in_case
-            })
+            item.as_ref().is_none_or(|digits| hers.contains(digits))
         })
     }),
+    (
+        "without a pair, but in the case, accepted",
+        |case, student, named| {
+            let hers = hers(case, student);
+            let known = case.workshops.len() as u128;
+            named_where(named, |item| {
+                item.as_ref().is_none_or(|digits| {
+                    let in_case = digits.len() < 4 && wrapped(digits) <= known;
+                    hers.contains(digits) || !in_case
+                })
+            })
+        },
+    ),
     ("numbers above 64 passed over", |_, _, named| {
         named_where(named, |item| {
-            item.as_ref().is_none_or(|digits| digits.len() < 4 && wrapped(digits) <= 64)
+            item.as_ref()
+                .is_none_or(|digits| digits.len() < 4 && wrapped(digits) <= 64)
         })
     }),
-    ("numbers of hundreds of digits passed over", |_, _, named| {
-        named_where(named, |item| item.as_ref().is_none_or(|digits| digits.len() < 100))
+    (
+        "numbers of hundreds of digits passed over",
+        |_, _, named| {
+            named_where(named, |item| {
+                item.as_ref().is_none_or(|digits| digits.len() < 100)
+            })
+        },
+    ),
+    ("numbers wrap at 2^8", |_, _, named| {
+        names_wrapped(named, |number| number & 0xff)
     }),
-    ("numbers wrap at 2^8", |_, _, named| names_wrapped(named, |number| number & 0xff)),
-    ("numbers wrap at 2^16", |_, _, named| names_wrapped(named, |number| number & 0xffff)),
-    ("numbers wrap at 2^31", |_, _, named| names_wrapped(named, |number| number & 0x7fff_ffff)),
-    ("numbers wrap at 2^32", |_, _, named| names_wrapped(named, |number| number & 0xffff_ffff)),
+    ("numbers wrap at 2^16", |_, _, named| {
+        names_wrapped(named, |number| number & 0xffff)
+    }),
+    ("numbers wrap at 2^31", |_, _, named| {
+        names_wrapped(named, |number| number & 0x7fff_ffff)
+    }),
+    ("numbers wrap at 2^32", |_, _, named| {
+        names_wrapped(named, |number| number & 0xffff_ffff)
+    }),
     ("numbers wrap at 2^63", |_, _, named| {
         names_wrapped(named, |number| number & u128::from(u64::MAX >> 1))
     }),
     ("numbers wrap at 2^64", |_, _, named| {
         names_wrapped(named, |number| number & u128::from(u64::MAX))
     }),
-    ("numbers wrap at 2^128", |_, _, named| names_wrapped(named, |number| number)),
+    ("numbers wrap at 2^128", |_, _, named| {
+        names_wrapped(named, |number| number)
+    }),
 ];
 
 /// The first time that each item is named in the line, or in the group.
@@ -497,21 +583,28 @@ fn line(style: &Style, wishes: &[Group]) -> String {
         }
     };
     let groups: Vec<String> = wishes.iter().map(group).collect();
-    format!("{}{}{}", style.colon, groups.join(style.between_groups), style.end)
+    format!(
+        "{}{}{}",
+        style.colon,
+        groups.join(style.between_groups),
+        style.end
+    )
 }
 
 type WriteLine = fn(&Case, u16, &[Group]) -> String;
 
 /// The right one, but for each line behind its number.
 fn on_lines(name: &'static str, line: WriteLine) -> Mutant {
-    mutant(name, move |request| match (answer(request), case_of(request)) {
-        (Answer::Done(_), Some(case)) if request.writes() => {
-            let numbers = 1..=case.students.len() as u16;
-            let write = |s: u16| format!("{s}{}", line(&case, s, &wishes(&case, s)));
-            let lines: Vec<String> = numbers.map(write).collect();
-            Answer::Done(lines.concat().into_bytes())
+    mutant(name, move |request| {
+        match (answer(request), case_of(request)) {
+            (Answer::Done(_), Some(case)) if request.writes() => {
+                let numbers = 1..=case.students.len() as u16;
+                let write = |s: u16| format!("{s}{}", line(&case, s, &wishes(&case, s)));
+                let lines: Vec<String> = numbers.map(write).collect();
+                Answer::Done(lines.concat().into_bytes())
+            }
+            (right, _) => right,
         }
-        (right, _) => right,
     })
 }
 
@@ -536,46 +629,75 @@ const OF_LINES_WRITTEN: [(&str, WriteLine); 18] = [
         line(&Style::RIGHT, &rearranged(wishes, |group| group.reverse()))
     }),
     ("items rise as text", |_, _, wishes| {
-        line(&Style::RIGHT, &rearranged(wishes, |group| group.sort_by_key(|&item| item_text(item))))
+        line(
+            &Style::RIGHT,
+            &rearranged(wishes, |group| group.sort_by_key(|&item| item_text(item))),
+        )
     }),
     ("none last in braces", |_, _, wishes| {
         let last = |group: &mut Group| group.sort_by_key(|&item| (item == NONE, item));
         line(&Style::RIGHT, &rearranged(wishes, last))
     }),
     ("workshops fall behind none", |_, _, wishes| {
-        let falling = |group: &mut Group| group.sort_by_key(|&item| (item != NONE, u16::MAX - item));
+        let falling =
+            |group: &mut Group| group.sort_by_key(|&item| (item != NONE, u16::MAX - item));
         line(&Style::RIGHT, &rearranged(wishes, falling))
     }),
     ("one item in braces", |_, _, wishes| {
-        let style = Style { braces_from: 1, ..Style::RIGHT };
+        let style = Style {
+            braces_from: 1,
+            ..Style::RIGHT
+        };
         line(&style, wishes)
     }),
     ("two items without braces", |_, _, wishes| {
-        let style = Style { braces_from: 3, ..Style::RIGHT };
+        let style = Style {
+            braces_from: 3,
+            ..Style::RIGHT
+        };
         line(&style, wishes)
     }),
     ("no braces", |_, _, wishes| {
-        let style = Style { braces_from: 99, ..Style::RIGHT };
+        let style = Style {
+            braces_from: 99,
+            ..Style::RIGHT
+        };
         line(&style, wishes)
     }),
     ("round brackets", |_, _, wishes| {
-        let style = Style { open: "(", close: ")", ..Style::RIGHT };
+        let style = Style {
+            open: "(",
+            close: ")",
+            ..Style::RIGHT
+        };
         line(&style, wishes)
     }),
     ("a blank behind each comma", |_, _, wishes| {
-        let style = Style { between_groups: ", ", ..Style::RIGHT };
+        let style = Style {
+            between_groups: ", ",
+            ..Style::RIGHT
+        };
         line(&style, wishes)
     }),
     ("a blank behind each comma in braces", |_, _, wishes| {
-        let style = Style { between_items: ", ", ..Style::RIGHT };
+        let style = Style {
+            between_items: ", ",
+            ..Style::RIGHT
+        };
         line(&style, wishes)
     }),
     ("no blank behind the colon", |_, _, wishes| {
-        let style = Style { colon: ":", ..Style::RIGHT };
+        let style = Style {
+            colon: ":",
+            ..Style::RIGHT
+        };
         line(&style, wishes)
     }),
     ("carriage return and line feed", |_, _, wishes| {
-        let style = Style { end: "\r\n", ..Style::RIGHT };
+        let style = Style {
+            end: "\r\n",
+            ..Style::RIGHT
+        };
         line(&style, wishes)
     }),
     ("worst first", |_, _, wishes| {
@@ -583,11 +705,17 @@ const OF_LINES_WRITTEN: [(&str, WriteLine); 18] = [
         line(&Style::RIGHT, &turned)
     }),
     ("what is behind none left out", |_, _, wishes| {
-        let none = wishes.iter().position(|group| group.contains(&NONE)).unwrap_or(0);
+        let none = wishes
+            .iter()
+            .position(|group| group.contains(&NONE))
+            .unwrap_or(0);
         line(&Style::RIGHT, &wishes[..=none])
     }),
     ("none always apart", |_, _, wishes| {
-        let at = wishes.iter().position(|group| group.contains(&NONE)).unwrap_or(0);
+        let at = wishes
+            .iter()
+            .position(|group| group.contains(&NONE))
+            .unwrap_or(0);
         let mut apart = without(wishes, |item| item == NONE);
         apart.insert(at.min(apart.len()), vec![NONE]);
         line(&Style::RIGHT, &apart)
@@ -597,12 +725,20 @@ const OF_LINES_WRITTEN: [(&str, WriteLine); 18] = [
     }),
     ("gaps kept", |case, student, wishes| {
         let mut text = String::new();
-        let last_group = wishes.last().map_or(0, |group| group_number(case, student, group[0]));
+        let last_group = wishes
+            .last()
+            .map_or(0, |group| group_number(case, student, group[0]));
         for number in 1..=last_group {
-            let group = wishes.iter().find(|group| group_number(case, student, group[0]) == number);
+            let group = wishes
+                .iter()
+                .find(|group| group_number(case, student, group[0]) == number);
             text += if number > 1 { "," } else { "" };
             if let Some(group) = group {
-                let bare = Style { colon: "", end: "", ..Style::RIGHT };
+                let bare = Style {
+                    colon: "",
+                    end: "",
+                    ..Style::RIGHT
+                };
                 text += &line(&bare, std::slice::from_ref(group));
             }
         }
@@ -619,28 +755,43 @@ const OF_LINES_WRITTEN: [(&str, WriteLine); 18] = [
 
 /// The number of the group in which the student has an item.
 fn group_number(case: &Case, student: u16, item: u16) -> u16 {
-    let found = case.pairs.iter().find(|p| p.student == student && p.workshop == item);
-    found.map_or(case.students[usize::from(student) - 1].line, |pair| pair.student_group)
+    let found = case
+        .pairs
+        .iter()
+        .find(|p| p.student == student && p.workshop == item);
+    found.map_or(case.students[usize::from(student) - 1].line, |pair| {
+        pair.student_group
+    })
 }
 
 type ChangeText = fn(&Case, &[u8]) -> Vec<u8>;
 
 /// The right text, changed.
 fn on_written(name: &'static str, change: ChangeText) -> Mutant {
-    mutant(name, move |request| match (answer(request), case_of(request)) {
-        (Answer::Done(text), Some(case)) if request.writes() => Answer::Done(change(&case, &text)),
-        (right, _) => right,
+    mutant(name, move |request| {
+        match (answer(request), case_of(request)) {
+            (Answer::Done(text), Some(case)) if request.writes() => {
+                Answer::Done(change(&case, &text))
+            }
+            (right, _) => right,
+        }
     })
 }
 
 const OF_TEXT_WRITTEN: [(&str, ChangeText); 6] = [
-    ("the last line feed left out", |_, text| text[..text.len() - 1].to_vec()),
+    ("the last line feed left out", |_, text| {
+        text[..text.len() - 1].to_vec()
+    }),
     ("a NUL at the end", |_, text| [text, b"\0"].concat()),
     ("an empty line at the end", |_, text| [text, b"\n"].concat()),
     ("students without pairs left out", |case, text| {
         let has = |student: u16| case.pairs.iter().any(|pair| pair.student == student);
         let lines = lines_of(text).zip(1..);
-        lines.filter(|&(_, s)| has(s)).map(|(line, _)| line).collect::<Vec<_>>().concat()
+        lines
+            .filter(|&(_, s)| has(s))
+            .map(|(line, _)| line)
+            .collect::<Vec<_>>()
+            .concat()
     }),
     ("the last student left out", |_, text| {
         let lines: Vec<&[u8]> = lines_of(text).collect();
@@ -670,7 +821,10 @@ fn on_copy(name: &'static str, change: ChangeCopy) -> Mutant {
 
 /// Changes the lines and the groups, each told the kind of its record.
 fn each_group(copy: &mut [u8], change: impl Fn(u8, u16) -> u16) {
-    for record in copy.chunks_exact_mut(CASE_RECORD).filter(|record| record[0] != 2) {
+    for record in copy
+        .chunks_exact_mut(CASE_RECORD)
+        .filter(|record| record[0] != 2)
+    {
         let group = u16::from_le_bytes([record[6], record[7]]);
         let group = change(record[0], group);
         record[6..8].copy_from_slice(&group.to_le_bytes());
@@ -684,56 +838,100 @@ fn each_record(copy: &mut [u8], kind: u8, change: impl Fn(&mut [u8])) {
 }
 
 const OF_COPIES: [(&str, ChangeCopy); 19] = [
-    ("lines one too high", |_, copy| each_group(copy, |kind, group| group + u16::from(kind == 1))),
-    ("lines counted from 0", |_, copy| each_group(copy, |kind, group| group - u16::from(kind == 1))),
-    ("groups counted from 0", |_, copy| each_group(copy, |kind, group| group - u16::from(kind == 3))),
-    ("lines and groups counted from 0", |_, copy| each_group(copy, |_, group| group - 1)),
+    ("lines one too high", |_, copy| {
+        each_group(copy, |kind, group| group + u16::from(kind == 1))
+    }),
+    ("lines counted from 0", |_, copy| {
+        each_group(copy, |kind, group| group - u16::from(kind == 1))
+    }),
+    ("groups counted from 0", |_, copy| {
+        each_group(copy, |kind, group| group - u16::from(kind == 3))
+    }),
+    ("lines and groups counted from 0", |_, copy| {
+        each_group(copy, |_, group| group - 1)
+    }),
     ("none's group not counted", |_, copy| {
-        let lines: Vec<u16> = copy.chunks(CASE_RECORD).take_while(|r| r[0] == 1).map(|r| u16::from(r[6])).collect();
+        let lines: Vec<u16> = copy
+            .chunks(CASE_RECORD)
+            .take_while(|r| r[0] == 1)
+            .map(|r| u16::from(r[6]))
+            .collect();
         each_record(copy, 3, |record| {
             let line = lines[usize::from(record[2]) - 1];
             record[6] -= u8::from(u16::from(record[6]) > line);
         });
     }),
-    ("the lines of the case kept", |request, copy| keep(&request.case, copy, 1)),
-    ("the groups of the case kept", |request, copy| keep(&request.case, copy, 3)),
-    ("the group numbers of the case kept, where there are as many", |request, copy| {
-        let case = literal::read_case(&request.case).expect("it was not refused");
-        for student in 1..=case.students.len() as u16 {
-            let hers = case.pairs.iter().filter(|pair| pair.student == student);
-            let mut numbers: Vec<u16> = hers.map(|pair| pair.student_group).collect();
-            numbers.push(case.students[usize::from(student) - 1].line);
-            numbers.sort_unstable();
-            numbers.dedup();
-            for record in copy.chunks_exact_mut(CASE_RECORD) {
-                let own = record[0] != 2 && record[2..4] == student.to_le_bytes();
-                if let Some(number) = numbers.get(usize::from(record[6]).wrapping_sub(1)).filter(|_| own) {
-                    record[6] = *number as u8;
+    ("the lines of the case kept", |request, copy| {
+        keep(&request.case, copy, 1)
+    }),
+    ("the groups of the case kept", |request, copy| {
+        keep(&request.case, copy, 3)
+    }),
+    (
+        "the group numbers of the case kept, where there are as many",
+        |request, copy| {
+            let case = literal::read_case(&request.case).expect("it was not refused");
+            for student in 1..=case.students.len() as u16 {
+                let hers = case.pairs.iter().filter(|pair| pair.student == student);
+                let mut numbers: Vec<u16> = hers.map(|pair| pair.student_group).collect();
+                numbers.push(case.students[usize::from(student) - 1].line);
+                numbers.sort_unstable();
+                numbers.dedup();
+                for record in copy.chunks_exact_mut(CASE_RECORD) {
+                    let own = record[0] != 2 && record[2..4] == student.to_le_bytes();
+                    if let Some(number) = numbers
+                        .get(usize::from(record[6]).wrapping_sub(1))
+                        .filter(|_| own)
+                    {
+                        record[6] = *number as u8;
+                    }
                 }
             }
-        }
+        },
+    ),
+    ("high byte first", |_, copy| {
+        each_group(copy, |_, group| group.swap_bytes())
     }),
-    ("high byte first", |_, copy| each_group(copy, |_, group| group.swap_bytes())),
-    ("at the workshop's group", |_, copy| each_record(copy, 3, |record| record.copy_within(6..8, 8))),
-    ("the line put at the lot", |_, copy| each_record(copy, 1, |record| record.copy_within(6..8, 8))),
-    ("the line put at the stage", |_, copy| each_record(copy, 1, |record| record.copy_within(6..8, 4))),
-    ("the workshops' lines changed", |_, copy| each_record(copy, 2, |record| record[6..8].fill(1))),
-    ("a lot lost", |_, copy| each_record(copy, 1, |record| record[8..10].fill(0))),
-    ("a stage lost", |_, copy| each_record(copy, 1, |record| record[4..6].fill(0))),
-    ("the high byte of a fare lost", |_, copy| each_record(copy, 3, |record| record[11] = 0)),
-    ("the high byte of a workshop's group lost", |_, copy| each_record(copy, 3, |record| record[9] = 0)),
+    ("at the workshop's group", |_, copy| {
+        each_record(copy, 3, |record| record.copy_within(6..8, 8))
+    }),
+    ("the line put at the lot", |_, copy| {
+        each_record(copy, 1, |record| record.copy_within(6..8, 8))
+    }),
+    ("the line put at the stage", |_, copy| {
+        each_record(copy, 1, |record| record.copy_within(6..8, 4))
+    }),
+    ("the workshops' lines changed", |_, copy| {
+        each_record(copy, 2, |record| record[6..8].fill(1))
+    }),
+    ("a lot lost", |_, copy| {
+        each_record(copy, 1, |record| record[8..10].fill(0))
+    }),
+    ("a stage lost", |_, copy| {
+        each_record(copy, 1, |record| record[4..6].fill(0))
+    }),
+    ("the high byte of a fare lost", |_, copy| {
+        each_record(copy, 3, |record| record[11] = 0)
+    }),
+    ("the high byte of a workshop's group lost", |_, copy| {
+        each_record(copy, 3, |record| record[9] = 0)
+    }),
     ("the last pair not changed", |request, copy| {
         let last = copy.len() - CASE_RECORD;
         if copy[last] == 3 {
             copy[last..].copy_from_slice(&request.case[last..]);
         }
     }),
-    ("the last record left out", |_, copy| copy.truncate(copy.len() - CASE_RECORD)),
+    ("the last record left out", |_, copy| {
+        copy.truncate(copy.len() - CASE_RECORD)
+    }),
 ];
 
 /// The groups, or the lines, of the case.
 fn keep(case: &[u8], copy: &mut [u8], kind: u8) {
-    let records = copy.chunks_exact_mut(CASE_RECORD).zip(case.chunks_exact(CASE_RECORD));
+    let records = copy
+        .chunks_exact_mut(CASE_RECORD)
+        .zip(case.chunks_exact(CASE_RECORD));
     for (record, old) in records.filter(|(record, _)| record[0] == kind) {
         record[6..8].copy_from_slice(&old[6..8]);
     }
@@ -752,31 +950,72 @@ fn on_refused(name: &'static str, change: ChangeRefusal) -> Mutant {
 }
 
 const OF_REFUSALS: [(&str, ChangeRefusal); 18] = [
-    ("15 for 14", |_, (number, place)| (if number == FORM { NAMES } else { number }, place)),
-    ("14 for 15", |_, (number, place)| (if number == NAMES { FORM } else { number }, place)),
-    ("14 without its place", |_, (number, place)| (number, if number == FORM { 0 } else { place })),
-    ("15 without its place", |_, (number, place)| (number, if number == NAMES { 0 } else { place })),
-    ("14 with the place from 1", |_, (number, place)| (number, place + usize::from(number == FORM))),
-    ("15 with the place from 1", |_, (number, place)| (number, place + usize::from(number == NAMES))),
-    ("left over, with the last line's place", |request, (number, place)| {
-        (number, place - usize::from(number == FORM && place == students(request)))
+    ("15 for 14", |_, (number, place)| {
+        (if number == FORM { NAMES } else { number }, place)
     }),
+    ("14 for 15", |_, (number, place)| {
+        (if number == NAMES { FORM } else { number }, place)
+    }),
+    ("14 without its place", |_, (number, place)| {
+        (number, if number == FORM { 0 } else { place })
+    }),
+    ("15 without its place", |_, (number, place)| {
+        (number, if number == NAMES { 0 } else { place })
+    }),
+    ("14 with the place from 1", |_, (number, place)| {
+        (number, place + usize::from(number == FORM))
+    }),
+    ("15 with the place from 1", |_, (number, place)| {
+        (number, place + usize::from(number == NAMES))
+    }),
+    (
+        "left over, with the last line's place",
+        |request, (number, place)| {
+            (
+                number,
+                place - usize::from(number == FORM && place == students(request)),
+            )
+        },
+    ),
     ("left over, with place 0", |request, (number, place)| {
-        (number, if number == FORM && place == students(request) { 0 } else { place })
+        (
+            number,
+            if number == FORM && place == students(request) {
+                0
+            } else {
+                place
+            },
+        )
     }),
-    ("left over, with the place of its last line", |request, (number, place)| {
-        let lines = lines_of(request.text()).count();
-        let over = number == FORM && place == students(request);
-        (number, if over { lines - 1 } else { place })
-    }),
-    ("a missing line, with the place of the last one", |request, (number, place)| {
-        let missing = number == FORM && place == lines_of(request.text()).count();
-        (number, if missing { place.saturating_sub(1) } else { place })
-    }),
-    ("a missing line, with the last student's place", |request, (number, place)| {
-        let missing = number == FORM && place == lines_of(request.text()).count();
-        (number, if missing { students(request) } else { place })
-    }),
+    (
+        "left over, with the place of its last line",
+        |request, (number, place)| {
+            let lines = lines_of(request.text()).count();
+            let over = number == FORM && place == students(request);
+            (number, if over { lines - 1 } else { place })
+        },
+    ),
+    (
+        "a missing line, with the place of the last one",
+        |request, (number, place)| {
+            let missing = number == FORM && place == lines_of(request.text()).count();
+            (
+                number,
+                if missing {
+                    place.saturating_sub(1)
+                } else {
+                    place
+                },
+            )
+        },
+    ),
+    (
+        "a missing line, with the last student's place",
+        |request, (number, place)| {
+            let missing = number == FORM && place == lines_of(request.text()).count();
+            (number, if missing { students(request) } else { place })
+        },
+    ),
     ("15 for a missing line", |request, (number, place)| {
         let missing = number == FORM && place == lines_of(request.text()).count();
         (if missing { NAMES } else { number }, place)
@@ -785,28 +1024,46 @@ const OF_REFUSALS: [(&str, ChangeRefusal); 18] = [
         let zero = number == FORM && departs_only_by_zero(request, place);
         (if zero { NAMES } else { number }, place)
     }),
-    ("14 for a number of more than three digits", |request, (number, place)| {
-        long_number(request, (number, place), 3)
-    }),
-    ("14 for a number of more than ten digits", |request, (number, place)| {
-        long_number(request, (number, place), 10)
-    }),
-    ("14 for a number of more than twenty digits", |request, (number, place)| {
-        long_number(request, (number, place), 20)
-    }),
-    ("14 for a workshop that is not in the case", |request, (number, place)| {
-        let named = line_at(request, place).and_then(|line| named_in(line, place as u16 + 1));
-        let workshops = request.case.chunks(CASE_RECORD).filter(|record| record[0] == 2).count() as u128;
-        let far = |digits: &&[u8]| digits.len() > 3 || wrapped(digits) > workshops;
-        let any = named.is_some_and(|named| named.iter().flatten().flatten().any(far));
-        (if number == NAMES && any { FORM } else { number }, place)
-    }),
-    ("14 for a workshop named twice in one group", |request, (number, place)| {
-        let named = line_at(request, place).and_then(|line| named_in(line, place as u16 + 1));
-        let twice = |group: &Vec<Option<&[u8]>>| group.iter().enumerate().any(|(at, item)| group[..at].contains(item));
-        let any = named.is_some_and(|named| named.iter().any(twice));
-        (if number == NAMES && any { FORM } else { number }, place)
-    }),
+    (
+        "14 for a number of more than three digits",
+        |request, (number, place)| long_number(request, (number, place), 3),
+    ),
+    (
+        "14 for a number of more than ten digits",
+        |request, (number, place)| long_number(request, (number, place), 10),
+    ),
+    (
+        "14 for a number of more than twenty digits",
+        |request, (number, place)| long_number(request, (number, place), 20),
+    ),
+    (
+        "14 for a workshop that is not in the case",
+        |request, (number, place)| {
+            let named = line_at(request, place).and_then(|line| named_in(line, place as u16 + 1));
+            let workshops = request
+                .case
+                .chunks(CASE_RECORD)
+                .filter(|record| record[0] == 2)
+                .count() as u128;
+            let far = |digits: &&[u8]| digits.len() > 3 || wrapped(digits) > workshops;
+            let any = named.is_some_and(|named| named.iter().flatten().flatten().any(far));
+            (if number == NAMES && any { FORM } else { number }, place)
+        },
+    ),
+    (
+        "14 for a workshop named twice in one group",
+        |request, (number, place)| {
+            let named = line_at(request, place).and_then(|line| named_in(line, place as u16 + 1));
+            let twice = |group: &Vec<Option<&[u8]>>| {
+                group
+                    .iter()
+                    .enumerate()
+                    .any(|(at, item)| group[..at].contains(item))
+            };
+            let any = named.is_some_and(|named| named.iter().any(twice));
+            (if number == NAMES && any { FORM } else { number }, place)
+        },
+    ),
 ];
 
 /// The line at a place, without its line feed.
@@ -836,55 +1093,91 @@ type Other = fn(&Request) -> Answer;
 
 /// What a text is refused for if its causes are tested in another order.
 const OF_ORDER: [(&str, Other); 8] = [
-    ("15 before 14 in a line", |request| match (answer(request), case_of(request)) {
-        (Answer::Refused { number: FORM, place }, Some(case)) if misnames_loosely(request, &case, place) => {
-            refused((NAMES, place))
+    ("15 before 14 in a line", |request| {
+        match (answer(request), case_of(request)) {
+            (
+                Answer::Refused {
+                    number: FORM,
+                    place,
+                },
+                Some(case),
+            ) if misnames_loosely(request, &case, place) => refused((NAMES, place)),
+            (right, _) => right,
         }
-        (right, _) => right,
     }),
-    ("14 over the whole text, then 15", |request| match answer(request) {
-        right @ Answer::Refused { number: NAMES, .. } => {
-            first_departure(request).map_or(right, |place| refused((FORM, place)))
+    ("14 over the whole text, then 15", |request| {
+        match answer(request) {
+            right @ Answer::Refused { number: NAMES, .. } => {
+                first_departure(request).map_or(right, |place| refused((FORM, place)))
+            }
+            right => right,
         }
-        right => right,
     }),
-    ("15 over the whole text, then 14", |request| match (answer(request), case_of(request)) {
-        (right @ Answer::Refused { number: FORM, .. }, Some(case)) => {
-            first_misnamed(request, &case).map_or(right, |place| refused((NAMES, place)))
+    ("15 over the whole text, then 14", |request| {
+        match (answer(request), case_of(request)) {
+            (right @ Answer::Refused { number: FORM, .. }, Some(case)) => {
+                first_misnamed(request, &case).map_or(right, |place| refused((NAMES, place)))
+            }
+            (right, _) => right,
         }
-        (right, _) => right,
     }),
-    ("what is left over before the lines", |request| match (answer(request), case_of(request)) {
-        (right, Some(case)) if !request.writes() && !right.is_refused(6) => {
-            let over = lines_of(request.text()).count() > case.students.len();
-            if over { refused((FORM, case.students.len())) } else { right }
+    ("what is left over before the lines", |request| {
+        match (answer(request), case_of(request)) {
+            (right, Some(case)) if !request.writes() && !right.is_refused(6) => {
+                let over = lines_of(request.text()).count() > case.students.len();
+                if over {
+                    refused((FORM, case.students.len()))
+                } else {
+                    right
+                }
+            }
+            (right, _) => right,
         }
-        (right, _) => right,
     }),
-    ("a missing line before the lines", |request| match (answer(request), case_of(request)) {
-        (right, Some(case)) if !request.writes() && !right.is_refused(6) => {
-            let lines = request.text().iter().filter(|&&byte| byte == b'\n').count();
-            if lines < case.students.len() { refused((FORM, lines)) } else { right }
+    ("a missing line before the lines", |request| {
+        match (answer(request), case_of(request)) {
+            (right, Some(case)) if !request.writes() && !right.is_refused(6) => {
+                let lines = request.text().iter().filter(|&&byte| byte == b'\n').count();
+                if lines < case.students.len() {
+                    refused((FORM, lines))
+                } else {
+                    right
+                }
+            }
+            (right, _) => right,
         }
-        (right, _) => right,
     }),
-    ("the last faulty line", |request| match (answer(request), case_of(request)) {
-        (right @ Answer::Refused { number: FORM | NAMES, .. }, Some(case)) => {
-            let last = (0..case.students.len()).rev().find_map(|place| fault_at(request, &case, place));
-            last.map_or(right, refused)
+    ("the last faulty line", |request| {
+        match (answer(request), case_of(request)) {
+            (
+                right @ Answer::Refused {
+                    number: FORM | NAMES,
+                    ..
+                },
+                Some(case),
+            ) => {
+                let last = (0..case.students.len())
+                    .rev()
+                    .find_map(|place| fault_at(request, &case, place));
+                last.map_or(right, refused)
+            }
+            (right, _) => right,
         }
-        (right, _) => right,
     }),
     ("14 and 15 before 6", |request| match answer(request) {
-        right @ Answer::Refused { number: 6, .. } if !request.writes() => match answer(&ample(request)) {
-            later @ Answer::Refused { .. } => later,
-            Answer::Done(_) => right,
-        },
+        right @ Answer::Refused { number: 6, .. } if !request.writes() => {
+            match answer(&ample(request)) {
+                later @ Answer::Refused { .. } => later,
+                Answer::Done(_) => right,
+            }
+        }
         right => right,
     }),
-    ("14 of an empty text before all", |request| match &request.task {
-        Task::Read(text) if text.is_empty() => refused((FORM, 0)),
-        _ => answer(request),
+    ("14 of an empty text before all", |request| {
+        match &request.task {
+            Task::Read(text) if text.is_empty() => refused((FORM, 0)),
+            _ => answer(request),
+        }
     }),
 ];
 
@@ -896,7 +1189,10 @@ fn misnames_loosely(request: &Request, case: &Case, place: usize) -> bool {
     let line = lines_of(request.text()).nth(place).unwrap_or_default();
     let (_, tail) = halves(line);
     let runs = tail.split(|byte| !byte.is_ascii_digit());
-    let named: Named = runs.filter(|run| !run.is_empty()).map(|run| vec![Some(run)]).collect();
+    let named: Named = runs
+        .filter(|run| !run.is_empty())
+        .map(|run| vec![Some(run)])
+        .collect();
     misnames(case, place as u16 + 1, &named)
 }
 
@@ -934,7 +1230,11 @@ fn fault_at(request: &Request, case: &Case, place: usize) -> Option<(u16, usize)
 
 /// The bytes that a good case needs.
 fn needed(request: &Request) -> usize {
-    let pairs = request.case.chunks(CASE_RECORD).filter(|record| record[0] == 3).count();
+    let pairs = request
+        .case
+        .chunks(CASE_RECORD)
+        .filter(|record| record[0] == 3)
+        .count();
     match request.task {
         Task::Write => room_for_text(students(request), pairs),
         Task::Read(_) => request.case.len(),
@@ -957,7 +1257,10 @@ fn with_need(request: &Request, need: fn(&Request, &[u8]) -> usize) -> Answer {
             Answer::Done(bytes)
         }
         // Of a text that is faulty the need is told without an answer.
-        Answer::Refused { number: FORM | NAMES, .. } if request.room < need(request, &[]) => refused((6, 0)),
+        Answer::Refused {
+            number: FORM | NAMES,
+            ..
+        } if request.room < need(request, &[]) => refused((6, 0)),
         right => right,
     }
 }
@@ -979,20 +1282,40 @@ fn with_copy_need(request: &Request, need: fn(&Request, &[u8]) -> usize) -> Answ
 }
 
 const OF_ROOM: [(&str, Other); 14] = [
-    ("6 only if the text does not fit", |request| with_text_need(request, |_, text| text.len())),
-    ("6 by one byte more than the text", |request| with_text_need(request, |_, text| text.len() + 1)),
-    ("6 of a text forgotten", |request| with_text_need(request, |_, _| 0)),
-    ("6 of a text by one less", |request| with_text_need(request, |request, _| needed(request) - 1)),
-    ("6 of a text by one more", |request| with_text_need(request, |request, _| needed(request) + 1)),
+    ("6 only if the text does not fit", |request| {
+        with_text_need(request, |_, text| text.len())
+    }),
+    ("6 by one byte more than the text", |request| {
+        with_text_need(request, |_, text| text.len() + 1)
+    }),
+    ("6 of a text forgotten", |request| {
+        with_text_need(request, |_, _| 0)
+    }),
+    ("6 of a text by one less", |request| {
+        with_text_need(request, |request, _| needed(request) - 1)
+    }),
+    ("6 of a text by one more", |request| {
+        with_text_need(request, |request, _| needed(request) + 1)
+    }),
     ("6 of a text by 7 for a student", |request| {
         with_text_need(request, |request, _| needed(request) - students(request))
     }),
-    ("6 of a text by the case's length", |request| with_text_need(request, |request, _| request.case.len())),
-    ("6 of a copy forgotten", |request| with_copy_need(request, |_, _| 0)),
-    ("6 of a copy by one less", |request| with_copy_need(request, |request, _| needed(request) - 1)),
-    ("6 of a copy by one more", |request| with_copy_need(request, |request, _| needed(request) + 1)),
+    ("6 of a text by the case's length", |request| {
+        with_text_need(request, |request, _| request.case.len())
+    }),
+    ("6 of a copy forgotten", |request| {
+        with_copy_need(request, |_, _| 0)
+    }),
+    ("6 of a copy by one less", |request| {
+        with_copy_need(request, |request, _| needed(request) - 1)
+    }),
+    ("6 of a copy by one more", |request| {
+        with_copy_need(request, |request, _| needed(request) + 1)
+    }),
     ("6 of a copy by the text's length too", |request| {
-        with_copy_need(request, |request, _| needed(request).max(request.text().len()))
+        with_copy_need(request, |request, _| {
+            needed(request).max(request.text().len())
+        })
     }),
     ("6 before 5", |request| match answer(request) {
         Answer::Refused { number: 5, .. } if request.room < needed(request) => refused((6, 0)),
@@ -1002,9 +1325,11 @@ const OF_ROOM: [(&str, Other); 14] = [
         Answer::Refused { number: 13, .. } if request.room < needed(request) => refused((6, 0)),
         right => right,
     }),
-    ("6 before all", |request| match request.room < needed(request) {
-        true => refused((6, 0)),
-        false => answer(request),
+    ("6 before all", |request| {
+        match request.room < needed(request) {
+            true => refused((6, 0)),
+            false => answer(request),
+        }
     }),
 ];
 
@@ -1033,11 +1358,16 @@ fn of_case_bytes() -> Vec<Mutant> {
             }
             right => right,
         }),
-        on_refused("13 before 5", |request, refusal| lots_before(5, &request.case, refusal)),
-        on_refused("13 before 4", |request, refusal| lots_before(4, &request.case, refusal)),
-        on_refused("13 names the earlier student", |request, (number, place)| {
-            (number, earlier_lot(&request.case, number, place))
+        on_refused("13 before 5", |request, refusal| {
+            lots_before(5, &request.case, refusal)
         }),
+        on_refused("13 before 4", |request, refusal| {
+            lots_before(4, &request.case, refusal)
+        }),
+        on_refused(
+            "13 names the earlier student",
+            |request, (number, place)| (number, earlier_lot(&request.case, number, place)),
+        ),
         on_refused("13 without its place", |_, (number, place)| {
             (number, if number == 13 { 0 } else { place })
         }),

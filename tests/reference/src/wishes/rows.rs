@@ -22,13 +22,15 @@ fn case(lines: &[u16], workshops: usize, pairs: &[(u16, u16, u16)]) -> Case {
         quota: 256 + number,
         line: 512,
     });
-    let pairs = pairs.iter().map(|&(student, workshop, student_group)| Pair {
-        student,
-        workshop,
-        student_group,
-        workshop_group: 513,
-        fare: 0xabcd,
-    });
+    let pairs = pairs
+        .iter()
+        .map(|&(student, workshop, student_group)| Pair {
+            student,
+            workshop,
+            student_group,
+            workshop_group: 513,
+            fare: 0xabcd,
+        });
     Case {
         students: students.collect(),
         workshops: workshops.collect(),
@@ -78,6 +80,8 @@ pub fn rows() -> Vec<HandRow> {
     rows.extend(of_numbers());
     rows.extend(of_rooms());
     rows.extend(of_case_causes());
+    rows.extend(of_lots());
+    rows.extend(of_unnamed_bytes());
     rows
 }
 
@@ -85,7 +89,11 @@ const LINES_OF_K: &str = "1: {1,2},-\n2: {1,2},-\n3: 1,{-,2}\n";
 
 /// Student 3 of the paper's line, and two students without pairs.
 fn paper() -> Case {
-    case(&[9, 65, 7], 5, &[(3, 1, 5), (3, 2, 2), (3, 4, 5), (3, 5, 8)])
+    case(
+        &[9, 65, 7],
+        5,
+        &[(3, 1, 5), (3, 2, 2), (3, 4, 5), (3, 5, 8)],
+    )
 }
 
 const PAPER: &str = "1: -\n2: -\n3: 2,{4,1},-,5\n";
@@ -104,7 +112,13 @@ fn of_examples() -> Vec<HandRow> {
             &[3, 2, 1, 1, 2, 1],
         ),
         written("the paper's line", &paper(), "1: -\n2: -\n3: 2,{1,4},-,5\n"),
-        read("the paper's line", &paper(), PAPER, &[1, 1, 3], &[2, 1, 2, 4]),
+        read(
+            "the paper's line",
+            &paper(),
+            PAPER,
+            &[1, 1, 3],
+            &[2, 1, 2, 4],
+        ),
         read(
             "the paper's line, rising",
             &paper(),
@@ -157,9 +171,19 @@ fn of_written() -> Vec<HandRow> {
 }
 
 fn of_read() -> Vec<HandRow> {
-    let case = case(&[60, 2], 12, &[(1, 2, 65), (1, 12, 7), (2, 2, 2), (2, 10, 2)]);
+    let case = case(
+        &[60, 2],
+        12,
+        &[(1, 2, 65), (1, 12, 7), (2, 2, 2), (2, 10, 2)],
+    );
     let row = |text: &str, lines: [u16; 2], groups: [u16; 4]| {
-        read(&format!("read {}", text.escape_default()), &case, text, &lines, &groups)
+        read(
+            &format!("read {}", text.escape_default()),
+            &case,
+            text,
+            &lines,
+            &groups,
+        )
     };
     vec![
         row("1: 2,12,-\n2: 2,10,-\n", [3, 3], [1, 2, 1, 2]),
@@ -204,6 +228,7 @@ fn of_form() -> Vec<HandRow> {
             ("1: 2,{-,1}\n2: {1,3},-\n ", 2),
             ("1: 2,{-,1}\n2: {1,3},-\nx", 2),
             ("1: 2,{-,1}\n2: {1,3},-\n3: -\n", 2),
+            ("1: 2,{-,1}\n2: {1,3},-\n3: -\n4: -\n", 2),
             ("1: 2,{-,1}\n2: {1,3},-\n2: {1,3},-\n", 2),
             // Ends of lines.
             ("1: 2,{-,1}\n2: {1,3},-", 1),
@@ -309,8 +334,18 @@ fn of_names() -> Vec<HandRow> {
         ],
     );
     let far = case(&[1, 1], 3, &[]);
-    rows.push(refused("no pairs, one named", Request::read(&far, b"1: -,1\n2: -\n"), NAMES, 0));
-    rows.push(refused("no pairs, one named late", Request::read(&far, b"1: -\n2: {-,3}\n"), NAMES, 1));
+    rows.push(refused(
+        "no pairs, one named",
+        Request::read(&far, b"1: -,1\n2: -\n"),
+        NAMES,
+        0,
+    ));
+    rows.push(refused(
+        "no pairs, one named late",
+        Request::read(&far, b"1: -\n2: {-,3}\n"),
+        NAMES,
+        1,
+    ));
     rows
 }
 
@@ -415,7 +450,12 @@ fn of_rooms() -> Vec<HandRow> {
         });
     }
     for room in [0, 1, 33, 34, 40, 44, 47] {
-        rows.push(refused(&format!("K with room for {room}"), write(room), 6, 0));
+        rows.push(refused(
+            &format!("K with room for {room}"),
+            write(room),
+            6,
+            0,
+        ));
     }
     for room in [176, 177, 192, 1000] {
         rows.push(HandRow {
@@ -425,7 +465,13 @@ fn of_rooms() -> Vec<HandRow> {
         });
     }
     for room in [0, 1, 160, 175] {
-        for text in [LINES_OF_K, "", "1: -\n", "x", "1: {1,2},-\n2: {1,2},-\n3: 1,{-,2}\nx"] {
+        for text in [
+            LINES_OF_K,
+            "",
+            "1: -\n",
+            "x",
+            "1: {1,2},-\n2: {1,2},-\n3: 1,{-,2}\nx",
+        ] {
             let name = format!("6 at {room} before 14 and 15: {}", text.escape_default());
             rows.push(refused(&name, read(text, room), 6, 0));
         }
@@ -438,7 +484,9 @@ fn of_case_causes() -> Vec<HandRow> {
     let two = two();
     let changes: [(&str, u16, usize, fn(&mut Vec<u8>)); 12] = [
         ("1", 1, 0, |bytes| bytes.push(0)),
-        ("1: one byte less", 1, 0, |bytes| bytes.truncate(bytes.len() - 1)),
+        ("1: one byte less", 1, 0, |bytes| {
+            bytes.truncate(bytes.len() - 1)
+        }),
         ("2: byte 1", 2, 0, |bytes| bytes[1] = 1),
         ("2: byte 15 of a pair", 2, 8, |bytes| bytes[8 * 16 + 15] = 1),
         ("3: students", 3, 1, |bytes| bytes[16 + 2] = 3),
@@ -470,4 +518,83 @@ fn of_case_causes() -> Vec<HandRow> {
         }
     }
     rows
+}
+
+/// K is written, and its own lines are read, after a change of its bytes; it is refused by this
+/// number at this place, or not.
+fn changed_k(
+    name: &str,
+    refusal: Option<(u16, usize)>,
+    change: impl Fn(&mut [u8]),
+) -> Vec<HandRow> {
+    let (k, _) = proved::example();
+    let write = Request::write(&k);
+    let read = Request::read(&k, LINES_OF_K.as_bytes());
+    let row = |mut request: Request| {
+        change(&mut request.case);
+        let good = match request.task {
+            Task::Write => LINES_OF_K.as_bytes().to_vec(),
+            Task::Read(_) => request.case.clone(),
+        };
+        HandRow {
+            name: name.to_string(),
+            request,
+            expected: refusal.map_or(Answer::Done(good), |(number, place)| Answer::Refused {
+                number,
+                place,
+            }),
+        }
+    };
+    [write, read].map(row).into()
+}
+
+/// K with other lots, good and bad.
+fn of_lots() -> Vec<HandRow> {
+    let lots = [
+        ([3, 2, 1], None),
+        ([510, 511, 512], None),
+        ([1, 257, 256], None),
+        ([1, 2, 0], Some(2)),
+        ([513, 2, 3], Some(0)),
+        ([1, 2, 32771], Some(2)),
+        ([1, 65535, 3], Some(1)),
+        ([7, 8, 7], Some(2)),
+        ([7, 7, 7], Some(1)),
+        ([7, 7, 0], Some(1)),
+        ([7, 600, 7], Some(1)),
+    ];
+    let rows = lots.map(|(lots, place): ([u16; 3], Option<usize>)| {
+        let name = format!("K with lots {lots:?}");
+        changed_k(&name, place.map(|place| (13, place)), |case| {
+            for (record, lot) in case.chunks_exact_mut(CASE_RECORD).zip(lots) {
+                record[8..10].copy_from_slice(&lot.to_le_bytes());
+            }
+        })
+    });
+    rows.into_iter().flatten().collect()
+}
+
+/// K with a byte that should be zero, or with one of a fare.
+fn of_unnamed_bytes() -> Vec<HandRow> {
+    // The record, the byte, and whether it is refused.
+    let bytes = [
+        (0, 10, true),
+        (2, 11, true),
+        (3, 8, true),
+        (4, 9, true),
+        (3, 10, true),
+        (4, 11, true),
+        (5, 10, false),
+        (10, 11, false),
+        (5, 12, true),
+        (8, 13, true),
+        (9, 14, true),
+        (10, 15, true),
+    ];
+    let rows = bytes.map(|(record, byte, bad)| {
+        let name = format!("byte {byte} of record {record} of K");
+        let change = |case: &mut [u8]| case[record * CASE_RECORD + byte] = 1;
+        changed_k(&name, bad.then_some((2, record)), change)
+    });
+    rows.into_iter().flatten().collect()
 }

@@ -2,9 +2,11 @@
 
 use super::causes::{self, Cause, Sheet};
 use super::fast::Fast;
+use super::kinds::Kinds;
 use super::lending::{self, Call, Loan};
 use super::mutants::{self, Mutant};
 use super::rows::{self, HandRow};
+use super::gen::Large;
 use super::{answer, brute, gen, Answer, Request, Task, FORM, NAMES};
 use crate::gen::{self as engine_gen, Rng};
 use crate::literal;
@@ -156,8 +158,10 @@ fn check_copy(tally: &mut Tally, case: &Case, copy: &[u8]) {
 /// Small cases of all kinds, and what lines do not show.
 pub fn small_cases(tally: &mut Tally, mut rng: Rng, own: Rng, count: usize) {
     let mut comparison = Comparison::new(own);
+    let mut kinds = Kinds::default();
     for _ in 0..count {
         let case = gen::small(&mut rng);
+        kinds.count(&case);
         check_case(tally, &mut comparison, &case, &mut rng);
         let text = comparison.text_of(tally, &case);
         for other in [
@@ -172,27 +176,80 @@ pub fn small_cases(tally: &mut Tally, mut rng: Rng, own: Rng, count: usize) {
         let same = brute::order(&other) == brute::order(&case);
         tally.check(equal == same, || format!("{case:?}\n{other:?}"));
     }
+    kinds.check(tally, false);
 }
+
+/// All pairs and few, many groups and one, students without pairs.
+const LARGE: [Large; 7] = [
+    gen::LARGEST,
+    Large {
+        groups: 1,
+        ..gen::LARGEST
+    },
+    Large {
+        students: 511,
+        groups: 33,
+        uneven: 20,
+        ..gen::LARGEST
+    },
+    Large {
+        workshops: 63,
+        pairs: 11,
+        groups: 8,
+        uneven: 20,
+        ..gen::LARGEST
+    },
+    Large {
+        pairs: 2,
+        groups: 3,
+        ..gen::LARGEST
+    },
+    Large {
+        pairs: 0,
+        ..gen::LARGEST
+    },
+    Large {
+        students: 200,
+        pairs: 97,
+        groups: 16,
+        ..gen::LARGEST
+    },
+];
 
 /// Up to 512 students and 64 workshops.
 pub fn large_cases(tally: &mut Tally, mut rng: Rng, own: Rng, count: usize) {
     let mut comparison = Comparison::new(own);
-    let shapes = [(100, 65), (100, 1), (100, 33), (11, 8), (2, 3), (0, 1), (97, 16)];
-    for &(pairs, groups) in shapes.iter().take(count) {
-        let case = gen::large(&mut rng, pairs, groups);
+    let mut kinds = Kinds::default();
+    for large in LARGE.into_iter().take(count) {
+        let case = gen::large(&mut rng, large);
+        kinds.count(&case);
         check_case(tally, &mut comparison, &case, &mut rng);
         let text = comparison.text_of(tally, &case);
-        let mut damaged = text.clone();
-        gen::damage(&mut rng, &mut damaged);
-        comparison.check(tally, &Request::read(&case, &damaged));
+        for joined in [0, 100] {
+            let wishes = gen::wishes_joined(&mut rng, &case, joined);
+            let copy = gen::with_wishes(&case, &wishes).to_bytes();
+            let mut lines = gen::text(&wishes);
+            comparison.must_be(tally, &Request::read(&case, &lines), &Answer::Done(copy));
+            gen::damage(&mut rng, &mut lines);
+            comparison.check(tally, &Request::read(&case, &lines));
+        }
         // The last line without its line feed, one line less, and one more.
         let n = case.students.len();
-        let last = text[..text.len() - 1].iter().rposition(|&byte| byte == b'\n');
+        let last = text[..text.len() - 1]
+            .iter()
+            .rposition(|&byte| byte == b'\n');
         let last = last.expect("there are several lines") + 1;
         let more = [&text[..], format!("{}: -\n", n + 1).as_bytes()].concat();
-        for (text, place) in [(&text[..text.len() - 1], n - 1), (&text[..last], n - 1), (&more, n)] {
+        for (text, place) in [
+            (&text[..text.len() - 1], n - 1),
+            (&text[..last], n - 1),
+            (&more, n),
+        ] {
             comparison.must_refuse(tally, &Request::read(&case, text), FORM, place);
         }
+    }
+    if count >= LARGE.len() {
+        kinds.check(tally, true);
     }
 }
 
@@ -215,7 +272,7 @@ pub fn each_cause(tally: &mut Tally, mut rng: Rng, own: Rng, count: usize) {
         }
         tally.note(&format!("{met:6} {}: {}", cause.number, cause.name));
         let everywhere = cause.name == "carriage returns everywhere";
-        tally.check(met * 5 > count && (later > 0 || everywhere), || {
+        tally.check(met * 10 > count && (later > 0 || everywhere), || {
             format!("rare: {}", cause.name)
         });
     }
@@ -303,8 +360,12 @@ pub fn damaged(tally: &mut Tally, mut rng: Rng, own: Rng, count: usize) {
     ));
     tally.note(&format!("damaged cases, read and written: {of_cases:?}"));
     for number in [0, 14, 15] {
-        tally.check(of_texts[number] * 50 > count, || format!("{number} is rare"));
-        tally.check(later[number] == (number > 0), || format!("places of {number}"));
+        tally.check(of_texts[number] * 50 > count, || {
+            format!("{number} is rare")
+        });
+        tally.check(later[number] == (number > 0), || {
+            format!("places of {number}")
+        });
     }
     for number in [0, 1, 2, 3, 4, 5, 6, 13] {
         for (seen, what) in of_cases.iter().zip(["read", "written"]) {
@@ -338,7 +399,11 @@ pub fn all_lines(tally: &mut Tally, own: Rng, longest: usize) {
     let (mut accepted, mut departing) = (0, 0);
     for case in brute::all_cases(1, 2, 1) {
         let hers: Vec<u16> = case.pairs.iter().map(|pair| pair.workshop).collect();
-        let most = if hers.len() == 2 { longest } else { longest - 1 };
+        let most = if hers.len() == 2 {
+            longest
+        } else {
+            longest - 1
+        };
         for tail in texts.iter().take_while(|tail| tail.len() <= most) {
             let expected = match of_form.get(tail) {
                 None => refused(FORM, 0),
@@ -355,6 +420,11 @@ pub fn all_lines(tally: &mut Tally, own: Rng, longest: usize) {
         }
     }
     tally.note(&format!("{accepted} lines accepted, {departing} depart"));
+    // None alone; two items; and three, apart, two in braces, or all in braces.
+    let all = 1 + 2 * (2 + 2) + (6 + 6 * 2 + 6);
+    tally.check(accepted == all || longest < 7, || {
+        format!("not {all} lines")
+    });
     let lone = &brute::all_cases(1, 1, 1)[0];
     for head in brute::all_texts(b"012: ", 5) {
         let text = [&head[..], b"-\n"].concat();
@@ -407,7 +477,10 @@ pub fn equal_lines(tally: &mut Tally, mut rng: Rng, own: Rng) {
             format!("{students}x{workshops}: {} different", texts.len())
         });
     }
-    tally.note(&format!("{cases} cases, {} different texts", order_of.len()));
+    tally.note(&format!(
+        "{cases} cases, {} different texts",
+        order_of.len()
+    ));
 }
 
 /// The room of 8 for a student and 4 for a pair: each line has at most as many bytes, and those of
@@ -450,19 +523,21 @@ fn hundreds(rng: &mut Rng) -> Case {
         students: rng.range(100, 104),
         workshops: 13,
         pairs: 0,
+        uneven: 0,
         ..engine_gen::Shape::small(rng)
     };
     let mut case = engine_gen::case(rng, &shape);
     for (student, number) in case.students.iter_mut().zip(1..) {
         student.line = 1;
         let pairs = (10..=13).filter(|_| rng.chance(50)).zip(1..);
-        case.pairs.extend(pairs.map(|(workshop, at): (u16, u16)| Pair {
-            student: number,
-            workshop,
-            student_group: at / 2 + 1,
-            workshop_group: 1,
-            fare: 0,
-        }));
+        case.pairs
+            .extend(pairs.map(|(workshop, at): (u16, u16)| Pair {
+                student: number,
+                workshop,
+                student_group: at / 2 + 1,
+                workshop_group: 1,
+                fare: 0,
+            }));
     }
     case
 }
@@ -544,7 +619,11 @@ fn long_texts(tally: &mut Tally, comparison: &mut Comparison) {
         (format!("1: -,{names}\n2: -\n"), NAMES, 0),
         (format!("1: {{-,{names}}}\n2: -\n"), NAMES, 0),
         (format!("1: {names}\n2: -\n"), FORM, 0),
-        (format!("1: -,{}\n2: -\n", vec!["-"; LONG].join(",")), FORM, 0),
+        (
+            format!("1: -,{}\n2: -\n", vec!["-"; LONG].join(",")),
+            FORM,
+            0,
+        ),
         (format!("1: -\n2: -\n{}", "3: -\n".repeat(LONG)), FORM, 2),
         ("\n".repeat(LONG), FORM, 0),
         (" ".repeat(LONG), FORM, 0),
@@ -561,22 +640,20 @@ fn long_texts(tally: &mut Tally, comparison: &mut Comparison) {
 
 /// Each mutant gives another answer than the right one on some request.
 pub fn mutants_told_apart(tally: &mut Tally, mut rng: Rng, count: usize) {
-    let requests: Vec<Request> = (0..count).map(|_| any_request(&mut rng)).collect();
+    let mut requests: Vec<Request> = (0..count).map(|_| any_request(&mut rng)).collect();
+    requests.extend(rows::rows().into_iter().map(|row| row.request));
     told_apart(tally, &requests, &mutants::all());
-    let requests: Vec<Request> = [(100, 65), (100, 20), (40, 65)]
-        .iter()
-        .flat_map(|&(pairs, groups)| {
-            let case = gen::large(&mut rng, pairs, groups);
-            let text = gen::text(&gen::any_wishes(&mut rng, &case));
-            [Request::write(&case), Request::read(&case, &text)]
-        })
-        .collect();
-    told_apart(tally, &requests, &mutants::of_size());
+    let large = [LARGE[0], LARGE[3]].map(|large| {
+        let case = gen::large(&mut rng, large);
+        let text = gen::text(&gen::wishes_joined(&mut rng, &case, 0));
+        [Request::write(&case), Request::read(&case, &text)]
+    });
+    told_apart(tally, &large.concat(), &mutants::of_size());
 }
 
 /// Good and damaged texts and cases, with rooms of all lengths.
 fn any_request(rng: &mut Rng) -> Request {
-    let mut request = match rng.below(6) {
+    let mut request = match rng.below(8) {
         0 => return gen::damaged_case(rng),
         1 => damaged_text(rng),
         2 => {
