@@ -425,6 +425,11 @@ pub fn all_lines(tally: &mut Tally, own: Rng, longest: usize) {
     tally.check(accepted == all || longest < 7, || {
         format!("not {all} lines")
     });
+    all_heads(tally, &mut comparison);
+}
+
+/// Every head of a line, before none.
+fn all_heads(tally: &mut Tally, comparison: &mut Comparison) {
     let lone = &brute::all_cases(1, 1, 1)[0];
     for head in brute::all_texts(b"012: ", 5) {
         let text = [&head[..], b"-\n"].concat();
