@@ -407,7 +407,9 @@ const OF_NAMES: [Cause; 6] = [
             let line = &mut sheet.lines[at];
             let all = (1..=sheet.workshops).map(|number| number.to_string());
             let others: Vec<String> = all.filter(|item| !line.names(item)).collect();
-            let item = others.get(rng.below(others.len().max(1)))?;
+            let last = others.len().checked_sub(1)?;
+            let any = rng.below(last + 1);
+            let item = &others[rng.pick(&[any, any, last])];
             line.add_item(rng, item);
             Some(at)
         },
@@ -417,7 +419,7 @@ const OF_NAMES: [Cause; 6] = [
         15,
         |rng, sheet, at| {
             let next = usize::from(sheet.workshops) + 1;
-            let number = rng.pick(&[next, next, next + 1, 65, 66, 99, 100, 999]);
+            let number = rng.pick(&[next, next, next + 1, 64, 65, 66, 99, 100, 999]);
             let number = number.max(next).to_string();
             sheet.lines[at].add_item(rng, &number);
             Some(at)

@@ -5,11 +5,12 @@ use crate::gen::{self, Rng, Shape};
 use crate::model::*;
 use crate::stages;
 
-/// Up to 12 students and 12 workshops, groups with gaps, pairs from none to all.
+/// Up to 12 students and 12 workshops, now and then 64, groups with gaps, pairs from none to all.
 pub fn small(rng: &mut Rng) -> Case {
+    let few = rng.pick(&[1, 2, 3, 4, 6, 9, 10, 12]);
     let shape = Shape {
         students: rng.pick(&[1, 1, 2, 2, 3, 4, 5, 12]),
-        workshops: rng.pick(&[1, 2, 3, 4, 6, 9, 10, 12]),
+        workshops: if rng.chance(3) { MAX_WORKSHOPS } else { few },
         student_groups: rng.pick(&[1, 2, 3, 5, 8, 13]),
         workshop_groups: rng.range(1, 3),
         pairs: rng.pick(&[0, 15, 30, 70, 100, 100]),

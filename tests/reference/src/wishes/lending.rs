@@ -26,7 +26,7 @@ pub fn under_test() -> Option<Call<'static>> {
 }
 
 /// Calls the part with a buffer full of garbage and compares every byte it leaves behind. Now and
-/// then case and text start at odd addresses.
+/// then case and text start at odd addresses, and something that could go on in a line is behind them.
 pub fn check(
     call: Call,
     request: &Request,
@@ -51,10 +51,13 @@ pub fn check(
     let report = if shift == 0 {
         call(&request.case, text, &loan)
     } else {
-        let shifted = |bytes: &[u8]| [&[0xa5; 8][..shift], bytes].concat();
+        let behind: &[u8] = rng.pick(&[b"\n", b"0\n", b",1\n", b"}\n", b"\r\n"]);
+        let shifted = |bytes: &[u8]| [&[0xa5; 8][..shift], bytes, behind].concat();
         let case = shifted(&request.case);
-        let text = text.map(shifted);
-        call(&case[shift..], text.as_ref().map(|t| &t[shift..]), &loan)
+        let case = &case[shift..shift + request.case.len()];
+        let moved = text.map(shifted);
+        let text = moved.as_ref().map(|moved| &moved[shift..moved.len() - behind.len()]);
+        call(case, text, &loan)
     };
     let only_head = buffer.only_first_bytes_changed(expected.written());
     let findings = [
