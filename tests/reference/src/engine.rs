@@ -1,9 +1,9 @@
-//! The real engine and the real part for the stages, through their C interfaces. Nothing else here
-//! knows these interfaces.
+//! The real engine and the real parts for the stages and for the wish lines, through their C
+//! interfaces. Nothing else here knows these interfaces.
 
 use crate::lending::{Loan, StudentState};
 use crate::model::Outcome;
-use crate::stages;
+use crate::{stages, wishes};
 
 /// The answer as the engine gives it: a kind, and the values of that kind.
 #[repr(C)]
@@ -43,6 +43,35 @@ extern "C" {
         stages: *mut u16,
         stages_len: usize,
     ) -> stages::Report;
+
+    fn lgs_write_wishes(
+        case: *const u8,
+        case_len: usize,
+        text: *mut u8,
+        text_len: usize,
+    ) -> stages::Report;
+
+    fn lgs_read_wishes(
+        case: *const u8,
+        case_len: usize,
+        text: *const u8,
+        text_len: usize,
+        copy: *mut u8,
+        copy_len: usize,
+    ) -> stages::Report;
+}
+
+/// Writes the case as lines, or reads a text into a copy of the case, once, into the lent buffer.
+pub fn wishes(case: &[u8], text: Option<&[u8]>, loan: &wishes::lending::Loan) -> stages::Report {
+    let (length, buffer, room) = (case.len(), loan.buffer, loan.room);
+    let case = case.as_ptr();
+    // SAFETY: every pointer comes with the length of the memory it points to.
+    unsafe {
+        match text {
+            None => lgs_write_wishes(case, length, buffer, room),
+            Some(text) => lgs_read_wishes(case, length, text.as_ptr(), text.len(), buffer, room),
+        }
+    }
 }
 
 /// Works out the stages once, into the lent buffer.

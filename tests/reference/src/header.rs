@@ -18,6 +18,8 @@ _Static_assert(offsetof(lgs_report, fares) == 32 && sizeof(((lgs_report *)0)->fa
 _Static_assert(LGS_PLACED == 0 && LGS_NEXT == 1 && LGS_REFUSED == 2, "kinds");
 lgs_part_report lgs_stages(const uint8_t *, size_t, uint16_t *, size_t);
 _Static_assert(LGS_DONE == 0 && LGS_NO_STAGES == 12, "done and 12");
+lgs_part_report lgs_write_wishes(const uint8_t *, size_t, uint8_t *, size_t);
+lgs_part_report lgs_read_wishes(const uint8_t *, size_t, const uint8_t *, size_t, uint8_t *, size_t);
 _Static_assert(LGS_MOST_STAGES == 512, "most");
 "#;
 

@@ -80,11 +80,16 @@ impl Guarded {
         guards(&self.memory) == guards(&self.before)
     }
 
-    /// The lent part starts with `head` and is otherwise as it was.
+    /// The lent part starts with these entries and is otherwise as it was.
     pub(crate) fn only_head_changed(&self, head: &[u16]) -> bool {
         let head: Vec<u8> = head.iter().flat_map(|entry| entry.to_ne_bytes()).collect();
+        self.only_first_bytes_changed(&head)
+    }
+
+    /// The lent part starts with these bytes and is otherwise as it was.
+    pub(crate) fn only_first_bytes_changed(&self, head: &[u8]) -> bool {
         let rest = GUARD + head.len()..GUARD + self.length;
-        self.lent().starts_with(&head)
+        self.lent().starts_with(head)
             && bytes(&self.memory)[rest.clone()] == bytes(&self.before)[rest]
     }
 }

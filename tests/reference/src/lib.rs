@@ -16,6 +16,7 @@ pub mod program;
 pub mod proved;
 pub mod stages;
 pub mod tally;
+pub mod wishes;
 
 #[cfg(feature = "engine")]
 pub mod engine;

@@ -16,6 +16,7 @@ use reference::never::{self, Ties};
 use reference::proved::Proved;
 use reference::stages;
 use reference::tally::{self, Part, Tally};
+use reference::wishes;
 use reference::{header, literal, program, proved};
 use std::path::Path;
 use std::process::ExitCode;
@@ -223,6 +224,49 @@ fn parts(options: &Options) -> Vec<Part<'_>> {
         }),
         part("stages, by hand", |tally, options| {
             stages::tests::by_hand(tally, options.rng(28));
+        }),
+        part("wishes, small cases", |tally, options| {
+            let (rng, own) = (options.rng(30), options.rng(130));
+            wishes::tests::small_cases(tally, rng, own, options.count(6000));
+        }),
+        part("wishes, all lines", |tally, options| {
+            wishes::tests::all_lines(tally, options.rng(131), if options.quick { 5 } else { 7 });
+        }),
+        part("wishes, equal lines", |tally, options| {
+            wishes::tests::equal_lines(tally, options.rng(32), options.rng(132));
+        }),
+        part("wishes, each cause", |tally, options| {
+            let (rng, own) = (options.rng(33), options.rng(133));
+            wishes::tests::each_cause(tally, rng, own, options.count(500).max(100));
+        }),
+        part("wishes, damaged", |tally, options| {
+            let (rng, own) = (options.rng(34), options.rng(134));
+            wishes::tests::damaged(tally, rng, own, options.count(30_000).max(4000));
+        }),
+        part("wishes, byte sweeps", |tally, options| {
+            let (rng, own) = (options.rng(35), options.rng(135));
+            wishes::tests::byte_sweeps(tally, rng, own, options.count(10));
+        }),
+        part("wishes, large cases", |tally, options| {
+            let (rng, own) = (options.rng(36), options.rng(136));
+            wishes::tests::large_cases(tally, rng, own, if options.quick { 1 } else { 7 });
+        }),
+        part("wishes, room", |tally, options| {
+            let (rng, own) = (options.rng(37), options.rng(137));
+            wishes::tests::room(tally, rng, own, options.count(50));
+        }),
+        part("wishes, mutants", |tally, options| {
+            wishes::tests::mutants_told_apart(
+                tally,
+                options.rng(38),
+                options.count(3000).max(1000),
+            );
+        }),
+        part("wishes, flaws", |tally, options| {
+            wishes::tests::flaws_found(tally, options.rng(39), options.count(2000).max(1000));
+        }),
+        part("wishes, by hand", |tally, options| {
+            wishes::tests::by_hand(tally, options.rng(40));
         }),
     ];
     match std::env::var_os("PLACE_BIN") {

@@ -1,8 +1,9 @@
 //! Times the engine against the fast reference, in one process and in turns.
 //!
 //! Both get the same case and a book that has every pair. The engine's buffers are zero before the
-//! first run and are not cleared in between; the fast reference keeps its tables. The stages are
-//! timed in the same way, on cases of their own. With the argument `stages` only they are timed.
+//! first run and are not cleared in between; the fast reference keeps its tables. The stages and the
+//! wish lines are timed in the same way, on cases of their own. With the argument `stages`, or
+//! `wishes`, only they are timed.
 
 use reference::engine;
 use reference::fast::Fast;
@@ -10,7 +11,8 @@ use reference::gen::{self, Rng};
 use reference::lending::{self, Loan, StudentState};
 use reference::literal;
 use reference::model::*;
-use reference::stages;
+use reference::stages::{self, Report};
+use reference::wishes;
 use std::hint::black_box;
 use std::process::ExitCode;
 use std::time::Instant;
@@ -297,18 +299,230 @@ fn lines_of_stages() -> Result<(), String> {
     Ok(())
 }
 
-fn main() -> ExitCode {
-    if let Err(what) = lines_of_stages() {
-        println!("{what}");
-        return ExitCode::FAILURE;
+// ---- Wish lines ----
+
+/// A case with a text for it, and what is told of them.
+struct Sheet {
+    name: String,
+    case: Case,
+    text: Vec<u8>,
+}
+
+/// Of so many students and workshops with this share of pairs; so many of a hundred items are in the
+/// group of the item before.
+fn sheet((students, workshops): (usize, usize), pairs: usize, joined: usize) -> Sheet {
+    let mut rng = Rng::new(2027);
+    let large = wishes::gen::Large {
+        students,
+        workshops,
+        pairs,
+        ..wishes::gen::LARGEST
+    };
+    let case = wishes::gen::large(&mut rng, large);
+    let order = wishes::gen::wishes_joined(&mut rng, &case, joined);
+    let case = wishes::gen::with_wishes(&case, &order);
+    let shape = match joined {
+        0 => "all apart",
+        100 => "one group",
+        50 => "groups of about two",
+        _ => "few groups",
+    };
+    Sheet {
+        name: format!("{students}x{workshops}, {pairs} of a hundred pairs, {shape}"),
+        text: wishes::gen::text(&order),
+        case,
     }
-    if std::env::args().nth(1).as_deref() == Some("stages") {
-        return ExitCode::SUCCESS;
+}
+
+/// The largest size in several densities and shapes, and with half of the workshops.
+fn sheets() -> Vec<Sheet> {
+    let full = [0, 90, 100].map(|joined| sheet(LARGEST, 100, joined));
+    let sparse = [50, 11, 0].map(|pairs| sheet(LARGEST, pairs, 50));
+    let half = sheet((LARGEST.0, LARGEST.1 / 2), 100, 50);
+    full.into_iter().chain(sparse).chain([half]).collect()
+}
+
+/// All students, a half, a quarter and an eighth of them, all with all pairs.
+fn shorter_sheets() -> Vec<Sheet> {
+    let sizes = [1, 2, 4, 8].map(|part| (LARGEST.0 / part, LARGEST.1));
+    sizes.map(|size| sheet(size, 100, 50)).into()
+}
+
+/// One student whose line goes on and on: one workshop again and again, or one long number.
+fn long_lines() -> [Vec<Sheet>; 2] {
+    const LENGTHS: [usize; 3] = [400_000, 200_000, 100_000];
+    let with = |name: &str, rest: String| Sheet {
+        name: name.to_string(),
+        case: sheet((1, 1), 100, 0).case,
+        text: format!("1: -,{rest}\n").into_bytes(),
+    };
+    [
+        LENGTHS
+            .map(|length| {
+                with(
+                    "1x1, one workshop again and again",
+                    vec!["1"; length / 2].join(","),
+                )
+            })
+            .into(),
+        LENGTHS
+            .map(|length| with("1x1, one long number", "1".repeat(length)))
+            .into(),
+    ]
+}
+
+/// Times of one call of the part and of the fast reference, in turns.
+fn in_turns(mut part: impl FnMut() -> Report, mut fast: impl FnMut() -> Report) -> Times {
+    let (mut engine_times, mut fast_times) = (Vec::new(), Vec::new());
+    for _ in 0..RUNS {
+        engine_times.push(time(|| {
+            black_box(part());
+        }));
+        fast_times.push(time(|| {
+            black_box(fast());
+        }));
     }
+    Times {
+        engine: median(engine_times),
+        fast: median(fast_times),
+    }
+}
+
+/// Times one call of each side with buffers of their own; another answer than the plain one's is an
+/// error.
+fn measure_wishes(request: &wishes::Request) -> Result<Times, String> {
+    let expected = wishes::answer(request);
+    wishes::lending::check(&engine::wishes, request, &expected, &mut Rng::new(1))?;
+    let mut buffer = vec![0; request.room];
+    let mut own = buffer.clone();
+    let mut fast = wishes::fast::Fast::default();
+    let loan = wishes::lending::Loan {
+        buffer: buffer.as_mut_ptr(),
+        room: buffer.len(),
+    };
+    let case = &request.case;
+    Ok(match &request.task {
+        wishes::Task::Write => in_turns(
+            || engine::wishes(case, None, &loan),
+            || fast.write(case, &mut own),
+        ),
+        wishes::Task::Read(text) => in_turns(
+            || engine::wishes(case, Some(text), &loan),
+            || fast.read(case, text, &mut own),
+        ),
+    })
+}
+
+/// Times the writing or the reading of one sheet and prints the line.
+fn line_of_wishes(what: &str, request: &wishes::Request, sheet: &Sheet) -> Result<Times, String> {
+    let times = measure_wishes(request).map_err(|error| format!("{}: {error}", sheet.name))?;
+    let bytes = sheet.text.len() as f64;
+    println!(
+        "{bytes:6} bytes  {what} {:7.1} us  fast {:7.1} us  ratio {:5.2}  a byte {:5.2} and {:5.2} ns  {}",
+        times.engine / 1000.0,
+        times.fast / 1000.0,
+        times.engine / times.fast,
+        times.engine / bytes,
+        times.fast / bytes,
+        sheet.name,
+    );
+    Ok(times)
+}
+
+/// The lines of wishes that were timed.
+#[derive(Default)]
+struct LinesOfWishes {
+    count: usize,
+    /// Lines above the limit.
+    above: usize,
+}
+
+impl LinesOfWishes {
+    /// The most that a line may take of the fast reference's time.
+    const LIMIT: f64 = 1.5;
+
+    /// Times the writing of each sheet; gives the bytes and the part's time of each.
+    fn written(&mut self, sheets: &[Sheet]) -> Result<Vec<(usize, f64)>, String> {
+        self.lines("lgs_write_wishes", sheets, |sheet| {
+            wishes::Request::write(&sheet.case)
+        })
+    }
+
+    /// Times the reading of each sheet; gives the bytes and the part's time of each.
+    fn read(&mut self, sheets: &[Sheet]) -> Result<Vec<(usize, f64)>, String> {
+        self.lines("lgs_read_wishes ", sheets, |sheet| {
+            wishes::Request::read(&sheet.case, &sheet.text)
+        })
+    }
+
+    fn lines(
+        &mut self,
+        what: &str,
+        sheets: &[Sheet],
+        request: fn(&Sheet) -> wishes::Request,
+    ) -> Result<Vec<(usize, f64)>, String> {
+        let mut grown = Vec::new();
+        for sheet in sheets {
+            let times = line_of_wishes(what, &request(sheet), sheet)?;
+            self.count += 1;
+            self.above += usize::from(times.engine > LinesOfWishes::LIMIT * times.fast);
+            grown.push((sheet.text.len(), times.engine));
+        }
+        Ok(grown)
+    }
+}
+
+/// The part's time for the shorter texts as a share of its time for the first, beside the texts'
+/// share.
+fn growth_of_wishes(what: &str, grown: &[(usize, f64)]) {
+    let (all, whole) = grown[0];
+    for &(bytes, time) in &grown[1..] {
+        let (share, of_time) = (bytes as f64 / all as f64, time / whole);
+        println!("{what}: {bytes} bytes, {share:.2} of all, take {of_time:.2} of the time");
+    }
+}
+
+fn lines_of_wishes() -> Result<(), String> {
+    println!("wish lines, median of {RUNS} runs in turns");
+    let mut lines = LinesOfWishes::default();
+    lines.written(&sheets())?;
+    lines.read(&sheets())?;
+    let written = lines.written(&shorter_sheets())?;
+    let read = lines.read(&shorter_sheets())?;
+    growth_of_wishes("written", &written);
+    growth_of_wishes("read", &read);
+    for long in long_lines() {
+        let refused = lines.read(&long)?;
+        growth_of_wishes("refused by 15", &refused);
+    }
+    let LinesOfWishes { count, above } = lines;
+    let limit = LinesOfWishes::LIMIT;
+    println!("{above} of {count} lines above {limit} of the reference's time");
+    Ok(())
+}
+
+/// The lines of the engine, for each number of groups.
+fn lines_of_engine() -> Result<(), String> {
     println!("median of {RUNS} runs in turns; every pair in the book, in random order");
     for (d, e) in GROUPS {
         println!("student groups {d}, workshop groups {e}");
-        if let Err(what) = lines((d, e)) {
+        lines((d, e))?;
+    }
+    Ok(())
+}
+
+fn main() -> ExitCode {
+    let chosen = std::env::args().nth(1);
+    let parts: [(&str, fn() -> Result<(), String>); 3] = [
+        ("stages", lines_of_stages),
+        ("wishes", lines_of_wishes),
+        ("engine", lines_of_engine),
+    ];
+    for (name, run) in parts {
+        if chosen.as_deref().is_some_and(|word| word != name) {
+            continue;
+        }
+        if let Err(what) = run() {
             println!("{what}");
             return ExitCode::FAILURE;
         }
