@@ -165,8 +165,10 @@ module _ (tier tier′ : ℕ → ℕ) (xs : List ℕ) (k t k′ t′ : ℕ) wher
       record {
         order = A .order;
         order′ = A .order′;
-        low = λ x m l. ⊎-elim (λ (q : t′ ≡ tier′ x). absurd (omega (arith, from x m (sym q)))) (λ (q : t′ < tier′ x). q) (eq-or-lt-of-le (A .low x m (omega arith)));
-        low′ = λ x m l. ⊎-elim (λ (q : t ≡ tier x). absurd (omega (arith, to x m (sym q)))) (λ (q : t < tier x). q) (eq-or-lt-of-le (A .low′ x m (omega arith)));
+        low = λ x m l. ⊎-elim (λ (q : t′ ≡ tier′ x). absurd (omega (arith, from x m (sym q)))) (λ (q : t′ < tier′ x). q)
+            (eq-or-lt-of-le (A .low x m (omega arith)));
+        low′ = λ x m l. ⊎-elim (λ (q : t ≡ tier x). absurd (omega (arith, to x m (sym q)))) (λ (q : t < tier x). q)
+            (eq-or-lt-of-le (A .low′ x m (omega arith)));
         high = λ x m. omega (arith, A .high x m);
         high′ = λ x m. omega (arith, A .high′ x m);
       }

@@ -79,7 +79,8 @@ module _ (M : Market) (R : Ranged M) (l : Line) where
       items : (w : ℕ) → Mem w named → (ltb 0 w && (ltb 1 (times w l) || not (M .paired (l .student) w))) ≡ false
       items zero m = refl
       items (suc w) m =
-          ⊎-elim (λ (p : M .paired (l .student) (suc w) ≡ true). let e : times (suc w) l ≡ 1 = h (suc w) (omega arith) ∙ ap one p in rw (e, p, lt-ltb 0 (suc w) (omega arith)))
+          ⊎-elim (λ (p : M .paired (l .student) (suc w) ≡ true). let e : times (suc w) l ≡ 1 = h (suc w) (omega arith) ∙ ap one p in rw
+          (e, p, lt-ltb 0 (suc w) (omega arith)))
           (λ (p : M .paired (l .student) (suc w) ≡ false).
           let e : times (suc w) l ≡ 0 = h (suc w) (omega arith) ∙ ap one p in
           absurd (omega (arith, tally-in (suc w) named m)))
@@ -169,7 +170,8 @@ module _ (M : Market) (R : Ranged M) (l : Line) (f : Formed l) (e : misnamed M l
       (bool-cases (any (eqb x) g))
     where
       none-in : any (eqb x) g ≡ false → tally (eqb x) g ≡ 0
-      none-in h = ⊎-elim (λ (q : 0 < tally (eqb x) g). absurd (never (in-has x g (in-tally x g q)) h)) (λ (q : tally (eqb x) g ≤ 0). omega arith) (less? 0 (tally (eqb x) g))
+      none-in h = ⊎-elim (λ (q : 0 < tally (eqb x) g). absurd (never (in-has x g (in-tally x g q)) h)) (λ (q : tally (eqb x) g ≤ 0). omega arith)
+          (less? 0 (tally (eqb x) g))
 
   -- an option is named
   pub once : (x : ℕ) → Option? M (l .student) x → 1 ≤ tally (eqb x) (flatten (l .groups))

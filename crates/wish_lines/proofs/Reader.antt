@@ -47,7 +47,8 @@ module _ (σ : State) (k : ℕ → State) (C : Counts σ k) where
   -- d bounds the number
   scan-within : (d n : ℕ) (t : List ℕ) → 1 ≤ n → n < d → scan (decimal n ++ t) σ ≡ scan t (k n)
   scan-within zero n t l u = absurd (omega arith)
-  scan-within (suc d) n t l u = ⊎-elim small (λ m. large m (scan-within d (n / 10) ((48 + n % 10) ∷ t) (omega arith) (omega (arith, tenth-less n m)))) (less? n 10)
+  scan-within (suc d) n t l u = ⊎-elim small (λ m. large m (scan-within d (n / 10) ((48 + n % 10) ∷ t) (omega arith) (omega (arith, tenth-less n m))))
+      (less? n 10)
     where
       small : n < 10 → scan (decimal n ++ t) σ ≡ scan t (k n)
       small s =
@@ -104,7 +105,8 @@ module _ (s : ℕ) (gs : List (List ℕ)) where
 
   brace-among : (xs : List ℕ) (x : ℕ) → 0 < length xs → step (among s gs xs x) 125 ≡ on (closed s gs (xs ++ (x ∷ [])))
   unfolding step
-  brace-among xs x l = ⊎-elim (λ (e : ltb 0 x ≡ true). rw (e, lt-ltb 0 (length xs) l)) (λ (e : ltb 0 x ≡ false). rw (e, lt-ltb 0 (length xs) l)) (bool-cases (ltb 0 x))
+  brace-among xs x l = ⊎-elim (λ (e : ltb 0 x ≡ true). rw (e, lt-ltb 0 (length xs) l)) (λ (e : ltb 0 x ≡ false). rw (e, lt-ltb 0 (length xs) l))
+      (bool-cases (ltb 0 x))
 
   -- the items behind the first, each after a comma, and the closing brace
   scan-items : (ys xs : List ℕ) (x : ℕ) (t : List ℕ)

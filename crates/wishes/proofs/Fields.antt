@@ -67,9 +67,11 @@ read-byte case b i (suc (suc (suc (suc (suc (suc (suc (suc (suc zero))))))))) u 
 read-byte case b i (suc (suc (suc (suc (suc (suc (suc (suc (suc (suc zero)))))))))) u = low _ _ (b .below (16 * i + 10))
 read-byte case b i (suc (suc (suc (suc (suc (suc (suc (suc (suc (suc (suc zero))))))))))) u = high-at case (16 * i + 10) (16 * i + 11) (omega arith) b
 read-byte case b i (suc (suc (suc (suc (suc (suc (suc (suc (suc (suc (suc (suc zero)))))))))))) u = low _ _ (b .below (16 * i + 12))
-read-byte case b i (suc (suc (suc (suc (suc (suc (suc (suc (suc (suc (suc (suc (suc zero))))))))))))) u = high-at case (16 * i + 12) (16 * i + 13) (omega arith) b
+read-byte case b i (suc (suc (suc (suc (suc (suc (suc (suc (suc (suc (suc (suc (suc zero))))))))))))) u = high-at case (16 * i + 12) (16 * i + 13)
+    (omega arith) b
 read-byte case b i (suc (suc (suc (suc (suc (suc (suc (suc (suc (suc (suc (suc (suc (suc zero)))))))))))))) u = low _ _ (b .below (16 * i + 14))
-read-byte case b i (suc (suc (suc (suc (suc (suc (suc (suc (suc (suc (suc (suc (suc (suc (suc zero))))))))))))))) u = high-at case (16 * i + 14) (16 * i + 15) (omega arith) b
+read-byte case b i (suc (suc (suc (suc (suc (suc (suc (suc (suc (suc (suc (suc (suc (suc (suc zero))))))))))))))) u = high-at case (16 * i + 14) (16 * i + 15)
+    (omega arith) b
 read-byte case b i (suc (suc (suc (suc (suc (suc (suc (suc (suc (suc (suc (suc (suc (suc (suc (suc k)))))))))))))))) u = absurd (omega arith)
 
 -- a case of whole records is the bytes of these
@@ -101,16 +103,29 @@ set-third (r ∷ rs) zero x l = refl
 set-third (r ∷ rs) (suc i) x l =
     let e : 16 * suc i + 6 ≡ length (rowBytes r) + (16 * i + 6) = omega (arith, row-long r) in
     let f : 16 * suc i + 7 ≡ length (rowBytes r) + (16 * i + 7) = omega (arith, row-long r) in
-    rw (e, f, set-past (rowBytes r) (caseBytes rs) (16 * i + 6) (x % 256), set-past (rowBytes r) (set (caseBytes rs) (16 * i + 6) (x % 256)) (16 * i + 7) (x / 256))
+    rw (
+      e,
+      f,
+      set-past (rowBytes r) (caseBytes rs) (16 * i + 6) (x % 256),
+      set-past (rowBytes r) (set (caseBytes rs) (16 * i + 6) (x % 256)) (16 * i + 7)
+          (x / 256),
+    )
     (ap (λ t. rowBytes r ++ t) (set-third rs i x (omega arith)))
 
 -- the same at the head of a buffer
 pub field-set : (rs : List Row) (old : List ℕ) (i x : ℕ) → i < length rs
-    → set (set (withHead (caseBytes rs) old) (16 * i + 6) (x % 256)) (16 * i + 7) (x / 256) ≡ withHead (caseBytes (set rs i (withThird (getD rs i noRow) x))) old
+    → set (set (withHead (caseBytes rs) old) (16 * i + 6) (x % 256)) (16 * i + 7) (x / 256) ≡ withHead
+    (caseBytes (set rs i (withThird (getD rs i noRow) x))) old
 field-set rs old i x l =
     let rest = drop (length (caseBytes rs)) old in
     let new = set rs i (withThird (getD rs i noRow) x) in
-    let long : length (caseBytes rs) ≡ length (caseBytes new) = omega (arith, case-length rs, case-length new, length-set rs i (withThird (getD rs i noRow) x)) in
+    let long : length (caseBytes rs) ≡ length (caseBytes new) = omega (
+      arith,
+      case-length rs,
+      case-length new,
+      length-set rs i
+          (withThird (getD rs i noRow) x),
+    ) in
     rw (
       set-append-left (caseBytes rs) rest (16 * i + 6) (x % 256) (omega (arith, case-length rs)),
       set-append-left (set (caseBytes rs) (16 * i + 6) (x % 256)) rest (16 * i + 7) (x / 256)

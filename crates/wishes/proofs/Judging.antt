@@ -160,7 +160,8 @@ module _ (M : Market) (text : List ℕ) (ls : List Line) where
 
   module _ (k at : ℕ) (R : Reaching k at) (u : k < M .students) where
     line : Split k (readLine (drop at text)) (readFrom M (M .students - suc k) (suc k)) (drop k ls)
-    line = split k (readLine (drop at text)) (readFrom M (M .students - suc k) (suc k)) (drop k ls) (sym (next-line M text k at (readLine (drop at text)) u refl) ∙ R .same)
+    line = split k (readLine (drop at text)) (readFrom M (M .students - suc k) (suc k)) (drop k ls)
+        (sym (next-line M text k at (readLine (drop at text)) u refl) ∙ R .same)
 
     pub reaching-fault : faultOf M k (readLine (drop at text)) ≡ 0
     reaching-fault = line .3

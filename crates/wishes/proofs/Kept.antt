@@ -97,7 +97,8 @@ module _ (case : List ℕ) (nothing : NothingFound (caseCauses case)) (text : Li
 
   others : Bytes case → (i : ℕ) → (i % 16 ≡ 6 → ⊥) → (i % 16 ≡ 7 → ⊥) → getD copy i 0 ≡ getD case i 0
   unfolding wished
-  others b i p q = ⊎-elim inside (λ (l : length case ≤ i). List·getD-eq-default copy 0 (omega (arith, copy-length case nothing text ls e)) ∙ sym (List·getD-eq-default case 0 l)) (less? i (length case))
+  others b i p q = ⊎-elim inside (λ (l : length case ≤ i). List·getD-eq-default copy 0 (omega (arith, copy-length case nothing text ls e)) ∙ sym
+      (List·getD-eq-default case 0 l)) (less? i (length case))
     where
       inside : i < length case → getD copy i 0 ≡ getD case i 0
       inside l =
@@ -146,7 +147,8 @@ module _ (case : List ℕ) (nothing : NothingFound (caseCauses case)) (text : Li
       fun-ext (λ i.
       rw (
         new-rows ls case nothing,
-        any-new ls (isPair (getD es i _ .student) (getD es i _ .workshop)) (unseen ls (isPair (getD es i _ .student) (getD es i _ .workshop)) (λ r x. refl)) (rows case),
+        any-new ls (isPair (getD es i _ .student) (getD es i _ .workshop)) (unseen ls (isPair (getD es i _ .student) (getD es i _ .workshop)) (λ r x. refl))
+            (rows case),
       ))
 
   book-same : (book : List ℕ) → take 4 (bookCauses copy book) ≡ take 4 (bookCauses case book)

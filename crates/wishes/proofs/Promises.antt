@@ -28,7 +28,8 @@ use Rattle.wish_lines.proofs.Ranged.{ranged, text-room}
 use Rattle.wish_lines.proofs.Causes.{read-exactly, refused-exactly}
 use Rattle.wish_lines.proofs.Naming.{named-exactly}
 use Rattle.wishes.specs.Copy.{wished}
-use Rattle.wishes.specs.Outcome.{WishesOutcome, given, ungiven, textRoom, lentCauses, writeCauses, readCauses, unlessFound, copyFor, writeWishes, readWishes}
+use Rattle.wishes.specs.Outcome.{WishesOutcome, given, ungiven, textRoom, lentCauses}
+use Rattle.wishes.specs.Outcome.{writeCauses, readCauses, unlessFound, copyFor, writeWishes, readWishes}
 use Rattle.wishes.specs.Outcome.{wishesAfter}
 use Rattle.wishes.specs.Promises.{IsLines, CopyOf, WritePromised, ReadPromised, WriteThenRead, EqualLines, ReadExactly, LinesRefused, NamedOnce, AnyOrder}
 use Rattle.wishes.specs.Promises.{WishesSix, SevenCauses, BufferKept, WishesKept}
@@ -228,7 +229,8 @@ lines-refused case text room k i nothing =
       λ r. worked ∙ ap (copyFor case) (refused-exactly (marketIn case) text k i .1 r),
     )
   where
-    by-lines : (r : Reading) → readLines (marketIn case) text ≡ r → copyFor case r ≡ ungiven k i → FirstFault (marketIn case) (marketIn case .students) 0 text k i
+    by-lines : (r : Reading) → readLines (marketIn case) text ≡ r → copyFor case r ≡ ungiven k i → FirstFault (marketIn case)
+        (marketIn case .students) 0 text k i
     by-lines (read ls) e f = let y : _≡_ {A = ℕ} 0 1 = cc in absurd (omega arith)
     by-lines (refused c j) e f =
         let p : c ≡ k = cc in
@@ -263,8 +265,16 @@ pub wishes-six : WishesSix
 unfolding writeCauses readCauses textRoom
 wishes-six =
     record {
-      write = λ case room i. (six-written case room i, λ r. rw (r .0) (write-found case room 6 0 (first-room case (textRoom case) room (none-table (caseCauses case) (r .1)) (r .2))));
-      read = λ case text room i. (six-read case text room i, λ r. rw (r .0) (read-found case room text 6 0 (first-room case (length case) room (none-table (caseCauses case) (r .1)) (r .2))));
+      write = λ case room i. (
+        six-written case room i,
+        λ r. rw (r .0) (write-found case room 6 0
+            (first-room case (textRoom case) room (none-table (caseCauses case) (r .1)) (r .2))),
+      );
+      read = λ case text room i. (
+        six-read case text room i,
+        λ r. rw (r .0) (read-found case room text 6 0
+            (first-room case (length case) room (none-table (caseCauses case) (r .1)) (r .2))),
+      );
       enough = λ case nothing. omega (arith, few-pairs case, case-counts case nothing .0 .1);
     }
   where
@@ -304,7 +314,11 @@ kept (ungiven k i) needed out h = record { long = refl; past = λ i u. refl; asF
 
 pub wishes-kept : WishesKept
 unfolding writeCauses readCauses
-wishes-kept = record { write = λ case text. kept (writeWishes case (length text)) (textRoom case) text (λ t e. by-write case text t e); read = λ case text copy. kept (readWishes case text (length copy)) (length case) copy (λ t e. by-read case text copy t e) }
+wishes-kept = record {
+  write = λ case text. kept (writeWishes case (length text)) (textRoom case) text (λ t e. by-write case text t e);
+  read =
+      λ case text copy. kept (readWishes case text (length copy)) (length case) copy (λ t e. by-read case text copy t e);
+}
   where
     by-write : (case text t : List ℕ) → writeWishes case (length text) ≡ given t → (length t ≤ textRoom case) × (textRoom case ≤ length text)
     by-write case text t e =
@@ -315,7 +329,8 @@ wishes-kept = record { write = λ case text. kept (writeWishes case (length text
     by-read case text copy t e = go (firstCause (readCauses case (length copy))) refl
       where
         go : (o : Option (ℕ × ℕ)) → firstCause (readCauses case (length copy)) ≡ o → (length t ≤ length case) × (length case ≤ length copy)
-        go (some (k, j)) f = let z : ungiven k j ≡ given t = sym (read-found case (length copy) text k j f) ∙ e in let y : _≡_ {A = ℕ} 0 1 = cc in absurd (omega arith)
+        go (some (k, j)) f = let z : ungiven k j ≡ given t = sym (read-found case (length copy) text k j f) ∙ e in let y : _≡_ {A = ℕ} 0 1 = cc in absurd
+            (omega arith)
         go none f =
             let nothing : NothingFound (readCauses case (length copy)) = table-none (readCauses case (length copy)) f in
             let r = read-lines-exactly case text t (length copy) nothing .0 e in

@@ -83,7 +83,8 @@ outside : (case : List ℕ) (group : ℕ → ℕ) (first k : ℕ) (f : ℕ → R
 outside case group first k f i out =
     ⊎-elim (λ (l : i < first). rw (lt-leb first i l))
     (λ (l : first ≤ i).
-    ⊎-elim (λ (u : i < first + k). absurd (out l u)) (λ (u : first + k ≤ i). rw (le-leb first i l, lt-leb (suc i) (first + k) (omega arith))) (less? i (first + k)))
+    ⊎-elim (λ (u : i < first + k). absurd (out l u)) (λ (u : first + k ≤ i). rw (le-leb first i l, lt-leb (suc i) (first + k) (omega arith)))
+    (less? i (first + k)))
     (less? i first)
 
 inside : (case : List ℕ) (group : ℕ → ℕ) (first k : ℕ) (f : ℕ → Row) (i : ℕ) → first ≤ i → i < first + k
@@ -105,7 +106,8 @@ pairs-shown case group first zero n f old l = ap (λ rs. withHead (caseBytes rs)
         ∙ sym (tabulate-at (pairsBy case group first 0 f) m j noRow q ∙ outside case group first 0 f j (λ a b. omega arith)))
 pairs-shown case group first (suc k) n f old l =
     ap (λ c. withThirdAt c (first + k) (group (rowAt case (first + k) .second))) (pairs-shown case group first k n f old (λ j q. l j (omega arith)))
-    ∙ third-shown (pairsBy case group first k f) (pairsBy case group first (suc k) f) n (first + k) (group (rowAt case (first + k) .second)) old (l k (omega arith))
+    ∙ third-shown (pairsBy case group first k f) (pairsBy case group first (suc k) f) n (first + k) (group (rowAt case (first + k) .second)) old
+    (l k (omega arith))
     (inside case group first (suc k) f (first + k) (omega arith) (omega arith)
     ∙ ap (λ r. withThird r (group (rowAt case (first + k) .second))) (sym (outside case group first k f (first + k) (λ a b. omega arith))))
     (λ j h ne.
@@ -171,7 +173,8 @@ module _ (case : List ℕ) (nothing : NothingFound (caseCauses case)) (ls : List
     own-wish = rw (own .1, own .2, hers 0 refl)
 
     module _ (first many : ℕ) (S : Stretch case (suc k) first many) where
-      pair-wish : (j : ℕ) → j < many → withWish ls (rowAt case (first + j)) ≡ withThird (rowAt case (first + j)) (getD groups (rowAt case (first + j) .second) 0)
+      pair-wish : (j : ℕ) → j < many → withWish ls (rowAt case (first + j)) ≡ withThird (rowAt case (first + j))
+          (getD groups (rowAt case (first + j) .second) 0)
       unfolding withWish
       pair-wish j l =
           let s = S .each j l in
@@ -253,14 +256,16 @@ module _ (case : List ℕ) (nothing : NothingFound (caseCauses case)) (ls : List
 
         all-same : {f g : ℕ → Row} → ((i : ℕ) → i < rowCount case → f i ≡ g i) → tabulate f (rowCount case) ≡ tabulate g (rowCount case)
         all-same {f} {g} h =
-            ext-getD noRow (tabulate f (rowCount case)) (tabulate g (rowCount case)) (tabulate-length f (rowCount case) ∙ sym (tabulate-length g (rowCount case)))
+            ext-getD noRow (tabulate f (rowCount case)) (tabulate g (rowCount case))
+            (tabulate-length f (rowCount case) ∙ sym (tabulate-length g (rowCount case)))
             (λ j u.
             let q : j < rowCount case = omega (arith, tabulate-length f (rowCount case)) in
             tabulate-at f (rowCount case) j noRow q ∙ (h j q ∙ sym (tabulate-at g (rowCount case) j noRow q)))
 
   -- ---- before the first line, and after the last
 
-  by-kind : (P : Row → Type 0) (i : ℕ) → i < rowCount case → (1 ≤ rowAt case i .first → rowAt case i .first ≤ marketIn case .students → P (withWish ls (rowAt case i)))
+  by-kind : (P : Row → Type 0) (i : ℕ) → i < rowCount case → (1 ≤ rowAt case i .first → rowAt case i .first ≤ marketIn case .students → P
+      (withWish ls (rowAt case i)))
       → (withWish ls (rowAt case i) ≡ rowAt case i → P (rowAt case i))
       → P (withWish ls (rowAt case i)) ⊎ ((withWish ls (rowAt case i) ≡ rowAt case i) × P (rowAt case i))
   by-kind P i l f g =

@@ -119,7 +119,8 @@ module _ (M : Market) (R : Ranged M) where
   by-cond false true d d′ k r r′ p q o = never p refl
   by-cond false false d d′ k r r′ p q o = same
 
-  from-alike : (n k : ℕ) (ls ls′ : List Line) → ((l : Line) → Mem l ls → Formed l) → Reordered ls ls′ → Like (readFrom M n k (linesText ls)) (readFrom M n k (linesText ls′))
+  from-alike : (n k : ℕ) (ls ls′ : List Line) → ((l : Line) → Mem l ls → Formed l) → Reordered ls ls′ → Like (readFrom M n k (linesText ls))
+      (readFrom M n k (linesText ls′))
   unfolding readFrom linesText flatMap readLine scan times
   from-alike zero k ms ms′ f noLines = both noLines
   from-alike (suc n) k ms ms′ f noLines = same
@@ -145,7 +146,11 @@ groups-at (moreLines e s more) (suc i) d x = groups-at more i d x
 
 wish-same : {ls ls′ : List Line} → Reordered ls ls′ → (r : Row) → withWish ls r ≡ withWish ls′ r
 unfolding withWish
-wish-same o r = rw (groups-at o (r .first - 1) (record { student = 0; groups = [] }) 0, groups-at o (r .first - 1) (record { student = 0; groups = [] }) (r .second))
+wish-same o r = rw (
+  groups-at o (r .first - 1) (record { student = 0; groups = [] }) 0,
+  groups-at o (r .first - 1) (record { student = 0; groups = [] })
+      (r .second),
+)
 
 copy-same : (case : List ℕ) (M : Market) (R : Ranged M) (r r′ : Reading) → Like M R r r′ → copyFor case r ≡ copyFor case r′
 unfolding copyFor wished

@@ -15,7 +15,8 @@ use Rattle.wish_lines.specs.Reading.{step, scan, readLine, misnamed, readFrom, 
 use Rattle.wish_lines.specs.Wishes.{optionsOf, atTier, groupsFrom, lineOf, linesFrom, linesOf, wishText}
 use Rattle.wishes.specs.Copy.{withWish, wished}
 use Rattle.wishes.specs.Outcome.{textRoom, lentCauses, writeCauses, readCauses, unlessFound, copyFor, writeWishes, readWishes, wishesAfter, wishesValues}
-use Rattle.wishes.specs.Table.{groupedK, fitting, single, writeTable, readTable, wishesGiven, wishesExpected, wishesLeft, wishesLeftExpected, WishesComputed}
+use Rattle.wishes.specs.Table.{groupedK, fitting, single, writeTable, readTable}
+use Rattle.wishes.specs.Table.{wishesGiven, wishesExpected, wishesLeft, wishesLeftExpected, WishesComputed}
 
 pub wishes-computed : WishesComputed
 unfolding groupedK fitting single writeTable readTable wishesGiven wishesExpected wishesLeft wishesLeftExpected writeWishes readWishes copyFor unlessFound

@@ -13,7 +13,8 @@ use Rattle.base.proofs.Tests.{never, and-make, or-false, eq?}
 use Rattle.base.proofs.Below.{tabulate-length}
 use Rattle.format.specs.Layout.{Row, rowAt, rows, rowCount, noRow, ofKind, unnamed, isStudent, isWorkshop, isPair, hasLot}
 use Rattle.format.specs.Causes.{Finds, First, NothingFound}
-use Rattle.format.specs.Refusals.{badForm, kindFalls, badNumber, notRising, namesNobody, badOrder, badCounts, badStudent, badWorkshop, badTiers, badRange, badLot}
+use Rattle.format.specs.Refusals.{badForm, kindFalls, badNumber, notRising, namesNobody, badOrder}
+use Rattle.format.specs.Refusals.{badCounts, badStudent, badWorkshop, badTiers, badRange, badLot}
 use Rattle.format.specs.Refusals.{caseCauses}
 use Rattle.format.specs.Engine.{marketIn}
 use Rattle.format.proofs.Sorted.{row-at, is-within}

@@ -22,7 +22,8 @@ use Rattle.wishes.specs.declared.WishesAnswer.{WishesAnswer}
 use Rattle.wishes.specs.declared.WishesAnswer.the-variants.{Given, Refused}
 use Rattle.wishes.specs.Answered.{wishesAnswerFor, Gives, WriteAnswered, ReadAnswered}
 use Rattle.wishes.proofs.Answers.{wishes-values}
-use Rattle.wishes.proofs.Promises.{first-case, first-room, first-none, write-found, write-given, read-found, read-worked, write-promised, read-promised, few-pairs}
+use Rattle.wishes.proofs.Promises.{first-case, first-room, first-none, write-found, write-given}
+use Rattle.wishes.proofs.Promises.{read-found, read-worked, write-promised, read-promised, few-pairs}
 
 -- ---- an outcome as answer and buffer
 

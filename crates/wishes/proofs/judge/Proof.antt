@@ -22,7 +22,11 @@ abbrev μ-loop : tie.MeasureT-loop
 μ-loop case table students text groups₀ at₀ k₀ groups at k = students - k
 
 loop-holds : tie.Need-loop-holds Inv-loop μ-loop
-loop-holds c = (c .before .before .before .before .pre .1 .1 .1, passed-none (marketIn (c .before .before .before .before .args .case .now)) (c .before .before .before .before .args .text .now))
+loop-holds c = (
+  c .before .before .before .before .pre .1 .1 .1,
+  passed-none (marketIn (c .before .before .before .before .args .case .now))
+      (c .before .before .before .before .args .text .now),
+)
 
 check-line-requires : tie.Need-check-line-requires Inv-loop μ-loop
 check-line-requires c κs =
@@ -37,7 +41,8 @@ check-line-requires c κs =
     )
 
 same-length : tie.Need-same-length Inv-loop μ-loop
-same-length c = c .before .before .before .before .check-line .ensures .sized ∙ sym (c .before .before .before .before .before .before .before .before .before .before .before .before .pre .1 .1 .1)
+same-length c = c .before .before .before .before .check-line .ensures .sized ∙ sym
+    (c .before .before .before .before .before .before .before .before .before .before .before .before .pre .1 .1 .1)
 
 returns : tie.Need-returns Inv-loop μ-loop
 returns c =
@@ -46,7 +51,13 @@ returns c =
     let line = c .before .before .before .before .check-line in (
       λ e. absurd (omega (arith, c .if1 .taken, e)),
       λ n.
-          passed-fault (marketIn (a .case .now)) (a .text .now) (here .k) (here .at) (here .inv .1) (omega (arith, c .before .before .before .before .before .before .loop-test .taken, c .before .before .before .before .before .before .before .before .before .before .before .before .pre .1 .1 .0))
+          passed-fault (marketIn (a .case .now)) (a .text .now) (here .k) (here .at) (here .inv .1)
+          (omega (
+            arith,
+            c .before .before .before .before .before .before .loop-test .taken,
+            c .before .before .before .before .before .before .before
+                .before .before .before .before .before .pre .1 .1 .0,
+          ))
           (λ z. n (line .ensures .fault ∙ z))
           ∙ ap (λ f. refused f (here .k)) (sym (line .ensures .fault)),
     )
@@ -65,7 +76,13 @@ loop-again c =
     let z : line .result .fault ≡ 0 = omega arith in
     let r = line .ensures .line z in (
       line .ensures .sized,
-      passed-on (marketIn (a .case .now)) (a .text .now) (here .k) (here .at) (here .inv .1) (omega (arith, c .before .before .before .before .before .before .loop-test .taken, c .before .before .before .before .before .before .before .before .before .before .before .before .pre .1 .1 .0))
+      passed-on (marketIn (a .case .now)) (a .text .now) (here .k) (here .at) (here .inv .1)
+          (omega (
+            arith,
+            c .before .before .before .before .before .before .loop-test .taken,
+            c .before .before .before .before .before .before .before
+                .before .before .before .before .before .pre .1 .1 .0,
+          ))
           (line .result .end) (r .4) (r .0) (r .1) (r .2) (r .3) (sym (line .ensures .fault) ∙ z),
     )
 
@@ -76,10 +93,17 @@ returns-2 : tie.Need-returns-2 Inv-loop μ-loop
 returns-2 c =
     let a = c .before .before .before .before .before .before .before .args in
     let here = c .before .before .loop in
-    let done : here .k ≡ marketIn (a .case .now) .students = omega (arith, c .before .loop-test .left, c .before .before .before .before .before .before .before .pre .1 .1 .0, here .inv .1 .few) in (
+    let done : here .k ≡ marketIn (a .case .now) .students = omega (
+      arith,
+      c .before .loop-test .left,
+      c .before .before .before .before .before .before
+          .before .pre .1 .1 .0,
+      here .inv .1 .few,
+    ) in (
       λ e. absurd (omega (arith, e)),
       λ n.
-          passed-over (marketIn (a .case .now)) (a .text .now) (here .at) (subst (λ k. Passed (marketIn (a .case .now)) (a .text .now) k (here .at)) done (here .inv .1))
+          passed-over (marketIn (a .case .now)) (a .text .now) (here .at) (subst (λ k. Passed (marketIn (a .case .now)) (a .text .now) k (here .at)) done
+          (here .inv .1))
           (omega (arith, c .if2 .taken, length-drop (here .at) (a .text .now)))
           ∙ ap (refused 14) (sym (c .before .before .before .before .before .before .before .pre .1 .1 .0)),
     )
@@ -91,9 +115,16 @@ returns-3 : tie.Need-returns-3 Inv-loop μ-loop
 returns-3 c =
     let a = c .before .before .before .before .before .before .before .args in
     let here = c .before .before .loop in
-    let done : here .k ≡ marketIn (a .case .now) .students = omega (arith, c .before .loop-test .left, c .before .before .before .before .before .before .before .pre .1 .1 .0, here .inv .1 .few) in (
+    let done : here .k ≡ marketIn (a .case .now) .students = omega (
+      arith,
+      c .before .loop-test .left,
+      c .before .before .before .before .before .before
+          .before .pre .1 .1 .0,
+      here .inv .1 .few,
+    ) in (
       λ e.
-          passed-all (marketIn (a .case .now)) (a .text .now) (here .at) (subst (λ k. Passed (marketIn (a .case .now)) (a .text .now) k (here .at)) done (here .inv .1))
+          passed-all (marketIn (a .case .now)) (a .text .now) (here .at) (subst (λ k. Passed (marketIn (a .case .now)) (a .text .now) k (here .at)) done
+          (here .inv .1))
           (omega (arith, c .if2 .left)),
       λ n. absurd (n refl),
     )

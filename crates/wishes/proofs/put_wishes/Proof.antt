@@ -45,13 +45,20 @@ copy-bytes-requires c κs = c .before .before .before .before .before .before .p
 loop-holds : tie.Need-loop-holds Inv-loop μ-loop
 loop-holds c =
     let a = c .before .before .before .before .before .before .before .before .before .args in
-    let bytes : Bytes (a .case .now) = record { below = λ k. omega (arith, c .before .before .before .before .before .before .before .before .shared-slice-known .given k) } in
+    let bytes : Bytes (a .case .now) = record {
+      below = λ k. omega (
+        arith,
+        c .before .before .before .before .before .before .before
+            .before .shared-slice-known .given k,
+      );
+    } in
     let copied = c .before .before .copy-bytes .ensures in (
       c .before .before .before .before .before .before .before .before .before .pre .1 .1 .1 .0 .0,
       refl,
       λ nothing ls e. (
         reaching-none (marketIn (a .case .now)) (a .text .now) ls e,
-        filled-none (a .case .now) nothing ls bytes _ _ (copied ∙ (sym (head-over (a .case .now) (a .case .now) (a .copy .now) refl) ∙ ap (withHead (a .case .now)) (sym copied))),
+        filled-none (a .case .now) nothing ls bytes _ _ (copied ∙ (sym (head-over (a .case .now) (a .case .now) (a .copy .now) refl) ∙ ap
+            (withHead (a .case .now)) (sym copied))),
       ),
     )
 
@@ -83,7 +90,18 @@ put-student-requires c κs =
       p .1 .0,
       (
         ((omega arith, omega (arith, few (a .case .now) (p .0))), omega (arith, row)),
-        (c .before .before .before .before .check-line .ensures .sized, omega (arith, here .inv .1, ap length (c .before .before .before .before .before .before .before .before .before .before .copy-bytes .ensures), p .1 .1 .1 .0 .1, head-length (a .case .now) (a .copy .now) (p .1 .1 .1 .0 .1))),
+        (
+          c .before .before .before .before .check-line .ensures .sized,
+          omega (
+            arith,
+            here .inv .1,
+            ap length
+                (c .before .before .before .before .before .before .before .before .before .before .copy-bytes .ensures),
+            p .1 .1 .1 .0 .1,
+            head-length
+                (a .case .now) (a .copy .now) (p .1 .1 .1 .0 .1),
+          ),
+        ),
       ),
     )
 
@@ -95,25 +113,34 @@ loop-less c = omega (arith, c .before .before .before .before .before .before .b
 
 loop-again : tie.Need-loop-again Inv-loop μ-loop
 loop-again c =
-    let a = c .before .before .before .before .before .before .before .before .before .before .before .before .before .before .before .before .before .before .before .before .args in
-    let p = c .before .before .before .before .before .before .before .before .before .before .before .before .before .before .before .before .before .before .before .before .pre in
+    let a = c .before .before .before .before .before .before .before .before .before .before .before .before .before .before .before .before .before .before
+    .before .before .args in
+    let p = c .before .before .before .before .before .before .before .before .before .before .before .before .before .before .before .before .before .before
+    .before .before .pre in
     let here = c .before .before .before .before .before .before .before .before .before .before .loop in
     let found = c .before .before .before .before .before .before .before .check-line in
     let put = c .before .before .put-student in
     let old = c .before .before .before .before .before .before .before .before .before .before .before .before .before .copy-bytes .last .1 .0 in
     let noted = found .last .1 .1 .1 .1 .1 .0 in
-    let less : here .k < marketIn (a .case .now) .students = omega (arith, c .before .before .before .before .before .before .before .before .before .loop-test .taken, p .1 .1 .0) in (
+    let less : here .k < marketIn (a .case .now) .students = omega (
+      arith,
+      c .before .before .before .before .before .before .before .before
+          .before .loop-test .taken,
+      p .1 .1 .0,
+    ) in (
       found .ensures .sized,
       put .ensures .1 ∙ here .inv .1,
       λ nothing ls e.
           let r = here .inv .2 nothing ls e in
-          let z : found .result .fault ≡ 0 = found .ensures .fault ∙ reaching-fault (marketIn (a .case .now)) (a .text .now) ls (here .k) (here .at) (r .0) less in
+          let z : found .result .fault ≡ 0 = found .ensures .fault ∙ reaching-fault (marketIn (a .case .now)) (a .text .now) ls (here .k) (here .at)
+          (r .0) less in
           let l = found .ensures .line z in
           let groups = reaching-groups (marketIn (a .case .now)) (a .text .now) ls (here .k) (here .at) (r .0) less (l .0) (l .1) (l .2) in
           let more : here .k + 1 ≡ suc (here .k) = omega arith in (
             reaching-on (marketIn (a .case .now)) (a .text .now) ls (here .k) (here .at) (r .0) less (l .0) (l .1) (l .2) (found .result .end) (l .4) (l .3),
             subst (λ n. Filled (a .case .now) nothing ls n old (put .last .1 .1 .1 .1 .0)) (sym more)
-                (student-shown (a .case .now) nothing ls (here .k) (omega arith) noted (λ x o. l .5 x o ∙ ap (λ gs. position gs x) (sym groups)) old (here .copy)
+                (student-shown (a .case .now) nothing ls (here .k) (omega arith) noted (λ x o. l .5 x o ∙ ap (λ gs. position gs x) (sym groups)) old
+                (here .copy)
                 (put .last .1 .1 .1 .1 .0)
                 (subst (λ s. StudentPut (a .case .now) noted s (here .copy) (put .last .1 .1 .1 .1 .0)) more (put .ensures .0)) (r .1)),
           ),
@@ -125,7 +152,8 @@ same-length c = c .before .loop .inv .0 ∙ sym (c .before .before .before .befo
 same-length-2 : tie.Need-same-length-2 Inv-loop μ-loop
 same-length-2 c =
     let a = c .before .before .before .before .before .before .before .before .before .before .before .args in
-    c .before .loop .inv .1 ∙ (ap length (c .before .before .before .before .copy-bytes .ensures) ∙ head-length (a .case .now) (a .copy .now) (c .before .before .before .before .before .before .before .before .before .before .before .pre .1 .1 .1 .0 .1))
+    c .before .loop .inv .1 ∙ (ap length (c .before .before .before .before .copy-bytes .ensures) ∙ head-length (a .case .now) (a .copy .now)
+    (c .before .before .before .before .before .before .before .before .before .before .before .pre .1 .1 .1 .0 .1))
 
 returns : tie.Need-returns Inv-loop μ-loop
 returns c =

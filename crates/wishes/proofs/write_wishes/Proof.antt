@@ -39,10 +39,22 @@ mul-if1 : tie.Need-mul-if1
 mul-if1 c = let k = answer (c .before) in omega (arith, k .1, few _ (k .0))
 
 mul-if1-2 : tie.Need-mul-if1-2
-mul-if1-2 c = let k = answer (c .before) in omega (arith, k .2, few-records (c .before .before .before .before .before .before .before .before .args .case .now))
+mul-if1-2 c = let k = answer (c .before) in omega (
+  arith,
+  k .2,
+  few-records (c .before .before .before .before .before .before .before
+      .before .args .case .now),
+)
 
 add-if1 : tie.Need-add-if1
-add-if1 c = let k = answer (c .before) in omega (arith, k .1, few _ (k .0), k .2, few-records (c .before .before .before .before .before .before .before .before .args .case .now))
+add-if1 c = let k = answer (c .before) in omega (
+  arith,
+  k .1,
+  few _ (k .0),
+  k .2,
+  few-records
+      (c .before .before .before .before .before .before .before .before .args .case .now),
+)
 
 returns : tie.Need-returns
 returns c =

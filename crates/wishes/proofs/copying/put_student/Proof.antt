@@ -94,7 +94,8 @@ loop-less c = omega arith
 
 loop-again : tie.Need-loop-again Inv-loop μ-loop
 loop-again c =
-    let a = c .before .before .before .before .before .before .before .before .before .before .before .before .before .before .before .before .before .before .args in
+    let a = c .before .before .before .before .before .before .before .before .before .before .before .before .before .before .before .before .before
+    .before .args in
     let here = c .before .before .before .before .before .before .before .loop in
     let own = c .before .before .before .before .before .before .before .before .before .before .before .before .before .pairs-of .result in
     let group : ℕ → ℕ = λ x. getD (a .groups .now) x 0 in (
