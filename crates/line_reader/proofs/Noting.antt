@@ -16,7 +16,7 @@ use Rattle.base.proofs.Below.{tally-append}
 use Rattle.base.proofs.Digits.{bit-zero}
 use Rattle.wish_lines.specs.Lines.{position}
 use Rattle.line_reader.specs.declared.Marks.{Marks}
-use Rattle.line_reader.specs.Items.{cap}
+use Rattle.line_reader.specs.Items.{cap, capGroup}
 use Rattle.line_reader.specs.Marks.{Noted, timesIn, Marked}
 
 or-yes : (a : Bool) → (a || true) ≡ true
@@ -147,7 +147,7 @@ marked-group gs m groups M =
       named = λ e w low. rw (times-group gs w) (M .named e w low);
       position = λ e x t.
           let u : timesIn gs x ≡ 1 = sym (times-group gs x) ∙ t in
-          M .position e x u ∙ ap cap (sym (position-group gs x (omega arith)));
+          M .position e x u ∙ ap capGroup (sym (position-group gs x (omega arith)));
     }
   where
     stray : (w : ℕ) × (1 ≤ w) × ((2 ≤ timesIn gs w) ⊎ ((64 < w) × (1 ≤ timesIn gs w)))
@@ -167,7 +167,7 @@ member-low n (suc w) e = omega arith
 
 -- the item y is noted, of a group that the items xs have begun
 module _ (gs : List (List ℕ)) (xs : List ℕ) (y : ℕ) (m m′ : Marks) (groups groups′ : List ℕ) (g : ℕ)
-    (M : Marked (gs ++ (xs ∷ [])) m groups) (N : Noted m m′ groups groups′ (cap y) g) (number : g ≡ cap (suc (length gs))) where
+    (M : Marked (gs ++ (xs ∷ [])) m groups) (N : Noted m m′ groups groups′ (cap y) g) (number : g ≡ capGroup (suc (length gs))) where
   abbrev old : List (List ℕ)
   old = gs ++ (xs ∷ [])
 
@@ -251,16 +251,16 @@ module _ (gs : List (List ℕ)) (xs : List ℕ) (y : ℕ) (m m′ : Marks) (grou
       workshop t (inl e) = rw (eq-eqb w y e) (omega (arith, ap (λ z. one (member (m .named) z)) e, ap one (C .fresh)))
       workshop t (inr e) = rw (ne-eqb w y e) (omega arith)
 
-  marked-position : Clean → (x : ℕ) → timesIn new x ≡ 1 → getD groups′ x 0 ≡ cap (position new x)
+  marked-position : Clean → (x : ℕ) → timesIn new x ≡ 1 → getD groups′ x 0 ≡ capGroup (position new x)
   marked-position C x t =
       ap (λ l. getD l x 0) (C .written)
       ∙ ⊎-elim
       (λ (e : x ≡ y).
       let none : timesIn old y ≡ 0 = omega (arith, times-item gs xs y x, ap one (eq-eqb x y e), ap (timesIn old) e) in
-      rw e (getD-set-same groups y g 0 (omega (arith, M .sized, C .small)) ∙ (number ∙ ap cap (sym (position-new gs xs y none)))))
+      rw e (getD-set-same groups y g 0 (omega (arith, M .sized, C .small)) ∙ (number ∙ ap capGroup (sym (position-new gs xs y none)))))
       (λ (e : x ≡ y → ⊥).
       let once : timesIn old x ≡ 1 = omega (arith, times-item gs xs y x, ap one (ne-eqb x y e)) in
-      getD-set-other groups y x g 0 e ∙ (M .position (C .before) x once ∙ ap cap (sym (position-other gs xs y x (ne-eqb x y e)))))
+      getD-set-other groups y x g 0 e ∙ (M .position (C .before) x once ∙ ap capGroup (sym (position-other gs xs y x (ne-eqb x y e)))))
       (eq? x y)
 
   pub marked-item : Marked (gs ++ ((xs ++ (y ∷ [])) ∷ [])) m′ groups′

@@ -14,7 +14,7 @@ use Rattle.wish_lines.specs.Reading.{scan, group}
 use Rattle.line_reader.specs.declared.Marks.{Marks}
 use Rattle.line_reader.specs.declared.Body.{Body}
 use Rattle.line_reader.specs.declared.Turn.{Turn}
-use Rattle.line_reader.specs.Items.{cap, before, Open, Leads, Turned}
+use Rattle.line_reader.specs.Items.{cap, capGroup, before, Open, Leads, Turned}
 use Rattle.line_reader.specs.Marks.{Noted, nextGroup, Marked, BodyRead}
 use Rattle.line_reader.proofs.Scanning.{scan-past}
 use Rattle.line_reader.proofs.Noting.{marked-start, marked-group, marked-item}
@@ -26,7 +26,7 @@ pub record Going (text : List ℕ) (from i : ℕ) (within : Bool) (g : ℕ) (m :
   pub opened : Open within items
   pub same : (s : ℕ) → scan (drop from text) (group s []) ≡ scan (drop i text) (before within s whole items)
   pub fits : i ≤ length text
-  pub number : g ≡ cap (suc (length whole))
+  pub number : g ≡ capGroup (suc (length whole))
   pub marks : Marked (whole ++ (items ∷ [])) m groups
 
 pub going-start : (text : List ℕ) (from : ℕ) (m : Marks) (groups : List ℕ) → from ≤ length text → length groups ≡ 65
@@ -35,7 +35,7 @@ going-start text from m groups l z d s n =
     record { whole = []; items = []; opened = refl; same = λ s. refl; fits = l; number = omega arith; marks = marked-start m groups d s n z }
 
 module _ {text : List ℕ} {from i : ℕ} {within : Bool} {g : ℕ} {m : Marks} {groups : List ℕ} (G : Going text from i within g m groups) where
-  pub going-small : (m .nones ≤ 1000) × (g ≤ 1000)
+  pub going-small : (m .nones ≤ 1000) × (g ≤ 200)
   going-small = (omega (arith, G .marks .nones), omega (arith, G .number))
 
   departed : (r : Body) → r .right ≡ false → ((s : ℕ) → scan (drop from text) (group s []) ≡ none) → BodyRead text from r groups
@@ -88,7 +88,7 @@ module _ {text : List ℕ} {from i : ℕ} {within : Bool} {g : ℕ} {m : Marks} 
           }
 
       -- a new one begins
-      going-group : t .kind ≡ 2 → Going text from (t .end) false (cap (g + 1)) m′ groups′
+      going-group : t .kind ≡ 2 → Going text from (t .end) false (capGroup (g + 1)) m′ groups′
       going-group k =
           record {
             whole = G .whole ++ ((G .items ++ (T .0 ∷ [])) ∷ []);

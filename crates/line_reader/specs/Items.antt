@@ -13,6 +13,10 @@ use Rattle.line_reader.specs.declared.Turn.{Turn}
 abbrev pub cap : ℕ → ℕ
 cap x = min x 1000
 
+-- a group's number as the code has it: a line that fits has at most 65
+abbrev pub capGroup : ℕ → ℕ
+capGroup x = min x 200
+
 -- the byte b stands at place i
 abbrev pub standsAt : List ℕ → ℕ → ℕ → Bool
 standsAt text i b = ltb i (length text) && eqb (getD text i 0) b

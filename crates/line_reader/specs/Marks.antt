@@ -11,7 +11,7 @@ use Rattle.base.specs.Lists.{one, tally}
 use Rattle.base.specs.Bits.{member}
 use Rattle.wish_lines.specs.Lines.{position}
 use Rattle.wish_lines.specs.Reading.{scan, group}
-use Rattle.line_reader.specs.Items.{cap}
+use Rattle.line_reader.specs.Items.{cap, capGroup}
 use Rattle.line_reader.specs.declared.Marks.{Marks}
 use Rattle.line_reader.specs.declared.Body.{Body}
 
@@ -25,7 +25,7 @@ pub record Noted (m m′ : Marks) (groups groups′ : List ℕ) (x g : ℕ) : Ty
 
 -- the number of the next item's group
 abbrev pub nextGroup : ℕ → Bool → ℕ
-nextGroup g within = cond within g (cap (g + 1))
+nextGroup g within = cond within g (capGroup (g + 1))
 
 -- how often the groups name the item
 abbrev pub timesIn : List (List ℕ) → ℕ → ℕ
@@ -37,7 +37,7 @@ pub record Marked (gs : List (List ℕ)) (m : Marks) (groups : List ℕ) : Type 
   pub nones : m .nones ≡ cap (timesIn gs 0)
   pub stray : m .stray ≡ true → (w : ℕ) × (1 ≤ w) × ((2 ≤ timesIn gs w) ⊎ ((64 < w) × (1 ≤ timesIn gs w)))
   pub named : m .stray ≡ false → (w : ℕ) → 1 ≤ w → timesIn gs w ≡ one (member (m .named) w)
-  pub position : m .stray ≡ false → (x : ℕ) → timesIn gs x ≡ 1 → getD groups x 0 ≡ cap (position gs x)
+  pub position : m .stray ≡ false → (x : ℕ) → timesIn gs x ≡ 1 → getD groups x 0 ≡ capGroup (position gs x)
 
 -- the groups that begin at place `from`, behind the student's number
 pub record BodyRead (text : List ℕ) (from : ℕ) (r : Body) (groups : List ℕ) : Type 0 where

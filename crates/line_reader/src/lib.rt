@@ -227,7 +227,7 @@ pub struct Marks {
 }
 
 // Item x of group g.
-fn note(groups: &mut [u16], m: Marks, x: u64, g: u16) -> Marks
+fn note(groups: &mut [u8], m: Marks, x: u64, g: u8) -> Marks
     requires { ⌜ (length (now groups) ≡ 65) × (m .nones ≤ 1000) ⌝ }
     ensures { λ r. ⌜ Noted m r (now (groups .entry)) (now (groups .exit)) x g ⌝ }
 {
@@ -258,17 +258,17 @@ fn note(groups: &mut [u16], m: Marks, x: u64, g: u16) -> Marks
 }
 
 // The number of the next item's group.
-fn next_group(g: u16, within: bool) -> u16
-    requires { ⌜ g ≤ 1000 ⌝ }
+fn next_group(g: u8, within: bool) -> u8
+    requires { ⌜ g ≤ 200 ⌝ }
     ensures { λ r. ⌜ r ≡ nextGroup g within ⌝ }
 {
     if within {
         return g;
     }
-    if g < 1000 {
+    if g < 200 {
         return g + 1;
     }
-    1000
+    200
 }
 
 // Where the groups end, and what they name; or `right` is false.
@@ -279,7 +279,7 @@ pub struct Body {
 }
 
 // The groups of a line, which begin at place `from`.
-fn read_groups(text: &[u8], from: usize, groups: &mut [u16]) -> Body
+fn read_groups(text: &[u8], from: usize, groups: &mut [u8]) -> Body
     requires { ⌜ (from ≤ length (now text)) × (length (now groups) ≡ 65) ⌝ }
     ensures { λ r. ⌜ BodyRead (now (text .entry)) from r (now (groups .exit)) ⌝ }
 {
@@ -288,7 +288,7 @@ fn read_groups(text: &[u8], from: usize, groups: &mut [u16]) -> Body
         stray: false,
         nones: 0,
     };
-    let mut g: u16 = 1;
+    let mut g: u8 = 1;
     let mut within = false;
     let mut i = from;
     while i < text.len() {
@@ -341,7 +341,7 @@ pub fn check_line(
     text: &[u8],
     from: usize,
     k: usize,
-    groups: &mut [u16],
+    groups: &mut [u8],
 ) -> LineFound
     requires { ⌜ Tabled (now case) (now table) ⌝ }
     requires { ⌜ Ranged (marketIn (now case)) ⌝ }

@@ -18,7 +18,7 @@ use Rattle.format.specs.Causes.{NothingFound}
 use Rattle.format.specs.Refusals.{caseCauses}
 use Rattle.format.specs.Engine.{marketIn}
 use Rattle.format.specs.Buffers.{withHead}
-use Rattle.format.proofs.Sorted.{row-at}
+use Rattle.format.proofs.Encoding.{case-length}
 use Rattle.format.proofs.Positions.{student-place, student-from, places, pair-only, pair-names}
 use Rattle.format.proofs.Positions.{pair-there as in-market}
 use Rattle.format.proofs.Cases.{case-whole, case-clean}
@@ -287,6 +287,17 @@ module _ (case : List ℕ) (nothing : NothingFound (caseCauses case)) (ls : List
       (λ j u.
       let q : j < rowCount case = omega (arith, tabulate-length f (rowCount case)) in
       tabulate-at f (rowCount case) j noRow q ∙ (h j q ∙ sym (tabulate-at g (rowCount case) j noRow q)))
+
+  pub wished-long : length (wished ls case) ≡ length case
+  unfolding wished rows
+  wished-long =
+      omega (
+        arith,
+        case-length (map (withWish ls) (rows case)),
+        length-map (rows case) (withWish ls),
+        tabulate-length (rowAt case) (rowCount case),
+        case-whole case nothing,
+      )
 
   pub filled-none : Bytes case → (old copy : List ℕ) → copy ≡ withHead case old → Filled 0 old copy
   unfolding rows

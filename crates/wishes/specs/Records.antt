@@ -1,13 +1,15 @@
 -- What the code does to the lent copy, and what it finds of a text: byte by byte and line by line.
-use Prim.Native.Nat.{ℕ, zero, suc, _+_, _-_, _*_, _/_, _%_}
+use Prim.Native.Nat.{ℕ, zero, suc, _+_, _-_, _*_, _/_, _%_, _<_}
 use mathlib.Core.Path.{_≡_}
 use mathlib.Core.List.{List}
 use lib.ListN.{getD, set}
 use Rattle.lgs.specs.Market.{Market}
 use Rattle.format.specs.Layout.{rowAt}
 use Rattle.tables.specs.Table.{Stretch}
-use Rattle.wish_lines.specs.Lines.{Line}
+use Rattle.wish_lines.specs.Lines.{Line, position}
 use Rattle.wish_lines.specs.Reading.{read, refused, readLines}
+use Rattle.wish_lines.specs.Wishes.{Option?}
+use Rattle.wishes.specs.Copy.{groupsIn}
 use Rattle.wishes.specs.declared.Verdict.{Verdict}
 
 -- record i with another third field
@@ -26,8 +28,12 @@ pub record StudentPut (case groups : List ℕ) (s : ℕ) (old new : List ℕ) : 
   pub pairs : Stretch case s first many
   pub put : new ≡ withPairs case (λ x. getD groups x 0) first many (withThirdAt old (s - 1) (getD groups 0 0))
 
--- a text is read, or the cause is not 0 and it is refused so
-abbrev pub Judged : Market → List ℕ → Verdict → Type 0
-Judged M text v =
-    (v .cause ≡ 0 → (ls : List Line) × (readLines M text ≡ read ls))
+-- the groups of each student's options stand from place 65 (s - 1) on: those of the lines
+abbrev pub AllNoted : Market → List Line → List ℕ → Type 0
+AllNoted M ls groups = (k x : ℕ) → k < M .students → Option? M (suc k) x → getD groups (65 * k + x) 0 ≡ position (groupsIn ls (suc k)) x
+
+-- a text is read, and its groups are noted; or the cause is not 0 and it is refused so
+abbrev pub Judged : Market → List ℕ → Verdict → List ℕ → Type 0
+Judged M text v groups =
+    (v .cause ≡ 0 → (ls : List Line) × (readLines M text ≡ read ls) × AllNoted M ls groups)
     × ((v .cause ≡ 0 → ⊥) → readLines M text ≡ refused (v .cause) (v .place))

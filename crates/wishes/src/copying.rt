@@ -19,6 +19,12 @@ pub fn copy_bytes(case: &[u8], copy: &mut [u8])
     }
 }
 
+fn wide(x: u8) -> u16
+    ensures { λ r. ⌜ r ≡ x ⌝ }
+{
+    x as u16
+}
+
 // Record i of the copy with this third field.
 fn put_third(copy: &mut [u8], i: usize, x: u16)
     requires { ⌜ 16 * i + 7 < length (now copy) ⌝ }
@@ -29,7 +35,7 @@ fn put_third(copy: &mut [u8], i: usize, x: u16)
 }
 
 // The record of student s with her line group, and those of her pairs with her groups: `groups` has that of none first, then the workshops'.
-pub fn put_student(case: &[u8], table: &[u64], s: usize, groups: &[u16], copy: &mut [u8])
+pub fn put_student(case: &[u8], table: &[u64], s: usize, groups: &[u8], copy: &mut [u8])
     requires { ⌜ Tabled (now case) (now table) ⌝ }
     requires { ⌜ ((1 ≤ s) × (s ≤ 512)) × (s ≤ rowCount (now case)) ⌝ }
     requires { ⌜ (length (now groups) ≡ 65) × (length (now case) ≤ length (now copy)) ⌝ }
@@ -39,11 +45,11 @@ pub fn put_student(case: &[u8], table: &[u64], s: usize, groups: &[u16], copy: &
     let own = tables::pairs_of(case, table, s);
     let first = own.first;
     let many = own.many;
-    put_third(&mut *copy, s - 1, groups[0]);
+    put_third(&mut *copy, s - 1, wide(groups[0]));
     let mut k = 0;
     while k < many {
         let w = records::second_at(case, first + k) as usize;
-        put_third(&mut *copy, first + k, groups[w]);
+        put_third(&mut *copy, first + k, wide(groups[w]));
         k += 1;
     }
 }

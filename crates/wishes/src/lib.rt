@@ -9,9 +9,8 @@ ghost use Rattle.format.specs.Buffers.{withHead};
 ghost use Rattle.case_tests.specs.Checked.{caseRefusal};
 ghost use Rattle.tables.specs.Table.{Tabled};
 ghost use Rattle.wish_lines.specs.Lines.{Line};
-ghost use Rattle.wish_lines.specs.Reading.{read, readLines};
 ghost use Rattle.wishes.specs.Copy.{wished};
-ghost use Rattle.wishes.specs.Records.{Judged};
+ghost use Rattle.wishes.specs.Records.{Judged, AllNoted};
 ghost use Rattle.wishes.specs.Answered.{wishesReportOf, WriteAnswered, ReadAnswered};
 use api::PartReport;
 use case_tests::Checked;
@@ -54,18 +53,19 @@ pub fn write_wishes(case: &[u8], text: &mut [u8]) -> WishesAnswer
     }
 }
 
-// The first fault of the text's lines: in each line 14 and then 15 before the next line.
-fn judge(case: &[u8], table: &[u64], students: usize, text: &[u8], groups: &mut [u16]) -> Verdict
+// The first fault of the text's lines: in each line 14 and then 15 before the next line. The groups of line k are noted from place 65 k on.
+fn judge(case: &[u8], table: &[u64], students: usize, text: &[u8], groups: &mut [u8]) -> Verdict
     requires { ⌜ caseRefusal (now case) ≡ none ⌝ }
     requires { ⌜ Tabled (now case) (now table) ⌝ }
     requires { ⌜ students ≡ marketIn (now case) .students ⌝ }
-    requires { ⌜ length (now groups) ≡ 65 ⌝ }
-    ensures { λ r. ⌜ Judged (marketIn (now (case .entry))) (now (text .entry)) r ⌝ }
+    requires { ⌜ length (now groups) ≡ 33280 ⌝ }
+    ensures { λ r. ⌜ Judged (marketIn (now (case .entry))) (now (text .entry)) r (now (groups .exit)) ⌝ }
 {
     let mut at = 0;
     let mut k = 0;
     while k < students {
-        let found = line_reader::check_line(case, table, text, at, k, &mut *groups);
+        let own = 65 * k;
+        let found = line_reader::check_line(case, table, text, at, k, &mut groups[own..own + 65]);
         if found.fault > 0 {
             return Verdict {
                 cause: found.fault,
@@ -84,35 +84,25 @@ fn judge(case: &[u8], table: &[u64], students: usize, text: &[u8], groups: &mut 
     Verdict { cause: 0, place: 0 }
 }
 
-// The copy of the case with the groups of the text's lines, in which there is no fault.
-fn put_wishes(
-    case: &[u8],
-    table: &[u64],
-    students: usize,
-    text: &[u8],
-    groups: &mut [u16],
-    copy: &mut [u8],
-)
+// The copy of the case with the groups that were noted.
+fn put_wishes(case: &[u8], table: &[u64], students: usize, groups: &[u8], copy: &mut [u8])
     requires { ⌜ caseRefusal (now case) ≡ none ⌝ }
     requires { ⌜ Tabled (now case) (now table) ⌝ }
     requires { ⌜ students ≡ marketIn (now case) .students ⌝ }
-    requires { ⌜ (length (now groups) ≡ 65) × (length (now case) ≤ length (now copy)) ⌝ }
-    requires { ⌜ ((ls : List Line) × (readLines (marketIn (now case)) (now text) ≡ read ls)) ⌝ }
-    ensures { λ _. ⌜ ((ls : List Line) → readLines (marketIn (now (case .entry))) (now (text .entry)) ≡ read ls
+    requires { ⌜ (length (now groups) ≡ 33280) × (length (now case) ≤ length (now copy)) ⌝ }
+    ensures { λ _. ⌜ ((ls : List Line) → AllNoted (marketIn (now (case .entry))) ls (now (groups .entry))
         → now (copy .exit) ≡ withHead (wished ls (now (case .entry))) (now (copy .entry))) ⌝ }
 {
     copying::copy_bytes(case, &mut *copy);
-    let mut at = 0;
     let mut k = 0;
     while k < students {
-        let found = line_reader::check_line(case, table, text, at, k, &mut *groups);
-        copying::put_student(case, table, k + 1, groups, &mut *copy);
-        at = found.end;
+        let own = 65 * k;
+        copying::put_student(case, table, k + 1, &groups[own..own + 65], &mut *copy);
         k += 1;
     }
 }
 
-// The copy for a text, or its first fault.
+// The copy for a text, or its first fault. The groups of all lines are kept until the last is judged: a refusal leaves the copy.
 fn read_into(
     case: &[u8],
     table: &[u64],
@@ -126,7 +116,7 @@ fn read_into(
     requires { ⌜ length (now case) ≤ length (now copy) ⌝ }
     ensures { λ a. ⌜ ReadAnswered (now (case .entry)) (now (text .entry)) (now (copy .entry)) a (now (copy .exit)) ⌝ }
 {
-    let mut groups = [0u16; 65];
+    let mut groups = [0u8; 33280];
     let found = judge(case, table, students, text, &mut groups);
     if found.cause > 0 {
         return WishesAnswer::Refused {
@@ -134,7 +124,7 @@ fn read_into(
             place: found.place,
         };
     }
-    put_wishes(case, table, students, text, &mut groups, &mut *copy);
+    put_wishes(case, table, students, &groups, &mut *copy);
     WishesAnswer::Given { bytes: case.len() }
 }
 

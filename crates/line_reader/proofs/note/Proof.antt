@@ -13,9 +13,6 @@ returns c =
     note-far (a .args .m) (record { named = a .args .m .named; stray = true; nones = a .args .m .nones }) (a .args .groups .now) _ (a .args .x) (a .args .g)
     (a .pre .1) (c .if1 .taken) refl refl refl
 
-mul-groups : tie.Need-mul-groups
-mul-groups c = search needs
-
 slice-write-groups : tie.Need-slice-write-groups
 slice-write-groups c = search needs
 
@@ -55,7 +52,6 @@ note-spec =
     tie.close
     (tie.spec
     returns
-    mul-groups
     slice-write-groups
     add-capped
     capped-requires

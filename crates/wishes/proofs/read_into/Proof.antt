@@ -3,7 +3,7 @@ use mathlib.Core.Path.{_≡_, refl, sym, _∙_}
 use native.Mathlib.Omega.{arith}
 use lib.ListN.{length}
 use Rattle.wishes.proofs.Working.{passed, read-by-line, read-done}
-use Rattle.wishes.proofs.Valid.{copy-length}
+use Rattle.wishes.proofs.Records.{wished-long}
 use borrow.Author.Needs.{needs}
 use Rattle.wishes.proofs.read_into.Statement.{statement}
 use Rattle.wishes.proofs.read_into.Tie as tie
@@ -32,19 +32,19 @@ slice-aggregate-put-wishes c = search needs
 put-wishes-requires : tie.Need-put-wishes-requires
 put-wishes-requires c κs =
     let p = c .before .before .before .before .before .before .before .before .before .before .before .pre in
-    (p .0, (p .1 .0, (p .1 .1 .0, ((search needs, p .1 .1 .1), c .before .before .before .before .before .judge .ensures .0 (omega arith)))))
+    (p .0, (p .1 .0, (p .1 .1 .0, (search needs, p .1 .1 .1))))
 
 same-length : tie.Need-same-length
 same-length c = search needs
 
 returns-2 : tie.Need-returns-2
 returns-2 c =
-    let a = c .before .before .before .before .before .before .before .before .before .before .before .before .before .before .before .args in
-    let p = c .before .before .before .before .before .before .before .before .before .before .before .before .before .before .before .pre in
-    let ls = c .before .before .before .before .before .before .before .before .before .judge .ensures .0 (omega arith) in
+    let a = c .before .before .before .before .before .before .before .before .before .before .before .before .before .before .args in
+    let p = c .before .before .before .before .before .before .before .before .before .before .before .before .before .before .pre in
+    let ls = c .before .before .before .before .before .before .before .before .judge .ensures .0 (omega arith) in
     read-done (a .case .now) (a .text .now) (a .copy .now) (p .0) (p .1 .1 .1) (ls .0) (length (a .case .now)) _ (ls .1)
-    (sym (copy-length (a .case .now) (passed (a .case .now) (p .0)) (a .text .now) (ls .0) (ls .1)))
-    (c .before .before .before .put-wishes .ensures (ls .0) (ls .1))
+    (sym (wished-long (a .case .now) (passed (a .case .now) (p .0)) (ls .0)))
+    (c .before .before .put-wishes .ensures (ls .0) (ls .2))
 
 pub read-into-spec : {M : Type 1} → statement M
 read-into-spec =
