@@ -1,11 +1,12 @@
 -- A student's workshops by tier: the sets after some of her pairs, and after all of them.
-use Prim.Native.Nat.{ℕ, zero, suc, _+_, _-_, _≤_, _<_}
+use Prim.Native.Nat.{ℕ, zero, suc, _+_, _-_, _≤_, _<_, max}
 use mathlib.Core.Path.{_≡_, refl, sym, ap, _∙_}
 use mathlib.Core.Logic.{⊎-elim}
 use mathlib.Core.Bool.{Bool, true, false, _&&_, _||_}
 use mathlib.Core.List.{List}
 use mathlib.Core.Option.{none}
 use native.Mathlib.Omega.{arith}
+use native.Mathlib.Nat.{le-max-left, le-max-right}
 use borrow.Author.Tests.{eq-eqb, ne-eqb, eqb-true}
 use lib.Dec.{eqb}
 use lib.ListN.{length, getD, set, length-set}
@@ -26,7 +27,7 @@ use Rattle.tables.specs.Table.{Tabled, Stretch}
 use Rattle.tables.proofs.Reading.{pair-there}
 use Rattle.case_tests.specs.Checked.{CleanCase, caseRefusal}
 use Rattle.case_tests.proofs.Cases.{clean, none-clean}
-use Rattle.line_writer.specs.Groups.{Empty, Gathered}
+use Rattle.line_writer.specs.Groups.{Empty, EmptyAbove, Gathered}
 
 -- record first + k is of a pair with workshop w in tier t
 abbrev pub isOf : List ℕ → ℕ → ℕ → ℕ → ℕ → Bool
@@ -91,6 +92,15 @@ module _ (case : List ℕ) (first : ℕ) where
           ∙ (ap (λ b. anyBelow (isOf case first t x) k || b) (sym (rw (ne-eqb (rowAt case (first + k) .third) t (λ e. d (q ∙ e)))))
           ∙ sym (any-on (isOf case first t x) k)))))
           (eq? tier t)
+
+-- no workshops above the larger of two tiers
+pub above-larger : (sets : List ℕ) (last tier : ℕ) → EmptyAbove last sets → EmptyAbove (max last tier) sets
+above-larger sets last tier E = record { zero = λ t l. E .zero t (omega (arith, le-max-left last tier)) }
+
+-- a set changes
+pub above-set : (sets : List ℕ) (last tier v : ℕ) → EmptyAbove last sets → EmptyAbove (max last tier) (set sets tier v)
+above-set sets last tier v E =
+    record { zero = λ t l. getD-set-other sets tier t v 0 (λ e. omega (arith, le-max-right last tier)) ∙ above-larger sets last tier E .zero t l }
 
 module _ (case : List ℕ) (e : caseRefusal case ≡ none) (s first many : ℕ) (S : Stretch case s first many) where
   sound : CleanCase case (marketIn case .students) (marketIn case .workshops)

@@ -121,14 +121,17 @@ module _ (case : List ℕ) (e : caseRefusal case ≡ none) where
     pub few-students : s < 1000
     few-students = omega (arith, in-range .students)
 
+    outside-tier : rowAt case (s - 1) .third ≡ studentOutside (marketIn case) s
+    outside-tier = sym (student-outside-at case (case-clean case (table-none (caseCauses case) e)) s one last)
+
+    pub outside-small : (outside : ℕ) → outside ≡ rowAt case (s - 1) .third → outside ≤ 65
+    outside-small outside f = omega (arith, f, outside-tier, in-range .tier s 0 one last refl)
+
     pub line-text : (sets : List ℕ) (outside : ℕ)
         → Gathered (marketIn case) s sets
         → outside ≡ rowAt case (s - 1) .third
         → ((decimal s ++ (58 ∷ []) ++ (32 ∷ [])) ++ joined (map groupText (groupsOf sets outside 65 1))) ++ (10 ∷ []) ≡ lineText (lineOf (marketIn case) s)
-    line-text sets outside G f =
-        let tier : outside ≡ studentOutside (marketIn case) s =
-        f ∙ sym (student-outside-at case (case-clean case (table-none (caseCauses case) e)) s one last) in
-        rw tier (line-parts (marketIn case) in-range s sets G)
+    line-text sets outside G f = rw (f, outside-tier) (line-parts (marketIn case) in-range s sets G)
 
   -- all lines, in a buffer with room for them
   pub all-lines : {text after : List ℕ} {end : ℕ} (n : ℕ)

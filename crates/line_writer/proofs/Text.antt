@@ -4,7 +4,7 @@ use mathlib.Core.Path.{_≡_, refl, ap, _∙_}
 use mathlib.Core.Bool.{Bool, true, false, cond, not, _&&_, _||_}
 use mathlib.Core.List.{List, [], _∷_, _++_, map, flatMap, append-nil}
 use native.Mathlib.Omega.{arith}
-use borrow.Author.Tests.{lt-ltb}
+use borrow.Author.Tests.{lt-ltb, ne-eqb}
 use lib.Dec.{eqb, ltb}
 use lib.ListN.{length, getD}
 use Rattle.base.specs.Lists.{one, count}
@@ -14,7 +14,7 @@ use Rattle.format.specs.Printed.{decimal}
 use Rattle.wish_lines.specs.Lines.{itemText, joined, groupText}
 use Rattle.wish_lines.specs.Wishes.{consGroup}
 use Rattle.wish_lines.proofs.Decimal.{decimal-small, decimal-more}
-use Rattle.line_writer.specs.Groups.{left, itemsOf, groupsOf}
+use Rattle.line_writer.specs.Groups.{left, itemsOf, groupsOf, EmptyAbove}
 
 -- ---- numbers
 
@@ -96,8 +96,13 @@ next-groups c sets outside t l =
     ap (λ k. left c (map groupText (groupsOf sets outside k t))) e
     ∙ groups-on c (itemsOf (eqb outside t) (getD sets t 0)) (groupsOf sets outside (66 - suc t) (suc t))
 
-pub no-groups : (c : Bool) (sets : List ℕ) (outside t : ℕ) → 66 ≤ t → left c (map groupText (groupsOf sets outside (66 - t) t)) ≡ []
+-- no tier above `last` has a group
+groups-above : (sets : List ℕ) (outside last : ℕ) → outside ≤ last → EmptyAbove last sets → (k t : ℕ) → last < t → groupsOf sets outside k t ≡ []
 unfolding groupsOf
-no-groups c sets outside t l =
-    let e : 66 - t ≡ 0 = omega arith in
-    ap (λ k. left c (map groupText (groupsOf sets outside k t))) e ∙ left-none c
+groups-above sets outside last o E zero t l = refl
+groups-above sets outside last o E (suc k) t l =
+    rw (E .zero t l, ne-eqb outside t (λ e. omega arith), members-empty) (groups-above sets outside last o E k (suc t) (omega arith))
+
+pub no-groups : (c : Bool) (sets : List ℕ) (outside last t : ℕ) → outside ≤ last → EmptyAbove last sets → last < t
+    → left c (map groupText (groupsOf sets outside (66 - t) t)) ≡ []
+no-groups c sets outside last t o E l = ap (λ gs. left c (map groupText gs)) (groups-above sets outside last o E (66 - t) t l) ∙ left-none c

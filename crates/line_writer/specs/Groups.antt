@@ -1,5 +1,5 @@
 -- A student's groups as the code has them: for each tier the set of her workshops in it, and the tier of none.
-use Prim.Native.Nat.{ℕ, zero, suc}
+use Prim.Native.Nat.{ℕ, zero, suc, _<_}
 use mathlib.Core.Path.{_≡_}
 use mathlib.Core.Bool.{Bool, true, false, _&&_}
 use mathlib.Core.List.{List, [], _++_, flatMap}
@@ -30,6 +30,10 @@ groupsOf sets outside (suc k) t = consGroup (itemsOf (eqb outside t) (getD sets 
 pub record Empty (sets : List ℕ) : Type 0 where
   pub sized : length sets ≡ 66
   pub zero : (t : ℕ) → getD sets t 0 ≡ 0
+
+-- no workshops in a tier above `last`
+pub record EmptyAbove (last : ℕ) (sets : List ℕ) : Type 0 where
+  pub zero : (t : ℕ) → last < t → getD sets t 0 ≡ 0
 
 -- the workshops of student s, by her tier for them
 pub record Gathered (M : Market) (s : ℕ) (sets : List ℕ) : Type 0 where

@@ -9,7 +9,7 @@ ghost use Rattle.base.specs.Bits.{members};
 ghost use Rattle.format.specs.Printed.{decimal};
 ghost use Rattle.putting.specs.Put.{Put};
 ghost use Rattle.wish_lines.specs.Lines.{itemText, joined, groupText};
-ghost use Rattle.line_writer.specs.Groups.{left, itemsOf, groupsOf};
+ghost use Rattle.line_writer.specs.Groups.{left, itemsOf, groupsOf, EmptyAbove};
 
 // The byte, or nothing.
 fn put_if(text: &mut [u8], at: usize, yes: bool, b: u8) -> usize
@@ -87,15 +87,16 @@ fn put_group(text: &mut [u8], at: usize, outside: bool, set: u64) -> usize
     put_if(text, end, braces, b'}')
 }
 
-// The groups of tiers 1 to 65 that have items, with a comma between each two.
-pub fn put_groups(text: &mut [u8], at: usize, sets: &[u64], outside: usize) -> usize
+// The groups of tiers 1 to 65 that have items, with a comma between each two; no tier above `last` has any.
+pub fn put_groups(text: &mut [u8], at: usize, sets: &[u64], outside: usize, last: usize) -> usize
     requires { ⌜ (at ≤ length (now text)) × (length (now sets) ≡ 66) ⌝ }
+    requires { ⌜ ((outside ≤ last) × (last ≤ 65)) × EmptyAbove last (now sets) ⌝ }
     ensures { λ r. ⌜ Put (joined (map groupText (groupsOf (now (sets .entry)) outside 65 1))) at (now (text .entry)) (now (text .exit)) r ⌝ }
 {
     let mut end = at;
     let mut comma = false;
     let mut t = 1;
-    while t < 66 {
+    while t <= last {
         let set = sets[t];
         let here = outside == t;
         let some = 0 < size_of(here, set);

@@ -23,12 +23,13 @@ fn put_line(case: &[u8], table: &[u64], s: usize, text: &mut [u8], at: usize) ->
     ensures { λ r. ⌜ Put (lineText (lineOf (marketIn (now (case .entry))) s)) at (now (text .entry)) (now (text .exit)) r ⌝ }
 {
     let mut sets = [0u64; 66];
-    sets::gather(case, table, s, &mut sets);
+    let last = sets::gather(case, table, s, &mut sets);
     let outside = records::third_at(case, s - 1) as usize;
+    let last = sets::larger(last, outside);
     let end = groups::put_number(&mut *text, at, s);
     let end = put_byte(&mut *text, end, b':');
     let end = put_byte(&mut *text, end, b' ');
-    let end = groups::put_groups(&mut *text, end, &sets, outside);
+    let end = groups::put_groups(&mut *text, end, &sets, outside, last);
     put_byte(text, end, b'\n')
 }
 

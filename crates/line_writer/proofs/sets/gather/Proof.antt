@@ -1,19 +1,22 @@
--- `line_writer::sets::gather` meets its contract. The invariant: the workshops of the first k of her records are in the sets (`Gathering`).
+-- `line_writer::sets::gather` meets its contract. The invariant: the workshops of the first k of her records are in the sets (`Gathering`), none above `last`.
 use Prim.Native.Nat.{_≤_, _<_, _-_}
 use mathlib.Core.Path.{_≡_, sym, _∙_}
 use native.Mathlib.Omega.{arith}
+use native.Mathlib.Nat.{max-le}
 use lib.ListN.{length}
 use Rattle.tables.specs.Table.{Stretch}
 use Rattle.case_tests.proofs.Cases.{few, none-clean}
-use Rattle.line_writer.proofs.Gathering.{Gathering, gathering-none, gathering-more, tier-small, workshop-named, gathered}
+use Rattle.line_writer.specs.Groups.{EmptyAbove}
+use Rattle.line_writer.proofs.Gathering.{Gathering, gathering-none, gathering-more, above-set, tier-small, workshop-named, gathered}
 use Rattle.line_writer.proofs.sets.gather.Statement.{statement}
 use Rattle.line_writer.proofs.sets.gather.Tie as tie
 
 abbrev Inv-loop : tie.InvT-loop
-Inv-loop case table s sets₀ first many k₀ sets k = (k ≤ many) × Stretch case s first many × Gathering case first k sets
+Inv-loop case table s sets₀ first many last₀ k₀ sets last k =
+    (k ≤ many) × Stretch case s first many × Gathering case first k sets × (last ≤ 65) × EmptyAbove last sets
 
 abbrev μ-loop : tie.MeasureT-loop
-μ-loop case table s sets₀ first many k₀ sets k = many - k
+μ-loop case table s sets₀ first many last₀ k₀ sets last k = many - k
 
 pairs-of-requires : tie.Need-pairs-of-requires Inv-loop μ-loop
 pairs-of-requires c κs =
@@ -33,7 +36,9 @@ small c =
     )
 
 loop-holds : tie.Need-loop-holds Inv-loop μ-loop
-loop-holds c = (omega arith, c .pairs-of .ensures, gathering-none _ _ _ (c .before .before .before .before .pre .1 .1 .1))
+loop-holds c =
+    let empty = c .before .before .before .before .pre .1 .1 .1 in
+    (omega arith, c .pairs-of .ensures, gathering-none _ _ _ empty, omega arith, record { zero = λ t l. empty .zero t })
 
 add-second-at : tie.Need-add-second-at Inv-loop μ-loop
 add-second-at c = omega (arith, c .before .loop .inv .1 .small, c .before .loop .inv .1 .few)
@@ -72,6 +77,9 @@ mul-sets c = omega arith
 slice-write-sets : tie.Need-slice-write-sets Inv-loop μ-loop
 slice-write-sets c = small (c .before .before)
 
+larger-requires : tie.Need-larger-requires Inv-loop μ-loop
+larger-requires c κs = tt
+
 add-k : tie.Need-add-k Inv-loop μ-loop
 add-k c = omega arith
 
@@ -80,12 +88,16 @@ loop-less c = omega arith
 
 loop-again : tie.Need-loop-again Inv-loop μ-loop
 loop-again c =
-    let start = c .before .before .before .before .before .before .before .before .before .before in
-    let here = c .before .before .before .before .before .loop in (
+    let bit = c .before in
+    let start = bit .before .before .before .before .before .before .before .before .before .before in
+    let here = bit .before .before .before .before .before .loop in
+    let low : bit .before .before .third-at .result < 66 = omega (arith, small (bit .before .before), here .inv .2 .sized) in (
       omega arith,
       here .inv .1,
-      gathering-more (start .args .case .now) _ (here .sets) (here .k) _ _ (c .with-bit .result) (here .inv .2) (c .before .before .before .second-at .ensures)
-          (c .before .before .third-at .ensures) (omega (arith, small (c .before .before), here .inv .2 .sized)) (c .with-bit .ensures .1),
+      gathering-more (start .args .case .now) _ (here .sets) (here .k) _ _ (bit .with-bit .result) (here .inv .2)
+          (bit .before .before .before .second-at .ensures) (bit .before .before .third-at .ensures) low (bit .with-bit .ensures .1),
+      rw (c .larger .ensures) (max-le (here .inv .3) (omega (arith, low))),
+      rw (c .larger .ensures) (above-set (here .sets) (here .last) _ _ (here .inv .4)),
     )
 
 same-length : tie.Need-same-length Inv-loop μ-loop
@@ -96,7 +108,7 @@ returns c =
     let start = c .before .before .before .before .before .before in
     let here = c .before .loop in
     let e : here .k ≡ c .before .before .pairs-of .result .many = omega arith in
-    gathered (start .args .case .now) (start .pre .0) (start .args .s) _ _ (here .inv .1) (here .sets) (rw e at (here .inv .2))
+    (gathered (start .args .case .now) (start .pre .0) (start .args .s) _ _ (here .inv .1) (here .sets) (rw e at (here .inv .2)), (here .inv .3, here .inv .4))
 
 pub gather-spec : {M : Type 1} → statement M
 gather-spec =
@@ -117,6 +129,7 @@ gather-spec =
     with-bit-requires
     mul-sets
     slice-write-sets
+    larger-requires
     add-k
     loop-less
     loop-again
