@@ -15,7 +15,7 @@
  *   - What is written overlaps nothing else that is lent. What is only read (case and book, case and a text to be read) may overlap.
  *   - No other thread writes to what is lent, or reads what is written, before the call returns.
  * Calls are reentrant: nothing is kept from call to call, so threads with buffers of their own may call at the same time. A call takes less than 16 KB
- * of the stack.
+ * of the stack, and one of lgs_read_wishes less than 48 KB.
  *
  * The buffers, counted in entries. Longer ones may be lent; shorter ones are refused (LGS_SHORT_BUFFER). lgs_needs gives the lengths for a case. The
  * last column suffices whatever the case.

@@ -7,7 +7,7 @@
 #include <string.h>
 #include <ucontext.h>
 
-enum { LIMIT = 16 * 1024, STACK = 16 * LIMIT, FILE_LIMIT = 65536, PATTERN = 0xab };
+enum { LIMIT = 16 * 1024, READ_LIMIT = 48 * 1024, STACK = 16 * LIMIT, FILE_LIMIT = 65536, PATTERN = 0xab };
 enum { STUDENTS = 512, WORKSHOPS = 64, RECORDS = STUDENTS + WORKSHOPS + STUDENTS * WORKSHOPS };
 
 static uint8_t stack[STACK], case_bytes[FILE_LIMIT], book_bytes[FILE_LIMIT];
@@ -68,17 +68,17 @@ static size_t call_on_stack(void (*function)(void))
     return STACK - left;
 }
 
-static void tell(const char *what, size_t used, int right)
+static void tell(const char *what, size_t used, size_t limit, int right)
 {
     printf("%s: %zu bytes of stack\n", what, used);
-    check(right && used < LIMIT, what);
+    check(right && used < limit, what);
 }
 
 /* One call of lgs_place; the answer is of this kind, with this first value. */
 static void measure(const char *what, uint64_t kind, uint64_t first)
 {
     size_t used = call_on_stack(call);
-    tell(what, used, report.kind == kind && report.first == first);
+    tell(what, used, LIMIT, report.kind == kind && report.first == first);
 }
 
 /* One call of lgs_stages; the last student has this stage after it. */
@@ -86,14 +86,14 @@ static void measure_stages(const char *what, uint64_t kind, uint64_t first, uint
 {
     memset(stages, 0, sizeof stages);
     size_t used = call_on_stack(call_stages);
-    tell(what, used, part_report.kind == kind && part_report.first == first && stages[STUDENTS - 1] == last);
+    tell(what, used, LIMIT, part_report.kind == kind && part_report.first == first && stages[STUDENTS - 1] == last);
 }
 
 /* One call of lgs_write_wishes or lgs_read_wishes. */
 static void measure_wishes(const char *what, void (*function)(void), uint64_t kind, uint64_t first, uint64_t second)
 {
     size_t used = call_on_stack(function);
-    tell(what, used, part_report.kind == kind && part_report.first == first && part_report.second == second);
+    tell(what, used, function == call_read ? READ_LIMIT : LIMIT, part_report.kind == kind && part_report.first == first && part_report.second == second);
 }
 
 static void put(size_t record, unsigned kind, unsigned a, unsigned b, unsigned c, unsigned d)
