@@ -1,7 +1,7 @@
 -- What holds of the copy of a case with the groups of a text that is read.
 use Prim.Native.Nat.{ℕ, zero, suc, _+_, _-_, _*_, _/_, _%_, _≤_, _<_}
 use mathlib.Core.Path.{_≡_, refl, sym, ap, _∙_, subst, fun-ext}
-use mathlib.Core.Logic.{⊎-elim}
+use mathlib.Core.Logic.{_⊎_, inl, inr, ⊎-elim}
 use mathlib.Core.Bool.{Bool}
 use mathlib.Core.List.{List, [], _∷_, _++_, map}
 use mathlib.Core.List.{List·Memᴰ as Mem, List·Memᴰ·head as here, List·Memᴰ·tail as later, List·Memᴰ·not-nil as not-nil, List·Memᴰ·cases-cons as cases-cons}
@@ -92,12 +92,22 @@ module _ (case : List ℕ) (nothing : NothingFound (caseCauses case)) (text : Li
       let k : (i : ℕ) × (i < rowCount case) × (x .0 ≡ rowAt case i) = tabulate-in (rowAt case) (rowCount case) (x .0) (x .1) in
       subst RowFits (ap (withWish ls) (sym (k .2)) ∙ x .2) (fits-kept (rowAt case (k .0)) (row-fits case (k .0) b) (third-small b (k .0) (k .1))))
 
-  new-byte : (r : Row) (k : ℕ) → (k ≡ 6 → ⊥) → (k ≡ 7 → ⊥) → getD (rowBytes (withWish ls r)) k 0 ≡ getD (rowBytes r) k 0
-  new-byte r k a b = ⊎-elim (λ c. ap (λ q. getD (rowBytes q) k 0) (c .2) ∙ byte-other r (c .0) k a b) (λ c. ap (λ q. getD (rowBytes q) k 0) c) (wish-cases ls r)
+  new-byte : (i k : ℕ) → i < rowCount case → ((k ≡ 6) ⊎ (k ≡ 7) → getD case (16 * i) 0 ≡ 2)
+      → getD (rowBytes (withWish ls (rowAt case i))) k 0 ≡ getD (rowBytes (rowAt case i)) k 0
+  unfolding rowAt
+  new-byte i k l two = ⊎-elim (λ e. stays (two (inl e))) (λ (a : k ≡ 6 → ⊥). ⊎-elim (λ e. stays (two (inr e))) (other a) (eq? k 7)) (eq? k 6)
+    where
+      stays : rowAt case i .kind ≡ 2 → getD (rowBytes (withWish ls (rowAt case i))) k 0 ≡ getD (rowBytes (rowAt case i)) k 0
+      stays q = ap (λ r. getD (rowBytes r) k 0) (keep-third case nothing text ls e i l (λ a. omega (arith, q)) (λ b. omega (arith, q)))
 
-  others : Bytes case → (i : ℕ) → (i % 16 ≡ 6 → ⊥) → (i % 16 ≡ 7 → ⊥) → getD copy i 0 ≡ getD case i 0
+      other : (k ≡ 6 → ⊥) → (k ≡ 7 → ⊥) → getD (rowBytes (withWish ls (rowAt case i))) k 0 ≡ getD (rowBytes (rowAt case i)) k 0
+      other a b =
+          ⊎-elim (λ c. ap (λ r. getD (rowBytes r) k 0) (c .2) ∙ byte-other (rowAt case i) (c .0) k a b) (λ c. ap (λ r. getD (rowBytes r) k 0) c)
+          (wish-cases ls (rowAt case i))
+
+  others : Bytes case → (i : ℕ) → ((i % 16 ≡ 6) ⊎ (i % 16 ≡ 7) → getD case (16 * (i / 16)) 0 ≡ 2) → getD copy i 0 ≡ getD case i 0
   unfolding wished
-  others b i p q = ⊎-elim inside (λ (l : length case ≤ i). List·getD-eq-default copy 0 (omega (arith, copy-length case nothing text ls e)) ∙ sym
+  others b i two = ⊎-elim inside (λ (l : length case ≤ i). List·getD-eq-default copy 0 (omega (arith, copy-length case nothing text ls e)) ∙ sym
       (List·getD-eq-default case 0 l)) (less? i (length case))
     where
       inside : i < length case → getD copy i 0 ≡ getD case i 0
@@ -108,7 +118,7 @@ module _ (case : List ℕ) (nothing : NothingFound (caseCauses case)) (text : Li
           ap (λ j. getD copy j 0) at
           ∙ (byte-at (map (withWish ls) (rows case)) (i / 16) (i % 16) (omega (arith, long)) (omega arith)
           ∙ (ap (λ r. getD (rowBytes r) (i % 16) 0) (new-at ls (rows case) (i / 16) ∙ ap (withWish ls) (row-at case (i / 16) row))
-          ∙ (new-byte (rowAt case (i / 16)) (i % 16) p q
+          ∙ (new-byte (i / 16) (i % 16) row two
           ∙ (read-byte case b (i / 16) (i % 16) (omega arith) ∙ ap (λ j. getD case j 0) (sym at)))))
 
   -- ---- its groups

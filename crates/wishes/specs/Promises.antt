@@ -45,9 +45,10 @@ pub record CopyOf (case copy : List ℕ) (ls : List Line) : Type 0 where
   pub copied : copy ≡ wished ls case
   pub long : length copy ≡ length case
   pub bytes : Bytes case → Bytes copy
-  -- the records are the case's, but for the groups of the lines; and so are all bytes but those of these two fields
+  -- the records are the case's, but for the groups of the lines
   pub records : rows copy ≡ map (withWish ls) (rows case)
-  pub others : Bytes case → (i : ℕ) → (i % 16 ≡ 6 → ⊥) → (i % 16 ≡ 7 → ⊥) → getD copy i 0 ≡ getD case i 0
+  -- every byte is the case's, but for bytes 6 and 7 of students' and pairs' records
+  pub others : Bytes case → (i : ℕ) → ((i % 16 ≡ 6) ⊎ (i % 16 ≡ 7) → getD case (16 * (i / 16)) 0 ≡ 2) → getD copy i 0 ≡ getD case i 0
   pub rest : SameRest (marketIn copy) (marketIn case)
   -- the groups are the positions in the line, within cause 5's range
   pub groups : (s x : ℕ) → 1 ≤ s → s ≤ marketIn case .students → Option? (marketIn case) s x
