@@ -6,7 +6,7 @@ use mathlib.Core.Bool.{false}
 use mathlib.Core.List.{List, [], _∷_, map}
 use mathlib.Core.List.{List·Memᴰ as Mem}
 use lib.Dec.{eqb}
-use lib.ListN.{length, getD, take}
+use lib.ListN.{length, getD}
 use Rattle.base.specs.Lists.{one, tally}
 use Rattle.lgs.specs.Market.{Market}
 use Rattle.format.specs.Layout.{rows}
@@ -56,9 +56,10 @@ pub record CopyOf (case copy : List ℕ) (ls : List Line) : Type 0 where
   -- "groups counted from 1": no number below that of a group is left out
   pub counted : (s x k : ℕ) → 1 ≤ s → s ≤ marketIn case .students → Option? (marketIn case) s x → 1 ≤ k → k ≤ marketIn copy .studentTier s x
       → (y : ℕ) × Option? (marketIn case) s y × (marketIn copy .studentTier s y ≡ k)
-  -- valid where the case was; with a book of visits but for 11, a student's equal marks in one group, as her groups may be others now
+  -- valid where the case was; with a book of visits only 11 may come: a student's equal marks, once in two groups, may now be in one
   pub valid : NothingFound (caseCauses copy)
-  pub engine : (book : List ℕ) (lent : Room) → Valid case book lent → NothingFound (take 11 (causes copy book lent))
+  pub unvisited : (lent : Room) → Valid case [] lent → Valid copy [] lent
+  pub engine : (book : List ℕ) (lent : Room) → Valid case book lent → (k i : ℕ) → FoundFirst (causes copy book lent) k i → k ≡ 11
 
 -- ---- What holds of an answer, whichever it is.
 
