@@ -6,7 +6,8 @@ use mathlib.Core.List.{List, [], _∷_, _++_, map}
 use mathlib.Core.List.{List·Memᴰ as Mem, List·Memᴰ·head as here, Memᴰ·append-left as in-left, Memᴰ·append-right as in-right}
 use mathlib.Core.Option.{Option, some, none}
 use native.Mathlib.Omega.{arith}
-use lib.ListN.{length, getD, length-map}
+use lib.ListN.{length, drop}
+use lib.Seq.{take-append-seam}
 use borrow.Author.Tests.{lt-ltb, le-ltb}
 use Rattle.base.specs.Lists.{any, tally}
 use Rattle.base.proofs.Tests.{less?}
@@ -301,38 +302,44 @@ wishes-six =
         go none f = absurd (line-number (lines-refused case text room 6 i (table-none (readCauses case room) f) .0 e .fault) refl)
 
 -- a buffer with these bytes at its head
-kept : (o : WishesOutcome) (needed : ℕ) (out : List ℕ) → ((t : List ℕ) → o ≡ given t → (length t ≤ needed) × (needed ≤ length out)) → BufferKept o needed out
+kept : (o : WishesOutcome) (out : List ℕ) → ((t : List ℕ) → o ≡ given t → length t ≤ length out) → BufferKept o out
 unfolding wishesAfter
-kept (given t) needed out h =
-    let l = h t refl in
+kept (given t) out h =
     record {
-      long = head-length t out (omega (arith, l));
-      past = λ i u. past-head t out i (omega (arith, l));
+      long = head-length t out (h t refl);
+      head = λ bytes e. let q : t ≡ bytes = given-same t bytes e in rw (← q) (take-append-seam t (drop (length t) out));
+      past = λ bytes e i u. past-head t out i (omega (arith, ap length (given-same t bytes e)));
       asFound = λ k i e. let y : _≡_ {A = ℕ} 0 1 = cc in absurd (omega arith);
     }
-kept (ungiven k i) needed out h = record { long = refl; past = λ i u. refl; asFound = λ k i e. refl }
+kept (ungiven k i) out h =
+    record {
+      long = refl;
+      head = λ bytes e. let y : _≡_ {A = ℕ} 0 1 = cc in absurd (omega arith);
+      past = λ bytes e i u. refl;
+      asFound = λ k i e. refl;
+    }
 
 pub wishes-kept : WishesKept
 unfolding writeCauses readCauses
 wishes-kept = record {
-  write = λ case text. kept (writeWishes case (length text)) (textRoom case) text (λ t e. by-write case text t e);
+  write = λ case text. kept (writeWishes case (length text)) text (λ t e. by-write case text t e);
   read =
-      λ case text copy. kept (readWishes case text (length copy)) (length case) copy (λ t e. by-read case text copy t e);
+      λ case text copy. kept (readWishes case text (length copy)) copy (λ t e. by-read case text copy t e);
 }
   where
-    by-write : (case text t : List ℕ) → writeWishes case (length text) ≡ given t → (length t ≤ textRoom case) × (textRoom case ≤ length text)
+    by-write : (case text t : List ℕ) → writeWishes case (length text) ≡ given t → length t ≤ length text
     by-write case text t e =
         let w = written case t (length text) e in
-        (rw (w .1) (text-fits case (write-case case (length text) (w .0))), room-enough case (textRoom case) (length text) (w .0))
+        omega (arith, ap length (w .1), text-fits case (write-case case (length text) (w .0)), room-enough case (textRoom case) (length text) (w .0))
 
-    by-read : (case text copy t : List ℕ) → readWishes case text (length copy) ≡ given t → (length t ≤ length case) × (length case ≤ length copy)
+    by-read : (case text copy t : List ℕ) → readWishes case text (length copy) ≡ given t → length t ≤ length copy
     by-read case text copy t e = go (firstCause (readCauses case (length copy))) refl
       where
-        go : (o : Option (ℕ × ℕ)) → firstCause (readCauses case (length copy)) ≡ o → (length t ≤ length case) × (length case ≤ length copy)
+        go : (o : Option (ℕ × ℕ)) → firstCause (readCauses case (length copy)) ≡ o → length t ≤ length copy
         go (some (k, j)) f = let z : ungiven k j ≡ given t = sym (read-found case (length copy) text k j f) ∙ e in let y : _≡_ {A = ℕ} 0 1 = cc in absurd
             (omega arith)
         go none f =
             let nothing : NothingFound (readCauses case (length copy)) = table-none (readCauses case (length copy)) f in
             let r = read-lines-exactly case text t (length copy) nothing .0 e in
             let long = copy-length case (read-case case (length copy) nothing) text (r .0) (lines-are (marketIn case) text (r .0) (r .1)) in
-            (omega (arith, ap length (r .2), long), room-enough case (length case) (length copy) nothing)
+            omega (arith, ap length (r .2), long, room-enough case (length case) (length copy) nothing)

@@ -6,7 +6,7 @@ use mathlib.Core.Bool.{false}
 use mathlib.Core.List.{List, [], _∷_, map}
 use mathlib.Core.List.{List·Memᴰ as Mem}
 use lib.Dec.{eqb}
-use lib.ListN.{length, getD}
+use lib.ListN.{length, getD, take}
 use Rattle.base.specs.Lists.{one, tally}
 use Rattle.lgs.specs.Market.{Market}
 use Rattle.format.specs.Layout.{rows}
@@ -163,12 +163,13 @@ SevenCauses =
     → (map (λ (c : Cause). c .0) (writeCauses case room) ≡ 1 ∷ 2 ∷ 3 ∷ 4 ∷ 5 ∷ 13 ∷ 6 ∷ [])
     × (map (λ (c : Cause). c .0) (readCauses case room) ≡ 1 ∷ 2 ∷ 3 ∷ 4 ∷ 5 ∷ 13 ∷ 6 ∷ [])
 
--- the lent buffer keeps its length and the bytes past those needed; "a refusal leaves their outputs as found"
-pub record BufferKept (o : WishesOutcome) (needed : ℕ) (out : List ℕ) : Type 0 where
+-- the lent buffer keeps its length and the bytes past those given; "a refusal leaves their outputs as found"
+pub record BufferKept (o : WishesOutcome) (out : List ℕ) : Type 0 where
   pub long : length (wishesAfter o out) ≡ length out
-  pub past : (i : ℕ) → needed ≤ i → getD (wishesAfter o out) i 0 ≡ getD out i 0
+  pub head : (bytes : List ℕ) → o ≡ given bytes → take (length bytes) (wishesAfter o out) ≡ bytes
+  pub past : (bytes : List ℕ) → o ≡ given bytes → (i : ℕ) → length bytes ≤ i → getD (wishesAfter o out) i 0 ≡ getD out i 0
   pub asFound : (k i : ℕ) → o ≡ ungiven k i → wishesAfter o out ≡ out
 
 pub record WishesKept : Type 0 where
-  pub write : (case text : List ℕ) → BufferKept (writeWishes case (length text)) (textRoom case) text
-  pub read : (case text copy : List ℕ) → BufferKept (readWishes case text (length copy)) (length case) copy
+  pub write : (case text : List ℕ) → BufferKept (writeWishes case (length text)) text
+  pub read : (case text copy : List ℕ) → BufferKept (readWishes case text (length copy)) copy
