@@ -156,7 +156,7 @@ pub record WishesSix : Type 0 where
       → (readWishes case text room ≡ ungiven 6 i) ↔ ((i ≡ 0) × NothingFound (caseCauses case) × (room < length case))
   pub enough : (case : List ℕ) → NothingFound (caseCauses case) → textRoom case ≤ 8 * 512 + 4 * (length case / 16)
 
--- the numbers of the causes that look at the whole input, in the order in which they are tested
+-- the numbers of the causes before the lines: those of the case, and 6, in the order in which they are tested
 abbrev pub SevenCauses : Type 0
 SevenCauses =
     (case : List ℕ) (room : ℕ)
