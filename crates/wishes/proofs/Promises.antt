@@ -198,6 +198,7 @@ write-then-read case text room copyRoom e enough =
     equal-lines M (marketIn (wished ls case)) (ranged case nothing) (ranged (wished ls case) (kept .valid)) .1 same in (
       wished ls case,
       read-worked case copyRoom text first ∙ ap (copyFor case) back,
+      kept,
       same,
       write-given (wished ls case) room again ∙ ap given (sym lines ∙ sym (w .1)),
     )

@@ -17,7 +17,7 @@ use Rattle.format.specs.Engine.{marketIn}
 use Rattle.format.specs.Promises.{Valid}
 use Rattle.wish_lines.specs.Lines.{Line, linesText, times, Formed, position}
 use Rattle.wish_lines.specs.Reading.{misnamed, FitLines, FirstFault}
-use Rattle.wish_lines.specs.Wishes.{wishText, Option?, SameWishes}
+use Rattle.wish_lines.specs.Wishes.{linesOf, wishText, Option?, SameWishes}
 use Rattle.wishes.specs.Copy.{groupsIn, withWish, wished}
 use Rattle.wishes.specs.Outcome.{WishesOutcome, given, ungiven, textRoom, writeCauses, readCauses, writeWishes, readWishes, wishesAfter}
 
@@ -78,8 +78,8 @@ ReadPromised case text room (ungiven k i) =
 
 -- ---- Promises of their own.
 
--- "What was written is read as that order": no refusal, and "all students' groups, none included, have the same order, gaps aside"; a second write gives
--- the same bytes
+-- "What was written is read as that order": no refusal, the copy has the case's own lines with "groups counted from 1", and "all students' groups, none
+-- included, have the same order, gaps aside"; a second write gives the same bytes
 abbrev pub WriteThenRead : Type 0
 WriteThenRead =
     (case text : List ℕ) (room copyRoom : ℕ)
@@ -87,6 +87,7 @@ WriteThenRead =
     → length case ≤ copyRoom
     → (copy : List ℕ)
     × (readWishes case text copyRoom ≡ given copy)
+    × CopyOf case copy (linesOf (marketIn case))
     × SameWishes (marketIn case) (marketIn copy)
     × (writeWishes copy room ≡ given text)
 
