@@ -5,6 +5,7 @@ pub mod Grammar
 pub mod Groups
 pub mod Named
 pub mod Written
+pub mod Rising
 pub mod Equal
 pub mod Length
 pub mod Causes

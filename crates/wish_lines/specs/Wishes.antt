@@ -5,6 +5,7 @@ use mathlib.Core.Logic.{_↔_}
 use mathlib.Core.Bool.{true}
 use mathlib.Core.List.{List, [], _∷_}
 use lib.Dec.{eqb}
+use lib.ListN.{length, getD}
 use Rattle.base.specs.Lists.{upto, keep, count, total}
 use Rattle.lgs.specs.Market.{Market}
 use Rattle.lgs.specs.Profiles.{outsideOr}
@@ -51,6 +52,10 @@ pairsOf M = total (λ s. count (M .paired s) (M .workshops)) (M .students)
 
 abbrev pub Option? : Market → ℕ → ℕ → Type 0
 Option? M s x = outsideOr (M .paired s) x ≡ true
+
+-- "rising"
+abbrev pub Rising : List ℕ → Type 0
+Rising g = (i j : ℕ) → i < j → j < length g → getD g i 0 < getD g j 0
 
 -- what a case that passes 1 to 5 has
 pub record Ranged (M : Market) : Type 0 where

@@ -82,7 +82,7 @@ module _ (case : List ℕ) (nothing : NothingFound (caseCauses case)) where
 
   -- ---- from the case's own lines: "what was written is read as that order"
 
-  own-groups : (s : ℕ) → 1 ≤ s → s ≤ M .students → groupsIn (linesOf M) s ≡ lineOf M s .groups
+  pub own-groups : (s : ℕ) → 1 ≤ s → s ≤ M .students → groupsIn (linesOf M) s ≡ lineOf M s .groups
   unfolding linesOf
   own-groups s l u = ap (λ h. h .groups) (from-at M (M .students) 0 (s - 1) _ (omega arith) ∙ ap (lineOf M) (omega arith))
 

@@ -23,7 +23,8 @@ use Rattle.format.proofs.Cases.{case-counts}
 use Rattle.wish_lines.specs.Lines.{Line, linesText}
 use Rattle.wish_lines.specs.Reading.{Reading, read, refused, readLines, Fault, departs, leftOver, names, FirstFault}
 use Rattle.wish_lines.specs.Wishes.{linesOf, wishText, SameWishes}
-use Rattle.wish_lines.proofs.Written.{read-back}
+use Rattle.wish_lines.proofs.Written.{written-order, read-back}
+use Rattle.wish_lines.proofs.Rising.{lines-rise}
 use Rattle.wish_lines.proofs.Equal.{equal-lines}
 use Rattle.wish_lines.proofs.Ranged.{ranged, text-room}
 use Rattle.wish_lines.proofs.Causes.{read-exactly, refused-exactly}
@@ -33,9 +34,9 @@ use Rattle.wishes.specs.Outcome.{WishesOutcome, given, ungiven, textRoom
 use Rattle.wishes.specs.Outcome.{writeCauses, readCauses, unlessFound, copyFor, writeWishes, readWishes}
 use Rattle.wishes.specs.Outcome.{wishesAfter}
 use Rattle.wishes.specs.Promises.{IsLines, CopyOf, WritePromised, ReadPromised, WriteThenRead, EqualLines, ReadExactly, LinesRefused, NamedOnce, AnyOrder}
-use Rattle.wishes.specs.Promises.{WishesSix, SevenCauses, BufferKept, WishesKept}
+use Rattle.wishes.specs.Promises.{WrittenRising, WishesSix, SevenCauses, BufferKept, WishesKept}
 use Rattle.wishes.proofs.Case.{unseen, tally-new, new-rows}
-use Rattle.wishes.proofs.Copy.{written-copy}
+use Rattle.wishes.proofs.Copy.{own-groups, written-copy}
 use Rattle.wishes.proofs.Valid.{copy-length}
 use Rattle.wishes.proofs.Kept.{copy-of}
 use Rattle.wishes.proofs.Reordered.{read-alike}
@@ -201,6 +202,17 @@ write-then-read case text room copyRoom e enough =
       kept,
       same,
       write-given (wished ls case) room again ∙ ap given (sym lines ∙ sym (w .1)),
+    )
+
+pub written-rising : WrittenRising
+written-rising case text room e =
+    let w = written case text room e in
+    let nothing : NothingFound (caseCauses case) = write-case case room (w .0) in
+    let M : Market = marketIn case in (
+      linesOf M,
+      is-lines M text (linesOf M) (ap (readLines M) (w .1) ∙ read-back M (ranged case nothing)),
+      lines-rise M,
+      λ s x y l u p q. rw (own-groups case nothing s l u) (written-order M (ranged case nothing) s l u x y p q .0),
     )
 
 pub equal-written : EqualLines

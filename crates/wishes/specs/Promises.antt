@@ -17,7 +17,7 @@ use Rattle.format.specs.Engine.{marketIn}
 use Rattle.format.specs.Promises.{Valid}
 use Rattle.wish_lines.specs.Lines.{Line, linesText, times, Formed, position}
 use Rattle.wish_lines.specs.Reading.{misnamed, FitLines, FirstFault}
-use Rattle.wish_lines.specs.Wishes.{linesOf, wishText, Option?, SameWishes}
+use Rattle.wish_lines.specs.Wishes.{linesOf, wishText, Option?, Rising, SameWishes}
 use Rattle.wishes.specs.Copy.{groupsIn, withWish, wished}
 use Rattle.wishes.specs.Outcome.{WishesOutcome, given, ungiven, textRoom, writeCauses, readCauses, writeWishes, readWishes, wishesAfter}
 
@@ -90,6 +90,18 @@ WriteThenRead =
     × CopyOf case copy (linesOf (marketIn case))
     × SameWishes (marketIn case) (marketIn copy)
     × (writeWishes copy room ≡ given text)
+
+-- what is written: lines that fit the case, "groups best first" by the case's own order, and "items in braces are written rising, with `-` first", as none
+-- is 0
+abbrev pub WrittenRising : Type 0
+WrittenRising =
+    (case text : List ℕ) (room : ℕ)
+    → writeWishes case room ≡ given text
+    → (ls : List Line)
+    × IsLines (marketIn case) text ls
+    × ((l : Line) → Mem l ls → (g : List ℕ) → Mem g (l .groups) → Rising g)
+    × ((s x y : ℕ) → 1 ≤ s → s ≤ marketIn case .students → Option? (marketIn case) s x → Option? (marketIn case) s y
+    → (marketIn case .studentTier s x < marketIn case .studentTier s y) ↔ (position (groupsIn ls s) x < position (groupsIn ls s) y))
 
 -- "Two cases write equal lines exactly when they have, by number, the same students and pairs, and all students' groups, none included, have the same
 -- order, gaps aside"
