@@ -255,13 +255,14 @@ pub named-once : NamedOnce
 named-once case l nothing = named-exactly (marketIn case) (ranged case nothing) l
 
 pub any-order : AnyOrder
-any-order case room ls ls′ f o = go (firstCause (readCauses case room)) refl
+any-order case rest room ls ls′ f o = go (firstCause (readCauses case room)) refl
   where
-    go : (r : Option (ℕ × ℕ)) → firstCause (readCauses case room) ≡ r → readWishes case (linesText ls) room ≡ readWishes case (linesText ls′) room
-    go (some (k, i)) e = read-found case room (linesText ls) k i e ∙ sym (read-found case room (linesText ls′) k i e)
+    go : (r : Option (ℕ × ℕ)) → firstCause (readCauses case room) ≡ r
+        → readWishes case (linesText ls ++ rest) room ≡ readWishes case (linesText ls′ ++ rest) room
+    go (some (k, i)) e = read-found case room (linesText ls ++ rest) k i e ∙ sym (read-found case room (linesText ls′ ++ rest) k i e)
     go none e =
-        read-worked case room (linesText ls) e
-        ∙ (read-alike case (ranged case (read-case case room (table-none (readCauses case room) e))) ls ls′ f o ∙ sym (read-worked case room (linesText ls′) e))
+        let R = ranged case (read-case case room (table-none (readCauses case room) e)) in
+        read-worked case room (linesText ls ++ rest) e ∙ (read-alike case rest R ls ls′ f o ∙ sym (read-worked case room (linesText ls′ ++ rest) e))
 
 -- ---- room and buffers
 

@@ -3,7 +3,7 @@ use Prim.Native.Nat.{ℕ, _+_, _*_, _/_, _%_, _≤_, _<_}
 use mathlib.Core.Path.{_≡_}
 use mathlib.Core.Logic.{_⊎_, _↔_}
 use mathlib.Core.Bool.{false}
-use mathlib.Core.List.{List, [], _∷_, map}
+use mathlib.Core.List.{List, [], _∷_, _++_, map}
 use mathlib.Core.List.{List·Memᴰ as Mem}
 use lib.Dec.{eqb}
 use lib.ListN.{length, getD, take}
@@ -151,13 +151,13 @@ pub data Reordered : List Line → List Line → Type 0 where
   moreLines : {l l′ : Line} {ls ls′ : List Line} → l .student ≡ l′ .student → SameGroups (l .groups) (l′ .groups) → Reordered ls ls′
       → Reordered (l ∷ ls) (l′ ∷ ls′)
 
--- the answer is the same, copy or refusal
+-- the answer is the same, copy or refusal, whatever stands behind these lines
 abbrev pub AnyOrder : Type 0
 AnyOrder =
-    (case : List ℕ) (room : ℕ) (ls ls′ : List Line)
+    (case rest : List ℕ) (room : ℕ) (ls ls′ : List Line)
     → ((l : Line) → Mem l ls → Formed l)
     → Reordered ls ls′
-    → readWishes case (linesText ls) room ≡ readWishes case (linesText ls′) room
+    → readWishes case (linesText ls ++ rest) room ≡ readWishes case (linesText ls′ ++ rest) room
 
 -- ---- Room and buffers.
 
