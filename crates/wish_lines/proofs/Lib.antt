@@ -10,6 +10,7 @@ pub mod Equal
 pub mod Length
 pub mod Causes
 pub mod Naming
+pub mod SamePairs
 pub mod Namings
 pub mod Counted
 pub mod Appending

@@ -29,12 +29,13 @@ use Rattle.wish_lines.proofs.Equal.{equal-lines}
 use Rattle.wish_lines.proofs.Ranged.{ranged, text-room}
 use Rattle.wish_lines.proofs.Causes.{read-exactly, refused-exactly}
 use Rattle.wish_lines.proofs.Naming.{named-exactly}
+use Rattle.wish_lines.proofs.SamePairs.{read-too}
 use Rattle.wishes.specs.Copy.{wished}
 use Rattle.wishes.specs.Outcome.{WishesOutcome, given, ungiven, textRoom, lentCauses}
 use Rattle.wishes.specs.Outcome.{writeCauses, readCauses, unlessFound, copyFor, writeWishes, readWishes}
 use Rattle.wishes.specs.Outcome.{wishesAfter}
 use Rattle.wishes.specs.Promises.{IsLines, CopyOf, WritePromised, ReadPromised, WriteThenRead, EqualLines, ReadExactly, LinesRefused, NamedOnce, AnyOrder}
-use Rattle.wishes.specs.Promises.{WrittenRising, WishesSix, SevenCauses, BufferKept, WishesKept}
+use Rattle.wishes.specs.Promises.{ReadIntoAnother, WrittenRising, WishesSix, SevenCauses, BufferKept, WishesKept}
 use Rattle.wishes.proofs.Case.{unseen, tally-new, new-rows}
 use Rattle.wishes.proofs.Copy.{own-groups, written-copy}
 use Rattle.wishes.proofs.Valid.{copy-length}
@@ -181,28 +182,37 @@ unfolding textRoom
 room-copied case ls nothing same =
     omega (arith, same, ap (tally (ofKind 3)) (new-rows ls case nothing) ∙ tally-new ls (ofKind 3) (unseen ls (ofKind 3) (λ r x. refl)) (rows case))
 
-pub write-then-read : WriteThenRead
+pub read-into-another : ReadIntoAnother
 unfolding writeCauses readCauses copyFor
-write-then-read case text room copyRoom e enough =
+read-into-another case case′ text room copyRoom again e nothing′ students pairs enough =
     let w = written case text room e in
-    let nothing : NothingFound (caseCauses case) = write-case case room (w .0) in
+    let N : NothingFound (caseCauses case) = write-case case room (w .0) in
+    let N′ : NothingFound (caseCauses case′) = read-case case′ copyRoom nothing′ in
     let M : Market = marketIn case in
     let ls : List Line = linesOf M in
-    let back : readLines M text ≡ read ls = ap (readLines M) (w .1) ∙ read-back M (ranged case nothing) in
-    let kept : CopyOf case (wished ls case) ls = copy-of case nothing text ls back in
-    let same : SameWishes M (marketIn (wished ls case)) = written-copy case nothing in
-    let first : firstCause (readCauses case copyRoom) ≡ none = first-none case (length case) copyRoom (none-table (caseCauses case) nothing) enough in
-    let again : firstCause (writeCauses (wished ls case) room) ≡ none =
-    first-none (wished ls case) (textRoom (wished ls case)) room (none-table (caseCauses (wished ls case)) (kept .valid))
-    (omega (arith, room-copied case ls nothing (sym (same .students)), room-enough case (textRoom case) room (w .0))) in
-    let lines : wishText M ≡ wishText (marketIn (wished ls case)) =
-    equal-lines M (marketIn (wished ls case)) (ranged case nothing) (ranged (wished ls case) (kept .valid)) .1 same in (
-      wished ls case,
-      read-worked case copyRoom text first ∙ ap (copyFor case) back,
+    let copy : List ℕ = wished ls case′ in
+    let back : readLines (marketIn case′) text ≡ read ls =
+    read-too M (marketIn case′) (ranged case N) (ranged case′ N′) students pairs text ls (ap (readLines M) (w .1) ∙ read-back M (ranged case N)) in
+    let kept : CopyOf case′ copy ls = copy-of case′ N′ text ls back in
+    let same : SameWishes M (marketIn copy) = written-copy case N case′ N′ students pairs in
+    let first : firstCause (writeCauses copy again) ≡ none =
+    first-none copy (textRoom copy) again (none-table (caseCauses copy) (kept .valid)) (omega (arith, room-copied case′ ls N′ (kept .rest .students))) in
+    let lines : wishText M ≡ wishText (marketIn copy) = equal-lines M (marketIn copy) (ranged case N) (ranged copy (kept .valid)) .1 same in (
+      copy,
+      read-worked case′ copyRoom text (none-table (readCauses case′ copyRoom) nothing′) ∙ ap (copyFor case′) back,
       kept,
       same,
-      write-given (wished ls case) room again ∙ ap given (sym lines ∙ sym (w .1)),
+      write-given copy again first ∙ ap given (sym lines ∙ sym (w .1)),
     )
+
+pub write-then-read : WriteThenRead
+unfolding writeCauses readCauses
+write-then-read case text room copyRoom e enough =
+    let w = written case text room e in
+    let first : firstCause (readCauses case copyRoom) ≡ none =
+    first-none case (length case) copyRoom (none-table (caseCauses case) (write-case case room (w .0))) enough in
+    read-into-another case case text room copyRoom room e (table-none (readCauses case copyRoom) first) refl (λ s v. refl)
+    (room-enough case (textRoom case) room (w .0))
 
 pub written-rising : WrittenRising
 written-rising case text room e =

@@ -91,6 +91,21 @@ WriteThenRead =
     × SameWishes (marketIn case) (marketIn copy)
     × (writeWishes copy room ≡ given text)
 
+-- the same where another case is read into that has the same students and pairs
+abbrev pub ReadIntoAnother : Type 0
+ReadIntoAnother =
+    (case case′ text : List ℕ) (room copyRoom again : ℕ)
+    → writeWishes case room ≡ given text
+    → NothingFound (readCauses case′ copyRoom)
+    → marketIn case .students ≡ marketIn case′ .students
+    → ((s w : ℕ) → marketIn case .paired s w ≡ marketIn case′ .paired s w)
+    → textRoom case′ ≤ again
+    → (copy : List ℕ)
+    × (readWishes case′ text copyRoom ≡ given copy)
+    × CopyOf case′ copy (linesOf (marketIn case))
+    × SameWishes (marketIn case) (marketIn copy)
+    × (writeWishes copy again ≡ given text)
+
 -- what is written: lines that fit the case, "groups best first" by the case's own order, and "items in braces are written rising, with `-` first", as none
 -- is 0
 abbrev pub WrittenRising : Type 0
