@@ -1,7 +1,7 @@
 -- The reader reads the grammar, and so the grammar is unambiguous: a text begins with at most one line, and is at most one list of lines.
 use Prim.Native.Nat.{ℕ, _≤_}
 use mathlib.Core.Path.{_≡_, refl, sym, ap, _∙_}
-use mathlib.Core.Logic.{_↔_, ⊎-elim}
+use mathlib.Core.Logic.{⊎-elim}
 use mathlib.Core.Bool.{true, false}
 use mathlib.Core.List.{List, [], _∷_, _++_, flatMap, flatten}
 use mathlib.Core.List.{List·Memᴰ as Mem, List·Memᴰ·head as here, List·Memᴰ·tail as later}
@@ -13,7 +13,7 @@ use lib.ListN.{length}
 use Rattle.base.specs.Lists.{tally}
 use Rattle.base.proofs.Tests.{bool-cases}
 use Rattle.wish_lines.specs.Lines.{Line, lineText, linesText, times, Formed}
-use Rattle.wish_lines.specs.Reading.{Parsed, onceNone, readLine, scan, start}
+use Rattle.wish_lines.specs.Reading.{Parsed, onceNone, readLine, scan, start, ReadsForm, OneReading}
 use Rattle.wish_lines.proofs.Reader.{scan-line}
 use Rattle.wish_lines.proofs.Sound.{Read, line-sound}
 
@@ -53,12 +53,12 @@ read-sound t l rest e = go (scan t start) refl e
         (bool-cases (eqb (times 0 k) 1))
 
 -- "exactly when"
-pub reads : (t : List ℕ) (l : Line) (rest : List ℕ) → (readLine t ≡ some (l, rest)) ↔ ((t ≡ lineText l ++ rest) × Formed l)
+pub reads : ReadsForm
 reads t l rest = (read-sound t l rest, λ r. rw (r .0) (read-complete l rest (r .1)))
 
 -- ---- unambiguous
 
-pub line-unique : (l l′ : Line) (t t′ : List ℕ) → Formed l → Formed l′ → lineText l ++ t ≡ lineText l′ ++ t′ → (l ≡ l′) × (t ≡ t′)
+pub line-unique : OneReading
 line-unique l l′ t t′ f f′ e =
     let r : _≡_ {A = Line × List ℕ} (l, t) (l′, t′) =
     Option·some-injective (l, t) (l′, t′) (sym (read-complete l t f) ∙ (ap readLine e ∙ read-complete l′ t′ f′)) in

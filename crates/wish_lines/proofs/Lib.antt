@@ -5,10 +5,12 @@ pub mod Grammar
 pub mod Groups
 pub mod Named
 pub mod Written
+pub mod Rising
 pub mod Equal
 pub mod Length
 pub mod Causes
 pub mod Naming
+pub mod SamePairs
 pub mod Namings
 pub mod Counted
 pub mod Appending

@@ -41,13 +41,14 @@ linesText ls = flatMap lineText ls
 unfoldable pub times : ℕ → Line → ℕ
 times x l = tally (eqb x) (flatten (l .groups))
 
--- what makes a line one of this form: "`-` for none exactly once", and no group is empty
+-- what makes a line one of this form: "`-` for none exactly once, also allowed inside braces", and no group is empty
 pub record Formed (l : Line) : Type 0 where
   pub student : 1 ≤ l .student
   pub groups : (g : List ℕ) → Mem g (l .groups) → 1 ≤ length g
   pub none : times 0 l ≡ 1
 
--- what a line means: the number of the group that has the item, "groups counted from 1"
+-- what a line means: the number of the group that has the item, "groups counted from 1"; an item that is not in the line gets one past the last:
+-- `FitLine` excludes it
 unfoldable pub position : List (List ℕ) → ℕ → ℕ
 position [] x = 1
 position (g ∷ gs) x = cond (any (eqb x) g) 1 (suc (position gs x))

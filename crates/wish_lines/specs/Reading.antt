@@ -1,6 +1,7 @@
 -- How a text of wish lines is read, against the pairs of a market: byte by byte, and line by line. 14 and 15 by the grammar alone stand last.
 use Prim.Native.Nat.{ℕ, zero, suc, _+_, _-_, _*_, _<_}
 use mathlib.Core.Path.{_≡_}
+use mathlib.Core.Logic.{_↔_}
 use mathlib.Core.Bool.{Bool, true, false, cond, not, _&&_, _||_}
 use mathlib.Core.List.{List, [], _∷_, _++_, flatten}
 use mathlib.Core.Option.{Option, some, none}
@@ -84,6 +85,14 @@ onceNone (some (l, t)) = cond (eqb (times 0 l) 1) (some (l, t)) none
 -- the first line of a text, and the rest
 unfoldable pub readLine : List ℕ → Parsed
 readLine t = onceNone (scan t start)
+
+-- reading is exactly the grammar: the line that is read is of the form, and the text begins with it
+abbrev pub ReadsForm : Type 0
+ReadsForm = (t : List ℕ) (l : Line) (rest : List ℕ) → (readLine t ≡ some (l, rest)) ↔ ((t ≡ lineText l ++ rest) × Formed l)
+
+-- a text begins with at most one line
+abbrev pub OneReading : Type 0
+OneReading = (l l′ : Line) (t t′ : List ℕ) → Formed l → Formed l′ → lineText l ++ t ≡ lineText l′ ++ t′ → (l ≡ l′) × (t ≡ t′)
 
 -- ---- All lines of a text, against the pairs of a case.
 

@@ -5,6 +5,7 @@ use mathlib.Core.Logic.{_↔_}
 use mathlib.Core.Bool.{true}
 use mathlib.Core.List.{List, [], _∷_}
 use lib.Dec.{eqb}
+use lib.ListN.{length, getD}
 use Rattle.base.specs.Lists.{upto, keep, count, total}
 use Rattle.lgs.specs.Market.{Market}
 use Rattle.lgs.specs.Profiles.{outsideOr}
@@ -32,7 +33,7 @@ groupsFrom tier xs (suc k) t = consGroup (atTier tier xs t) (groupsFrom tier xs 
 unfoldable pub lineOf : Market → ℕ → Line
 lineOf M s = record { student = s; groups = groupsFrom (M .studentTier s) (optionsOf M s) 65 1 }
 
--- the lines of n students from number k + 1 on
+-- the lines of n students from number k + 1 on: "lines go from student 1 up"
 unfoldable pub linesFrom : Market → ℕ → ℕ → List Line
 linesFrom M zero k = []
 linesFrom M (suc n) k = lineOf M (suc k) ∷ linesFrom M n (suc k)
@@ -52,6 +53,10 @@ pairsOf M = total (λ s. count (M .paired s) (M .workshops)) (M .students)
 abbrev pub Option? : Market → ℕ → ℕ → Type 0
 Option? M s x = outsideOr (M .paired s) x ≡ true
 
+-- "rising"
+abbrev pub Rising : List ℕ → Type 0
+Rising g = (i j : ℕ) → i < j → j < length g → getD g i 0 < getD g j 0
+
 -- what a case that passes 1 to 5 has
 pub record Ranged (M : Market) : Type 0 where
   pub students : M .students ≤ 512
@@ -60,7 +65,8 @@ pub record Ranged (M : Market) : Type 0 where
   pub workshop : (s w : ℕ) → M .paired s w ≡ true → (1 ≤ w) × (w ≤ M .workshops)
   pub tier : (s x : ℕ) → 1 ≤ s → s ≤ M .students → Option? M s x → (1 ≤ M .studentTier s x) × (M .studentTier s x ≤ 65)
 
--- "they have, by number, the same students and pairs, and all students' groups, none included, have the same order, gaps aside"
+-- "they have, by number, the same students and pairs, and all students' groups, none included, have the same order, gaps aside": equal groups stay equal,
+-- since `<` goes both ways for x, y and for y, x
 pub record SameWishes (M M′ : Market) : Type 0 where
   pub students : M .students ≡ M′ .students
   pub pairs : (s w : ℕ) → M .paired s w ≡ M′ .paired s w

@@ -82,16 +82,26 @@ module _ (case : List ℕ) (nothing : NothingFound (caseCauses case)) where
 
   -- ---- from the case's own lines: "what was written is read as that order"
 
-  own-groups : (s : ℕ) → 1 ≤ s → s ≤ M .students → groupsIn (linesOf M) s ≡ lineOf M s .groups
+  pub own-groups : (s : ℕ) → 1 ≤ s → s ≤ M .students → groupsIn (linesOf M) s ≡ lineOf M s .groups
   unfolding linesOf
   own-groups s l u = ap (λ h. h .groups) (from-at M (M .students) 0 (s - 1) _ (omega arith) ∙ ap (lineOf M) (omega arith))
 
-  pub written-copy : SameWishes M (copy (linesOf M))
-  written-copy =
-      record {
-        students = sym (copy-rest (linesOf M) case nothing .students);
-        pairs = λ s w. sym (copy-rest (linesOf M) case nothing .paired s w);
-        order = λ s x y l u p q.
-            rw (copy-tier (linesOf M) case nothing s x l u p, copy-tier (linesOf M) case nothing s y l u q, own-groups s l u)
-            (written-order M (ranged case nothing) s l u x y p q .0);
-      }
+  -- also in the copy of another case with the same students and pairs
+  module _ (case′ : List ℕ) (nothing′ : NothingFound (caseCauses case′)) (students : M .students ≡ marketIn case′ .students)
+      (pairs : (s w : ℕ) → M .paired s w ≡ marketIn case′ .paired s w) where
+    option-too : (s x : ℕ) → Option? M s x → Option? (marketIn case′) s x
+    option-too s zero o = refl
+    option-too s (suc w) o = sym (pairs s (suc w)) ∙ o
+
+    tier-too : (s x : ℕ) → 1 ≤ s → s ≤ M .students → Option? M s x
+        → marketIn (wished (linesOf M) case′) .studentTier s x ≡ position (lineOf M s .groups) x
+    tier-too s x l u o =
+        copy-tier (linesOf M) case′ nothing′ s x l (omega (arith, students)) (option-too s x o) ∙ ap (λ gs. position gs x) (own-groups s l u)
+
+    pub written-copy : SameWishes M (marketIn (wished (linesOf M) case′))
+    written-copy =
+        record {
+          students = students ∙ sym (copy-rest (linesOf M) case′ nothing′ .students);
+          pairs = λ s w. pairs s w ∙ sym (copy-rest (linesOf M) case′ nothing′ .paired s w);
+          order = λ s x y l u p q. rw (tier-too s x l u p, tier-too s y l u q) (written-order M (ranged case nothing) s l u x y p q .0);
+        }

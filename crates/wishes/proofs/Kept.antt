@@ -1,26 +1,27 @@
 -- What holds of the copy of a case with the groups of a text that is read.
 use Prim.Native.Nat.{ℕ, zero, suc, _+_, _-_, _*_, _/_, _%_, _≤_, _<_}
 use mathlib.Core.Path.{_≡_, refl, sym, ap, _∙_, subst, fun-ext}
-use mathlib.Core.Logic.{⊎-elim}
+use mathlib.Core.Logic.{_⊎_, inl, inr, ⊎-elim}
 use mathlib.Core.Bool.{Bool}
 use mathlib.Core.List.{List, [], _∷_, _++_, map}
 use mathlib.Core.List.{List·Memᴰ as Mem, List·Memᴰ·head as here, List·Memᴰ·tail as later, List·Memᴰ·not-nil as not-nil, List·Memᴰ·cases-cons as cases-cons}
 use mathlib.Core.List.{Memᴰ·append-left as in-left, Memᴰ·append-right as in-right, Memᴰ·of-map as of-map}
+use mathlib.Core.Option.{Option, some, none, Option·some-injective}
 use native.Mathlib.Omega.{arith}
 use lib.ListN.{length, getD, take, length-map, List·getD-eq-default}
 use Rattle.base.specs.Lists.{tally, total}
 use Rattle.base.proofs.Tests.{eq?, less?}
 use Rattle.base.proofs.Below.{tabulate-length, tabulate-in}
 use Rattle.lgs.specs.Market.{Market, allSeats, seatsOf}
-use Rattle.format.specs.Layout.{Row, Entry, rowAt, rows, rowCount, noRow, ofKind, isPair, entries}
+use Rattle.format.specs.Layout.{Row, Entry, rowAt, rows, rowCount, noRow, ofKind, isPair, entries, entryCount}
 use Rattle.format.specs.Encoding.{rowBytes, Bytes, RowFits}
-use Rattle.format.specs.Causes.{Cause, NothingFound}
-use Rattle.format.specs.Refusals.{Room, needed, badRoom, badPair, badScores, badRepeat, caseCauses, roomCauses, bookCauses, causes}
+use Rattle.format.specs.Causes.{Cause, each, finds, firstCause, NothingFound, FoundFirst}
+use Rattle.format.specs.Refusals.{Room, needed, badRoom, badPair, badScores, badRepeat, badTie, caseCauses, roomCauses, bookCauses, causes}
 use Rattle.format.specs.Engine.{marketIn}
 use Rattle.format.specs.Promises.{Valid}
 use Rattle.format.proofs.Encoding.{round-trip, row-fits}
 use Rattle.format.proofs.Sorted.{row-at}
-use Rattle.format.proofs.Causes.{nothing-both}
+use Rattle.format.proofs.Causes.{nothing-more, nothing-both, none-table, some-table, first-right}
 use Rattle.format.proofs.Cases.{case-whole}
 use Rattle.wish_lines.specs.Lines.{Line, position}
 use Rattle.wish_lines.specs.Reading.{read, readLines, FitLine}
@@ -39,6 +40,17 @@ in-take : {A : Type 0} (n : ℕ) (xs : List A) (x : A) → Mem x (take n xs) →
 in-take zero xs x m = absurd (not-nil m)
 in-take (suc n) [] x m = absurd (not-nil m)
 in-take (suc n) (y ∷ xs) x m = ⊎-elim (λ e. here e) (λ k. later (in-take n xs x k)) (cases-cons m)
+
+-- where one cause is left, its number is given
+only-last : (c : Cause) (k i : ℕ) → firstCause (c ∷ []) ≡ some (k, i) → k ≡ c .0
+only-last c k i e = go (finds (c .1)) refl
+  where
+    go : (o : Option ℕ) → finds (c .1) ≡ o → k ≡ c .0
+    go none f = let z : _≡_ {A = Option (ℕ × ℕ)} none (some (k, i)) = rw (f, firstCause) at e in let y : _≡_ {A = ℕ} 0 1 = cc in absurd (omega arith)
+    go (some h) f =
+        let z : _≡_ {A = Option (ℕ × ℕ)} (some (c .0, h)) (some (k, i)) = rw (f, firstCause) at e in
+        let p : _≡_ {A = ℕ × ℕ} (c .0, h) (k, i) = Option·some-injective (c .0, h) (k, i) z in
+        sym (ap (λ q. q .0) p)
 
 -- what goes by all seats
 seats-same : (M N : Market) → SameRest M N → allSeats M ≡ allSeats N
@@ -92,12 +104,22 @@ module _ (case : List ℕ) (nothing : NothingFound (caseCauses case)) (text : Li
       let k : (i : ℕ) × (i < rowCount case) × (x .0 ≡ rowAt case i) = tabulate-in (rowAt case) (rowCount case) (x .0) (x .1) in
       subst RowFits (ap (withWish ls) (sym (k .2)) ∙ x .2) (fits-kept (rowAt case (k .0)) (row-fits case (k .0) b) (third-small b (k .0) (k .1))))
 
-  new-byte : (r : Row) (k : ℕ) → (k ≡ 6 → ⊥) → (k ≡ 7 → ⊥) → getD (rowBytes (withWish ls r)) k 0 ≡ getD (rowBytes r) k 0
-  new-byte r k a b = ⊎-elim (λ c. ap (λ q. getD (rowBytes q) k 0) (c .2) ∙ byte-other r (c .0) k a b) (λ c. ap (λ q. getD (rowBytes q) k 0) c) (wish-cases ls r)
+  new-byte : (i k : ℕ) → i < rowCount case → ((k ≡ 6) ⊎ (k ≡ 7) → getD case (16 * i) 0 ≡ 2)
+      → getD (rowBytes (withWish ls (rowAt case i))) k 0 ≡ getD (rowBytes (rowAt case i)) k 0
+  unfolding rowAt
+  new-byte i k l two = ⊎-elim (λ e. stays (two (inl e))) (λ (a : k ≡ 6 → ⊥). ⊎-elim (λ e. stays (two (inr e))) (other a) (eq? k 7)) (eq? k 6)
+    where
+      stays : rowAt case i .kind ≡ 2 → getD (rowBytes (withWish ls (rowAt case i))) k 0 ≡ getD (rowBytes (rowAt case i)) k 0
+      stays q = ap (λ r. getD (rowBytes r) k 0) (keep-third case nothing text ls e i l (λ a. omega (arith, q)) (λ b. omega (arith, q)))
 
-  others : Bytes case → (i : ℕ) → (i % 16 ≡ 6 → ⊥) → (i % 16 ≡ 7 → ⊥) → getD copy i 0 ≡ getD case i 0
+      other : (k ≡ 6 → ⊥) → (k ≡ 7 → ⊥) → getD (rowBytes (withWish ls (rowAt case i))) k 0 ≡ getD (rowBytes (rowAt case i)) k 0
+      other a b =
+          ⊎-elim (λ c. ap (λ r. getD (rowBytes r) k 0) (c .2) ∙ byte-other (rowAt case i) (c .0) k a b) (λ c. ap (λ r. getD (rowBytes r) k 0) c)
+          (wish-cases ls (rowAt case i))
+
+  others : Bytes case → (i : ℕ) → ((i % 16 ≡ 6) ⊎ (i % 16 ≡ 7) → getD case (16 * (i / 16)) 0 ≡ 2) → getD copy i 0 ≡ getD case i 0
   unfolding wished
-  others b i p q = ⊎-elim inside (λ (l : length case ≤ i). List·getD-eq-default copy 0 (omega (arith, copy-length case nothing text ls e)) ∙ sym
+  others b i two = ⊎-elim inside (λ (l : length case ≤ i). List·getD-eq-default copy 0 (omega (arith, copy-length case nothing text ls e)) ∙ sym
       (List·getD-eq-default case 0 l)) (less? i (length case))
     where
       inside : i < length case → getD copy i 0 ≡ getD case i 0
@@ -108,7 +130,7 @@ module _ (case : List ℕ) (nothing : NothingFound (caseCauses case)) (text : Li
           ap (λ j. getD copy j 0) at
           ∙ (byte-at (map (withWish ls) (rows case)) (i / 16) (i % 16) (omega (arith, long)) (omega arith)
           ∙ (ap (λ r. getD (rowBytes r) (i % 16) 0) (new-at ls (rows case) (i / 16) ∙ ap (withWish ls) (row-at case (i / 16) row))
-          ∙ (new-byte (rowAt case (i / 16)) (i % 16) p q
+          ∙ (new-byte (i / 16) (i % 16) row two
           ∙ (read-byte case b (i / 16) (i % 16) (omega arith) ∙ ap (λ j. getD case j 0) (sym at)))))
 
   -- ---- its groups
@@ -155,19 +177,37 @@ module _ (case : List ℕ) (nothing : NothingFound (caseCauses case)) (text : Li
   unfolding bookCauses badScores badRepeat
   book-same book = rw (pair-same (entries book))
 
-  split : (book : List ℕ) (lent : Room) → take 11 (causes copy book lent) ≡ caseCauses copy ++ (roomCauses copy lent ++ take 4 (bookCauses copy book))
+  -- all but 11
+  abbrev others-of : List ℕ → Room → List Cause
+  others-of book lent = caseCauses copy ++ (roomCauses copy lent ++ take 4 (bookCauses copy book))
+
+  abbrev last-of : List ℕ → Cause
+  last-of book = (11, each (entryCount book) (badTie (rows copy) (entries book)))
+
+  split : (book : List ℕ) (lent : Room) → causes copy book lent ≡ others-of book lent ++ (last-of book ∷ [])
   unfolding causes caseCauses roomCauses bookCauses
   split book lent = refl
 
-  engine : (book : List ℕ) (lent : Room) → Valid case book lent → NothingFound (take 11 (causes copy book lent))
+  but-last : (book : List ℕ) (lent : Room) → Valid case book lent → NothingFound (others-of book lent)
   unfolding causes
-  engine book lent valid =
-      subst NothingFound (sym (split book lent))
-      (nothing-both (caseCauses copy) _ (copy-nothing case nothing text ls e)
+  but-last book lent valid =
+      nothing-both (caseCauses copy) _ (copy-nothing case nothing text ls e)
       (nothing-both (roomCauses copy lent) _
       (subst NothingFound (sym (room-same lent)) (λ c m. valid c (in-right (caseCauses case) (in-left (bookCauses case book) m))))
       (subst NothingFound (sym (book-same book))
-      (λ c m. valid c (in-right (caseCauses case) (in-right (roomCauses case lent) (in-take 4 (bookCauses case book) c m)))))))
+      (λ c m. valid c (in-right (caseCauses case) (in-right (roomCauses case lent) (in-take 4 (bookCauses case book) c m))))))
+
+  engine : (book : List ℕ) (lent : Room) → Valid case book lent → (k i : ℕ) → FoundFirst (causes copy book lent) k i → k ≡ 11
+  engine book lent valid k i found =
+      only-last (last-of book) k i
+      (sym (first-right (others-of book lent) (last-of book ∷ []) (none-table (others-of book lent) (but-last book lent valid)))
+      ∙ (ap firstCause (sym (split book lent)) ∙ some-table (causes copy book lent) k i found))
+
+  unvisited : (lent : Room) → Valid case [] lent → Valid copy [] lent
+  unvisited lent valid =
+      subst NothingFound (sym (split [] lent))
+      (nothing-both (others-of [] lent) (last-of [] ∷ []) (but-last [] lent valid)
+      (nothing-more (last-of []) [] (λ i f. omega (arith, f .within)) (λ c m. absurd (not-nil m))))
 
   pub copy-of : CopyOf case copy ls
   copy-of =
@@ -184,5 +224,6 @@ module _ (case : List ℕ) (nothing : NothingFound (caseCauses case)) (text : Li
             (t, rw t (r .0), rw t (r .1));
         counted = counted;
         valid = copy-nothing case nothing text ls e;
+        unvisited = unvisited;
         engine = engine;
       }

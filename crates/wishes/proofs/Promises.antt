@@ -6,7 +6,8 @@ use mathlib.Core.List.{List, [], _∷_, _++_, map}
 use mathlib.Core.List.{List·Memᴰ as Mem, List·Memᴰ·head as here, Memᴰ·append-left as in-left, Memᴰ·append-right as in-right}
 use mathlib.Core.Option.{Option, some, none}
 use native.Mathlib.Omega.{arith}
-use lib.ListN.{length, getD, length-map}
+use lib.ListN.{length, drop}
+use lib.Seq.{take-append-seam}
 use borrow.Author.Tests.{lt-ltb, le-ltb}
 use Rattle.base.specs.Lists.{any, tally}
 use Rattle.base.proofs.Tests.{less?}
@@ -22,19 +23,21 @@ use Rattle.format.proofs.Cases.{case-counts}
 use Rattle.wish_lines.specs.Lines.{Line, linesText}
 use Rattle.wish_lines.specs.Reading.{Reading, read, refused, readLines, Fault, departs, leftOver, names, FirstFault}
 use Rattle.wish_lines.specs.Wishes.{linesOf, wishText, SameWishes}
-use Rattle.wish_lines.proofs.Written.{read-back}
+use Rattle.wish_lines.proofs.Written.{written-order, read-back}
+use Rattle.wish_lines.proofs.Rising.{lines-rise}
 use Rattle.wish_lines.proofs.Equal.{equal-lines}
 use Rattle.wish_lines.proofs.Ranged.{ranged, text-room}
 use Rattle.wish_lines.proofs.Causes.{read-exactly, refused-exactly}
 use Rattle.wish_lines.proofs.Naming.{named-exactly}
+use Rattle.wish_lines.proofs.SamePairs.{read-too}
 use Rattle.wishes.specs.Copy.{wished}
 use Rattle.wishes.specs.Outcome.{WishesOutcome, given, ungiven, textRoom, lentCauses}
 use Rattle.wishes.specs.Outcome.{writeCauses, readCauses, unlessFound, copyFor, writeWishes, readWishes}
 use Rattle.wishes.specs.Outcome.{wishesAfter}
 use Rattle.wishes.specs.Promises.{IsLines, CopyOf, WritePromised, ReadPromised, WriteThenRead, EqualLines, ReadExactly, LinesRefused, NamedOnce, AnyOrder}
-use Rattle.wishes.specs.Promises.{WishesSix, SevenCauses, BufferKept, WishesKept}
+use Rattle.wishes.specs.Promises.{ReadIntoAnother, WrittenRising, WishesSix, SevenCauses, BufferKept, WishesKept}
 use Rattle.wishes.proofs.Case.{unseen, tally-new, new-rows}
-use Rattle.wishes.proofs.Copy.{written-copy}
+use Rattle.wishes.proofs.Copy.{own-groups, written-copy}
 use Rattle.wishes.proofs.Valid.{copy-length}
 use Rattle.wishes.proofs.Kept.{copy-of}
 use Rattle.wishes.proofs.Reordered.{read-alike}
@@ -179,26 +182,47 @@ unfolding textRoom
 room-copied case ls nothing same =
     omega (arith, same, ap (tally (ofKind 3)) (new-rows ls case nothing) ∙ tally-new ls (ofKind 3) (unseen ls (ofKind 3) (λ r x. refl)) (rows case))
 
-pub write-then-read : WriteThenRead
+pub read-into-another : ReadIntoAnother
 unfolding writeCauses readCauses copyFor
-write-then-read case text room copyRoom e enough =
+read-into-another case case′ text room copyRoom again e nothing′ students pairs enough =
     let w = written case text room e in
-    let nothing : NothingFound (caseCauses case) = write-case case room (w .0) in
+    let N : NothingFound (caseCauses case) = write-case case room (w .0) in
+    let N′ : NothingFound (caseCauses case′) = read-case case′ copyRoom nothing′ in
     let M : Market = marketIn case in
     let ls : List Line = linesOf M in
-    let back : readLines M text ≡ read ls = ap (readLines M) (w .1) ∙ read-back M (ranged case nothing) in
-    let kept : CopyOf case (wished ls case) ls = copy-of case nothing text ls back in
-    let same : SameWishes M (marketIn (wished ls case)) = written-copy case nothing in
-    let first : firstCause (readCauses case copyRoom) ≡ none = first-none case (length case) copyRoom (none-table (caseCauses case) nothing) enough in
-    let again : firstCause (writeCauses (wished ls case) room) ≡ none =
-    first-none (wished ls case) (textRoom (wished ls case)) room (none-table (caseCauses (wished ls case)) (kept .valid))
-    (omega (arith, room-copied case ls nothing (sym (same .students)), room-enough case (textRoom case) room (w .0))) in
-    let lines : wishText M ≡ wishText (marketIn (wished ls case)) =
-    equal-lines M (marketIn (wished ls case)) (ranged case nothing) (ranged (wished ls case) (kept .valid)) .1 same in (
-      wished ls case,
-      read-worked case copyRoom text first ∙ ap (copyFor case) back,
+    let copy : List ℕ = wished ls case′ in
+    let back : readLines (marketIn case′) text ≡ read ls =
+    read-too M (marketIn case′) (ranged case N) (ranged case′ N′) students pairs text ls (ap (readLines M) (w .1) ∙ read-back M (ranged case N)) in
+    let kept : CopyOf case′ copy ls = copy-of case′ N′ text ls back in
+    let same : SameWishes M (marketIn copy) = written-copy case N case′ N′ students pairs in
+    let first : firstCause (writeCauses copy again) ≡ none =
+    first-none copy (textRoom copy) again (none-table (caseCauses copy) (kept .valid)) (omega (arith, room-copied case′ ls N′ (kept .rest .students))) in
+    let lines : wishText M ≡ wishText (marketIn copy) = equal-lines M (marketIn copy) (ranged case N) (ranged copy (kept .valid)) .1 same in (
+      copy,
+      read-worked case′ copyRoom text (none-table (readCauses case′ copyRoom) nothing′) ∙ ap (copyFor case′) back,
+      kept,
       same,
-      write-given (wished ls case) room again ∙ ap given (sym lines ∙ sym (w .1)),
+      write-given copy again first ∙ ap given (sym lines ∙ sym (w .1)),
+    )
+
+pub write-then-read : WriteThenRead
+unfolding writeCauses readCauses
+write-then-read case text room copyRoom e enough =
+    let w = written case text room e in
+    let first : firstCause (readCauses case copyRoom) ≡ none =
+    first-none case (length case) copyRoom (none-table (caseCauses case) (write-case case room (w .0))) enough in
+    read-into-another case case text room copyRoom room e (table-none (readCauses case copyRoom) first) refl (λ s v. refl)
+    (room-enough case (textRoom case) room (w .0))
+
+pub written-rising : WrittenRising
+written-rising case text room e =
+    let w = written case text room e in
+    let nothing : NothingFound (caseCauses case) = write-case case room (w .0) in
+    let M : Market = marketIn case in (
+      linesOf M,
+      is-lines M text (linesOf M) (ap (readLines M) (w .1) ∙ read-back M (ranged case nothing)),
+      lines-rise M,
+      λ s x y l u p q. rw (own-groups case nothing s l u) (written-order M (ranged case nothing) s l u x y p q .0),
     )
 
 pub equal-written : EqualLines
@@ -241,13 +265,14 @@ pub named-once : NamedOnce
 named-once case l nothing = named-exactly (marketIn case) (ranged case nothing) l
 
 pub any-order : AnyOrder
-any-order case room ls ls′ f o = go (firstCause (readCauses case room)) refl
+any-order case rest room ls ls′ f o = go (firstCause (readCauses case room)) refl
   where
-    go : (r : Option (ℕ × ℕ)) → firstCause (readCauses case room) ≡ r → readWishes case (linesText ls) room ≡ readWishes case (linesText ls′) room
-    go (some (k, i)) e = read-found case room (linesText ls) k i e ∙ sym (read-found case room (linesText ls′) k i e)
+    go : (r : Option (ℕ × ℕ)) → firstCause (readCauses case room) ≡ r
+        → readWishes case (linesText ls ++ rest) room ≡ readWishes case (linesText ls′ ++ rest) room
+    go (some (k, i)) e = read-found case room (linesText ls ++ rest) k i e ∙ sym (read-found case room (linesText ls′ ++ rest) k i e)
     go none e =
-        read-worked case room (linesText ls) e
-        ∙ (read-alike case (ranged case (read-case case room (table-none (readCauses case room) e))) ls ls′ f o ∙ sym (read-worked case room (linesText ls′) e))
+        let R = ranged case (read-case case room (table-none (readCauses case room) e)) in
+        read-worked case room (linesText ls ++ rest) e ∙ (read-alike case rest R ls ls′ f o ∙ sym (read-worked case room (linesText ls′ ++ rest) e))
 
 -- ---- room and buffers
 
@@ -301,38 +326,44 @@ wishes-six =
         go none f = absurd (line-number (lines-refused case text room 6 i (table-none (readCauses case room) f) .0 e .fault) refl)
 
 -- a buffer with these bytes at its head
-kept : (o : WishesOutcome) (needed : ℕ) (out : List ℕ) → ((t : List ℕ) → o ≡ given t → (length t ≤ needed) × (needed ≤ length out)) → BufferKept o needed out
+kept : (o : WishesOutcome) (out : List ℕ) → ((t : List ℕ) → o ≡ given t → length t ≤ length out) → BufferKept o out
 unfolding wishesAfter
-kept (given t) needed out h =
-    let l = h t refl in
+kept (given t) out h =
     record {
-      long = head-length t out (omega (arith, l));
-      past = λ i u. past-head t out i (omega (arith, l));
+      long = head-length t out (h t refl);
+      head = λ bytes e. let q : t ≡ bytes = given-same t bytes e in rw (← q) (take-append-seam t (drop (length t) out));
+      past = λ bytes e i u. past-head t out i (omega (arith, ap length (given-same t bytes e)));
       asFound = λ k i e. let y : _≡_ {A = ℕ} 0 1 = cc in absurd (omega arith);
     }
-kept (ungiven k i) needed out h = record { long = refl; past = λ i u. refl; asFound = λ k i e. refl }
+kept (ungiven k i) out h =
+    record {
+      long = refl;
+      head = λ bytes e. let y : _≡_ {A = ℕ} 0 1 = cc in absurd (omega arith);
+      past = λ bytes e i u. refl;
+      asFound = λ k i e. refl;
+    }
 
 pub wishes-kept : WishesKept
 unfolding writeCauses readCauses
 wishes-kept = record {
-  write = λ case text. kept (writeWishes case (length text)) (textRoom case) text (λ t e. by-write case text t e);
+  write = λ case text. kept (writeWishes case (length text)) text (λ t e. by-write case text t e);
   read =
-      λ case text copy. kept (readWishes case text (length copy)) (length case) copy (λ t e. by-read case text copy t e);
+      λ case text copy. kept (readWishes case text (length copy)) copy (λ t e. by-read case text copy t e);
 }
   where
-    by-write : (case text t : List ℕ) → writeWishes case (length text) ≡ given t → (length t ≤ textRoom case) × (textRoom case ≤ length text)
+    by-write : (case text t : List ℕ) → writeWishes case (length text) ≡ given t → length t ≤ length text
     by-write case text t e =
         let w = written case t (length text) e in
-        (rw (w .1) (text-fits case (write-case case (length text) (w .0))), room-enough case (textRoom case) (length text) (w .0))
+        omega (arith, ap length (w .1), text-fits case (write-case case (length text) (w .0)), room-enough case (textRoom case) (length text) (w .0))
 
-    by-read : (case text copy t : List ℕ) → readWishes case text (length copy) ≡ given t → (length t ≤ length case) × (length case ≤ length copy)
+    by-read : (case text copy t : List ℕ) → readWishes case text (length copy) ≡ given t → length t ≤ length copy
     by-read case text copy t e = go (firstCause (readCauses case (length copy))) refl
       where
-        go : (o : Option (ℕ × ℕ)) → firstCause (readCauses case (length copy)) ≡ o → (length t ≤ length case) × (length case ≤ length copy)
+        go : (o : Option (ℕ × ℕ)) → firstCause (readCauses case (length copy)) ≡ o → length t ≤ length copy
         go (some (k, j)) f = let z : ungiven k j ≡ given t = sym (read-found case (length copy) text k j f) ∙ e in let y : _≡_ {A = ℕ} 0 1 = cc in absurd
             (omega arith)
         go none f =
             let nothing : NothingFound (readCauses case (length copy)) = table-none (readCauses case (length copy)) f in
             let r = read-lines-exactly case text t (length copy) nothing .0 e in
             let long = copy-length case (read-case case (length copy) nothing) text (r .0) (lines-are (marketIn case) text (r .0) (r .1)) in
-            (omega (arith, ap length (r .2), long), room-enough case (length case) (length copy) nothing)
+            omega (arith, ap length (r .2), long, room-enough case (length case) (length copy) nothing)

@@ -3,7 +3,7 @@ use Prim.Native.Nat.{ℕ, zero, suc, _+_, _-_, _≤_}
 use mathlib.Core.Path.{_≡_, refl, sym, ap, _∙_, fun-ext}
 use mathlib.Core.Logic.{⊎-elim}
 use mathlib.Core.Bool.{Bool, true, false, cond}
-use mathlib.Core.List.{List, [], _∷_, _++_, map, flatMap, flatten}
+use mathlib.Core.List.{List, [], _∷_, _++_, map, flatMap, flatten, append-assoc}
 use mathlib.Core.List.{List·Memᴰ as Mem, List·Memᴰ·head as here, List·Memᴰ·tail as later, List·Memᴰ·not-nil as not-nil, List·Memᴰ·cases-cons as cases-cons}
 use mathlib.Core.Option.{Option, some, none}
 use native.Mathlib.Omega.{arith}
@@ -75,6 +75,14 @@ formed-same l l′ e same f =
       none = sym (tally-same same 0) ∙ f .none;
     }
 
+groups-self : (gs : List (List ℕ)) → SameGroups gs gs
+groups-self [] = noGroups
+groups-self (g ∷ gs) = moreGroups (λ x. refl) (groups-self gs)
+
+lines-self : (ls : List Line) → Reordered ls ls
+lines-self [] = noLines
+lines-self (l ∷ ls) = moreLines refl (groups-self (l .groups)) (lines-self ls)
+
 module _ (M : Market) (R : Ranged M) where
   passed-same : (l l′ : Line) → l .student ≡ l′ .student → ((x : ℕ) → times x l ≡ times x l′) → misnamed M l ≡ false → misnamed M l′ ≡ false
   passed-same l l′ e same p =
@@ -119,23 +127,35 @@ module _ (M : Market) (R : Ranged M) where
   by-cond false true d d′ k r r′ p q o = never p refl
   by-cond false false d d′ k r r′ p q o = same
 
-  from-alike : (n k : ℕ) (ls ls′ : List Line) → ((l : Line) → Mem l ls → Formed l) → Reordered ls ls′ → Like (readFrom M n k (linesText ls))
-      (readFrom M n k (linesText ls′))
+  alike-self : (r : Reading) → Like r r
+  alike-self (read ls) = both (lines-self ls)
+  alike-self (refused k i) = same
+
+  -- `rest` stands behind the lines
+  from-alike : (rest : List ℕ) (n k : ℕ) (ls ls′ : List Line) → ((l : Line) → Mem l ls → Formed l) → Reordered ls ls′
+      → Like (readFrom M n k (linesText ls ++ rest)) (readFrom M n k (linesText ls′ ++ rest))
   unfolding readFrom linesText flatMap readLine scan times
-  from-alike zero k ms ms′ f noLines = both noLines
-  from-alike (suc n) k ms ms′ f noLines = same
-  from-alike zero k ms ms′ f (moreLines {l} {l′} {ls} {ls′} e s more) =
-      rw (over k (lineText l ++ linesText ls) (some-text l (linesText ls)), over k (lineText l′ ++ linesText ls′) (some-text l′ (linesText ls′))) same
-  from-alike (suc n) k ms ms′ f (moreLines {l} {l′} {ls} {ls′} e s more) =
+  from-alike rest n k ms ms′ f noLines = alike-self (readFrom M n k rest)
+  from-alike rest zero k ms ms′ f (moreLines {l} {l′} {ls} {ls′} e s more) =
+      rw (
+        append-assoc (lineText l) (linesText ls) rest,
+        append-assoc (lineText l′) (linesText ls′) rest,
+        over k (lineText l ++ (linesText ls ++ rest)) (some-text l (linesText ls ++ rest)),
+        over k (lineText l′ ++ (linesText ls′ ++ rest)) (some-text l′ (linesText ls′ ++ rest)),
+      )
+      same
+  from-alike rest (suc n) k ms ms′ f (moreLines {l} {l′} {ls} {ls′} e s more) =
       let f′ : Formed l′ = formed-same l l′ e s (f l (here refl)) in
       rw (
-        read-complete l (linesText ls) (f l (here refl)),
-        read-complete l′ (linesText ls′) f′,
+        append-assoc (lineText l) (linesText ls) rest,
+        append-assoc (lineText l′) (linesText ls′) rest,
+        read-complete l (linesText ls ++ rest) (f l (here refl)),
+        read-complete l′ (linesText ls′ ++ rest) f′,
       )
       (by-cond (eqb (l .student) (suc k)) (eqb (l′ .student) (suc k)) (misnamed M l) (misnamed M l′) k _ _ (ap (λ x. eqb x (suc k)) e)
       (misnamed-same l l′ e (tally-same s))
-      (one-more l l′ (readFrom M n (suc k) (linesText ls)) (readFrom M n (suc k) (linesText ls′)) e s
-      (from-alike n (suc k) ls ls′ (λ d m. f d (later m)) more)))
+      (one-more l l′ (readFrom M n (suc k) (linesText ls ++ rest)) (readFrom M n (suc k) (linesText ls′ ++ rest)) e s
+      (from-alike rest n (suc k) ls ls′ (λ d m. f d (later m)) more)))
 
 -- ---- the copy
 
@@ -157,7 +177,7 @@ unfolding copyFor wished
 copy-same case M R r r′ (both {ls} {ls′} o) = rw (fun-ext (wish-same o))
 copy-same case M R r r′ same = refl
 
-pub read-alike : (case : List ℕ) → Ranged (marketIn case) → (ls ls′ : List Line) → ((l : Line) → Mem l ls → Formed l) → Reordered ls ls′
-    → copyFor case (readLines (marketIn case) (linesText ls)) ≡ copyFor case (readLines (marketIn case) (linesText ls′))
+pub read-alike : (case rest : List ℕ) → Ranged (marketIn case) → (ls ls′ : List Line) → ((l : Line) → Mem l ls → Formed l) → Reordered ls ls′
+    → copyFor case (readLines (marketIn case) (linesText ls ++ rest)) ≡ copyFor case (readLines (marketIn case) (linesText ls′ ++ rest))
 unfolding readLines
-read-alike case R ls ls′ f o = copy-same case (marketIn case) R _ _ (from-alike (marketIn case) R (marketIn case .students) 0 ls ls′ f o)
+read-alike case rest R ls ls′ f o = copy-same case (marketIn case) R _ _ (from-alike (marketIn case) R rest (marketIn case .students) 0 ls ls′ f o)

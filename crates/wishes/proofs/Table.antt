@@ -15,12 +15,12 @@ use Rattle.wish_lines.specs.Reading.{step, scan, readLine, misnamed, readFrom, 
 use Rattle.wish_lines.specs.Wishes.{optionsOf, atTier, groupsFrom, lineOf, linesFrom, linesOf, wishText}
 use Rattle.wishes.specs.Copy.{withWish, wished}
 use Rattle.wishes.specs.Outcome.{textRoom, lentCauses, writeCauses, readCauses, unlessFound, copyFor, writeWishes, readWishes, wishesAfter, wishesValues}
-use Rattle.wishes.specs.Table.{groupedK, fitting, single, writeTable, readTable}
+use Rattle.wishes.specs.Table.{groupedK, fitting, single, tens, beyond, writeTable, readTable}
 use Rattle.wishes.specs.Table.{wishesGiven, wishesExpected, wishesLeft, wishesLeftExpected, WishesComputed}
 
 pub wishes-computed : WishesComputed
-unfolding groupedK fitting single writeTable readTable wishesGiven wishesExpected wishesLeft wishesLeftExpected writeWishes readWishes copyFor unlessFound
-    writeCauses readCauses lentCauses textRoom wishesAfter wishesValues withWish wished
+unfolding groupedK fitting single tens beyond writeTable readTable wishesGiven wishesExpected wishesLeft wishesLeftExpected writeWishes readWishes copyFor
+    unlessFound writeCauses readCauses lentCauses textRoom wishesAfter wishesValues withWish wished
     wishText linesOf linesFrom lineOf groupsFrom atTier optionsOf readLines readFrom misnamed readLine scan step position times linesText lineText groupText
     joined itemText decimal digitsWithin keep flatten
     K caseWith lotsK caseOf studentsK workshopsK pairsK words rowBytes caseBytes flatMap

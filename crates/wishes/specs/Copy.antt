@@ -22,7 +22,7 @@ withThird r x =
       seventh = r .seventh;
     }
 
--- the groups of student s in the lines
+-- the groups of student s in the lines: her line is at place s - 1 (`FitLine.number`)
 abbrev pub groupsIn : List Line → ℕ → List (List ℕ)
 groupsIn ls s = getD ls (s - 1) (record { student = 0; groups = [] }) .groups
 

@@ -19,7 +19,7 @@ pub data WishesOutcome : Type 0 where
   given : List ℕ → WishesOutcome  -- the bytes of the text, or of the copy
   ungiven : ℕ → ℕ → WishesOutcome  -- a refusal: number and place
 
--- ---- The causes that look at the whole input, in the order of testing. `room` is the length of the lent buffer, in bytes.
+-- ---- The causes before the lines: those of the case, and 6, in the order of testing. `room` is the length of the lent buffer, in bytes.
 
 -- "Room for text .. is as docs/ states from the case's counts": 8 bytes for each student and 4 for each pair
 unfoldable pub textRoom : List ℕ → ℕ

@@ -3,7 +3,7 @@ use Prim.Native.Nat.{ℕ, _+_, _*_, _/_, _%_, _≤_, _<_}
 use mathlib.Core.Path.{_≡_}
 use mathlib.Core.Logic.{_⊎_, _↔_}
 use mathlib.Core.Bool.{false}
-use mathlib.Core.List.{List, [], _∷_, map}
+use mathlib.Core.List.{List, [], _∷_, _++_, map}
 use mathlib.Core.List.{List·Memᴰ as Mem}
 use lib.Dec.{eqb}
 use lib.ListN.{length, getD, take}
@@ -17,7 +17,7 @@ use Rattle.format.specs.Engine.{marketIn}
 use Rattle.format.specs.Promises.{Valid}
 use Rattle.wish_lines.specs.Lines.{Line, linesText, times, Formed, position}
 use Rattle.wish_lines.specs.Reading.{misnamed, FitLines, FirstFault}
-use Rattle.wish_lines.specs.Wishes.{wishText, Option?, SameWishes}
+use Rattle.wish_lines.specs.Wishes.{linesOf, wishText, Option?, Rising, SameWishes}
 use Rattle.wishes.specs.Copy.{groupsIn, withWish, wished}
 use Rattle.wishes.specs.Outcome.{WishesOutcome, given, ungiven, textRoom, writeCauses, readCauses, writeWishes, readWishes, wishesAfter}
 
@@ -45,9 +45,10 @@ pub record CopyOf (case copy : List ℕ) (ls : List Line) : Type 0 where
   pub copied : copy ≡ wished ls case
   pub long : length copy ≡ length case
   pub bytes : Bytes case → Bytes copy
-  -- the records are the case's, but for the groups of the lines; and so are all bytes but those of these two fields
+  -- the records are the case's, but for the groups of the lines
   pub records : rows copy ≡ map (withWish ls) (rows case)
-  pub others : Bytes case → (i : ℕ) → (i % 16 ≡ 6 → ⊥) → (i % 16 ≡ 7 → ⊥) → getD copy i 0 ≡ getD case i 0
+  -- every byte is the case's, but for bytes 6 and 7 of students' and pairs' records
+  pub others : Bytes case → (i : ℕ) → ((i % 16 ≡ 6) ⊎ (i % 16 ≡ 7) → getD case (16 * (i / 16)) 0 ≡ 2) → getD copy i 0 ≡ getD case i 0
   pub rest : SameRest (marketIn copy) (marketIn case)
   -- the groups are the positions in the line, within cause 5's range
   pub groups : (s x : ℕ) → 1 ≤ s → s ≤ marketIn case .students → Option? (marketIn case) s x
@@ -55,9 +56,10 @@ pub record CopyOf (case copy : List ℕ) (ls : List Line) : Type 0 where
   -- "groups counted from 1": no number below that of a group is left out
   pub counted : (s x k : ℕ) → 1 ≤ s → s ≤ marketIn case .students → Option? (marketIn case) s x → 1 ≤ k → k ≤ marketIn copy .studentTier s x
       → (y : ℕ) × Option? (marketIn case) s y × (marketIn copy .studentTier s y ≡ k)
-  -- valid where the case was; with a book of visits but for 11, a student's equal marks in one group, as her groups may be others now
+  -- valid where the case was; with a book of visits only 11 may come: a student's equal marks, once in two groups, may now be in one
   pub valid : NothingFound (caseCauses copy)
-  pub engine : (book : List ℕ) (lent : Room) → Valid case book lent → NothingFound (take 11 (causes copy book lent))
+  pub unvisited : (lent : Room) → Valid case [] lent → Valid copy [] lent
+  pub engine : (book : List ℕ) (lent : Room) → Valid case book lent → (k i : ℕ) → FoundFirst (causes copy book lent) k i → k ≡ 11
 
 -- ---- What holds of an answer, whichever it is.
 
@@ -76,8 +78,8 @@ ReadPromised case text room (ungiven k i) =
 
 -- ---- Promises of their own.
 
--- "What was written is read as that order": no refusal, and "all students' groups, none included, have the same order, gaps aside"; a second write gives
--- the same bytes
+-- "What was written is read as that order": no refusal, the copy has the case's own lines with "groups counted from 1", and "all students' groups, none
+-- included, have the same order, gaps aside"; a second write gives the same bytes
 abbrev pub WriteThenRead : Type 0
 WriteThenRead =
     (case text : List ℕ) (room copyRoom : ℕ)
@@ -85,8 +87,36 @@ WriteThenRead =
     → length case ≤ copyRoom
     → (copy : List ℕ)
     × (readWishes case text copyRoom ≡ given copy)
+    × CopyOf case copy (linesOf (marketIn case))
     × SameWishes (marketIn case) (marketIn copy)
     × (writeWishes copy room ≡ given text)
+
+-- the same where another case is read into that has the same students and pairs
+abbrev pub ReadIntoAnother : Type 0
+ReadIntoAnother =
+    (case case′ text : List ℕ) (room copyRoom again : ℕ)
+    → writeWishes case room ≡ given text
+    → NothingFound (readCauses case′ copyRoom)
+    → marketIn case .students ≡ marketIn case′ .students
+    → ((s w : ℕ) → marketIn case .paired s w ≡ marketIn case′ .paired s w)
+    → textRoom case′ ≤ again
+    → (copy : List ℕ)
+    × (readWishes case′ text copyRoom ≡ given copy)
+    × CopyOf case′ copy (linesOf (marketIn case))
+    × SameWishes (marketIn case) (marketIn copy)
+    × (writeWishes copy again ≡ given text)
+
+-- what is written: lines that fit the case, "groups best first" by the case's own order, and "items in braces are written rising, with `-` first", as none
+-- is 0
+abbrev pub WrittenRising : Type 0
+WrittenRising =
+    (case text : List ℕ) (room : ℕ)
+    → writeWishes case room ≡ given text
+    → (ls : List Line)
+    × IsLines (marketIn case) text ls
+    × ((l : Line) → Mem l ls → (g : List ℕ) → Mem g (l .groups) → Rising g)
+    × ((s x y : ℕ) → 1 ≤ s → s ≤ marketIn case .students → Option? (marketIn case) s x → Option? (marketIn case) s y
+    → (marketIn case .studentTier s x < marketIn case .studentTier s y) ↔ (position (groupsIn ls s) x < position (groupsIn ls s) y))
 
 -- "Two cases write equal lines exactly when they have, by number, the same students and pairs, and all students' groups, none included, have the same
 -- order, gaps aside"
@@ -136,13 +166,13 @@ pub data Reordered : List Line → List Line → Type 0 where
   moreLines : {l l′ : Line} {ls ls′ : List Line} → l .student ≡ l′ .student → SameGroups (l .groups) (l′ .groups) → Reordered ls ls′
       → Reordered (l ∷ ls) (l′ ∷ ls′)
 
--- the answer is the same, copy or refusal
+-- the answer is the same, copy or refusal, whatever stands behind these lines
 abbrev pub AnyOrder : Type 0
 AnyOrder =
-    (case : List ℕ) (room : ℕ) (ls ls′ : List Line)
+    (case rest : List ℕ) (room : ℕ) (ls ls′ : List Line)
     → ((l : Line) → Mem l ls → Formed l)
     → Reordered ls ls′
-    → readWishes case (linesText ls) room ≡ readWishes case (linesText ls′) room
+    → readWishes case (linesText ls ++ rest) room ≡ readWishes case (linesText ls′ ++ rest) room
 
 -- ---- Room and buffers.
 
@@ -154,19 +184,20 @@ pub record WishesSix : Type 0 where
       → (readWishes case text room ≡ ungiven 6 i) ↔ ((i ≡ 0) × NothingFound (caseCauses case) × (room < length case))
   pub enough : (case : List ℕ) → NothingFound (caseCauses case) → textRoom case ≤ 8 * 512 + 4 * (length case / 16)
 
--- the numbers of the causes that look at the whole input, in the order in which they are tested
+-- the numbers of the causes before the lines: those of the case, and 6, in the order in which they are tested
 abbrev pub SevenCauses : Type 0
 SevenCauses =
     (case : List ℕ) (room : ℕ)
     → (map (λ (c : Cause). c .0) (writeCauses case room) ≡ 1 ∷ 2 ∷ 3 ∷ 4 ∷ 5 ∷ 13 ∷ 6 ∷ [])
     × (map (λ (c : Cause). c .0) (readCauses case room) ≡ 1 ∷ 2 ∷ 3 ∷ 4 ∷ 5 ∷ 13 ∷ 6 ∷ [])
 
--- the lent buffer keeps its length and the bytes past those needed; "a refusal leaves their outputs as found"
-pub record BufferKept (o : WishesOutcome) (needed : ℕ) (out : List ℕ) : Type 0 where
+-- the lent buffer keeps its length and the bytes past those given; "a refusal leaves their outputs as found"
+pub record BufferKept (o : WishesOutcome) (out : List ℕ) : Type 0 where
   pub long : length (wishesAfter o out) ≡ length out
-  pub past : (i : ℕ) → needed ≤ i → getD (wishesAfter o out) i 0 ≡ getD out i 0
+  pub head : (bytes : List ℕ) → o ≡ given bytes → take (length bytes) (wishesAfter o out) ≡ bytes
+  pub past : (bytes : List ℕ) → o ≡ given bytes → (i : ℕ) → length bytes ≤ i → getD (wishesAfter o out) i 0 ≡ getD out i 0
   pub asFound : (k i : ℕ) → o ≡ ungiven k i → wishesAfter o out ≡ out
 
 pub record WishesKept : Type 0 where
-  pub write : (case text : List ℕ) → BufferKept (writeWishes case (length text)) (textRoom case) text
-  pub read : (case text copy : List ℕ) → BufferKept (readWishes case text (length copy)) (length case) copy
+  pub write : (case text : List ℕ) → BufferKept (writeWishes case (length text)) text
+  pub read : (case text copy : List ℕ) → BufferKept (readWishes case text (length copy)) copy

@@ -28,6 +28,15 @@ fitting g2 g14 line g5 =
 unfoldable pub single : ℕ → ℕ → ℕ → List ℕ
 single g1 g2 line = caseOf (numbered 1 1 line ∷ []) (f3 1 1 9 ∷ f3 2 1 9 ∷ f3 3 1 9 ∷ []) (f4 1 1 g1 1 ∷ f4 1 2 g2 1 ∷ [])
 
+-- one student, who has pairs with workshops 2 and 10 of ten
+unfoldable pub tens : ℕ → ℕ → ℕ → List ℕ
+tens g2 g10 line =
+    caseOf (numbered 1 1 line ∷ []) (map (λ w. f3 w 1 9) (1 ∷ 2 ∷ 3 ∷ 4 ∷ 5 ∷ 6 ∷ 7 ∷ 8 ∷ 9 ∷ 10 ∷ [])) (f4 1 2 g2 1 ∷ f4 1 10 g10 1 ∷ [])
+
+-- a stage, a lot and a fare that are not 1 or 0; the workshop has quota 0, and the student is beyond its line
+unfoldable pub beyond : ℕ → ℕ → List ℕ
+beyond g line = caseOf (f4 1 512 line 511 ∷ []) (f3 1 0 257 ∷ []) ((1 ∷ 1 ∷ g ∷ 513 ∷ 65535 ∷ []) ∷ [])
+
 -- K's three lines
 abbrev pub linesK : String
 linesK = "1: {1,2},-\n2: {1,2},-\n3: 1,{-,2}\n"
@@ -52,8 +61,11 @@ writeTable =
     -- the paper's line, with the items in braces rising; groups with gaps give the same
     ∷ within 40 (fitting 1 2 3 4) (text "1: -\n2: -\n3: 2,{1,4},-,5\n")
     ∷ within 99 (fitting 4 9 30 65) (text "1: -\n2: -\n3: 2,{1,4},-,5\n")
-    -- none first in braces, alone in front, and last; all in one group
+    -- none first in braces, and alone in front; all in one group
     ∷ within 48 (groupedK (f3 2 1 2) (f3 2 2 1) (f3 5 5 5)) (text "1: 2,{-,1}\n2: -,{1,2}\n3: {-,1,2}\n")
+    -- two digits, and rising by number; a pair that the rule deletes is written
+    ∷ within 16 (tens 1 1 1) (text "1: {-,2,10}\n")
+    ∷ within 12 (beyond 7 65) (text "1: 1,-\n")
     -- one byte short of its room, though the text has only 33
     ∷ within 47 K (ungiven 6 0)
     -- 1 to 5 and 13 before 6
@@ -97,6 +109,10 @@ readTable =
     ∷ reads (fitting 1 2 3 4) (ascii "1: -\n2: -\n3: 2,{4,1},-,5\n") (given (fitting 1 2 3 4))
     ∷ reads (fitting 4 9 30 65) (ascii "1: -\n2: -\n3: 2,{4,1},-,5\n") (given (fitting 1 2 3 4))
     ∷ alone "1: 2,1,-\n" (given (single 2 1 3))
+    -- two digits; a pair that the rule deletes, and the other fields stay; more bytes lent than needed
+    ∷ reads (tens 9 9 9) (ascii "1: 10,{2,-}\n") (given (tens 2 1 2))
+    ∷ reads (beyond 7 65) (ascii "1: 1,-\n") (given (beyond 1 2))
+    ∷ record { case = K; text = ascii linesK; room = 200; answer = given K }
     -- 14: no line, no line feed, another student's number, also one that is 1 in the lowest byte
     ∷ departs ""
     ∷ departs "1: 1,2,-"
@@ -126,6 +142,13 @@ readTable =
     ∷ departs "1: 1,2,-,\n"
     ∷ departs "1: \n"
     ∷ departs "\n"
+    -- two blanks, and one before the colon; a comma before a brace or in front; no comma behind a brace; a number that is 1 in the lowest 64 bits
+    ∷ departs "1:  1,2,-\n"
+    ∷ departs "1 : 1,2,-\n"
+    ∷ departs "1: {1,2,},-\n"
+    ∷ departs "1: ,1,2,-\n"
+    ∷ departs "1: {1,2}-\n"
+    ∷ departs "18446744073709551617: 1,2,-\n"
     -- a carriage return
     ∷ reads (single 1 1 1) (ascii "1: 1,2,-" ++ (13 ∷ 10 ∷ [])) (ungiven 14 0)
     -- anything left over: at the place after the last student's
@@ -140,6 +163,8 @@ readTable =
     ∷ misnames "1: 257,2,-\n"
     ∷ misnames "1: 65537,2,-\n"
     ∷ misnames "1: 18446744073709551617,2,-\n"
+    -- a workshop that only another student has a pair with
+    ∷ reads (fitting 1 2 3 4) (ascii "1: 2,-\n2: -\n3: 2,{4,1},-,5\n") (ungiven 15 0)
     -- 14 before 15 in a line; 15 in a line before 14 in the next, and before a line that is missing; 14 in a line before 15 in the next
     ∷ departs "1: 1,1,-,-\n"
     ∷ departs "1: 1,1,3,-"
