@@ -121,7 +121,8 @@ module _ (M : Market) (text : List ℕ) where
           ∙ (P .noted j x b o
           ∙ ap (λ g. position g x)
           (ap (λ i. getD (P .lines) i d .groups) back
-          ∙ (ap (λ h. h .groups) (sym (List·getD-append (P .lines) (l ∷ []) d j (omega (arith, P .many)))) ∙ ap (λ i. getD (P .lines ++ (l ∷ [])) i d .groups) (sym back)))))
+          ∙ (ap (λ h. h .groups) (sym (List·getD-append (P .lines) (l ∷ []) d j (omega (arith, P .many)))) ∙ ap (λ i. getD (P .lines ++ (l ∷ [])) i d .groups)
+          (sym back)))))
           (λ (b : k ≤ j).
           let same : j ≡ k = omega arith in
           subst (λ i. Option? M (suc i) x → getD new (65 * i + x) 0 ≡ position (groupsIn (P .lines ++ (l ∷ [])) (suc j)) x) (sym same)

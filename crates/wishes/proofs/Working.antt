@@ -106,5 +106,9 @@ few case e = case-counts case (table-none (caseCauses case) e)
 pub passed : (case : List ℕ) → caseRefusal case ≡ none → NothingFound (caseCauses case)
 passed case e = table-none (caseCauses case) e
 
+-- the noted groups of line k are within those of 512
+pub part-within : (case : List ℕ) → caseRefusal case ≡ none → (k n : ℕ) → n ≡ marketIn case .students → k < n → 65 * k + 65 ≤ 33280
+part-within case e k n q l = omega (arith, few case e)
+
 pub few-records : (case : List ℕ) → pairCount case ≤ rowCount case
 few-records = few-pairs

@@ -3,14 +3,12 @@ use Prim.Native.Nat.{ℕ, suc, _+_, _-_, _*_, _≤_, _<_}
 use mathlib.Core.Path.{_≡_, refl, sym, ap, _∙_, subst}
 use native.Mathlib.Omega.{arith}
 use mathlib.Core.List.{List}
-use mathlib.Core.Option.{none}
 use lib.ListN.{length, drop, length-take, length-drop}
-use Rattle.case_tests.specs.Checked.{caseRefusal}
 use borrow.Author.Needs.{needs}
 use Rattle.format.specs.Engine.{marketIn}
 use Rattle.wish_lines.specs.Reading.{refused}
 use Rattle.wish_lines.proofs.Ranged.{ranged}
-use Rattle.wishes.proofs.Working.{few, passed}
+use Rattle.wishes.proofs.Working.{few, passed, part-within}
 use Rattle.wishes.proofs.Judging.{Passed, passed-none, passed-on, passed-fault, passed-over, passed-all, narrow}
 use Rattle.wishes.proofs.Judging.{part-below, part-own, part-long}
 use Rattle.wishes.proofs.judge.Statement.{statement}
@@ -19,10 +17,6 @@ use Rattle.wishes.proofs.judge.Reads as reads
 use Rattle.wishes.proofs.judge.Lts as lts
 use Rattle.line_reader.proofs.check_line.Reads as check-line-reads
 
--- the part of line k is within
-room : (case : List ℕ) → caseRefusal case ≡ none → (k n : ℕ) → n ≡ marketIn case .students → k < n → 65 * k + 65 ≤ 33280
-room case e k n q l = omega (arith, few case e)
-
 abbrev Inv-loop : tie.InvT-loop
 Inv-loop case table students text groups₀ at₀ k₀ groups at k = (length groups ≡ 33280) × Passed (marketIn case) text k at groups
 
@@ -30,13 +24,19 @@ abbrev μ-loop : tie.MeasureT-loop
 μ-loop case table students text groups₀ at₀ k₀ groups at k = students - k
 
 loop-holds : tie.Need-loop-holds Inv-loop μ-loop
-loop-holds c = (c .before .before .before .before .pre .1 .1 .1, passed-none (marketIn (c .before .before .before .before .args .case .now)) (c .before .before .before .before .args .text .now) (c .before .before .before .before .args .groups .now))
+loop-holds c =
+    let start = c .before .before .before .before in
+    (start .pre .1 .1 .1, passed-none (marketIn (start .args .case .now)) (start .args .text .now) (start .args .groups .now))
 
 mul-own : tie.Need-mul-own Inv-loop μ-loop
-mul-own c = omega (arith, room (c .before .before .before .before .before .before .args .case .now) (c .before .before .before .before .before .before .pre .0) (c .before .loop .k) _ (c .before .before .before .before .before .before .pre .1 .1 .0) (c .loop-test .taken))
+mul-own c =
+    let start = c .before .before .before .before .before .before in
+    omega (arith, part-within (start .args .case .now) (start .pre .0) (c .before .loop .k) _ (start .pre .1 .1 .0) (c .loop-test .taken))
 
 add-check-line : tie.Need-add-check-line Inv-loop μ-loop
-add-check-line c = omega (arith, room (c .before .before .before .before .before .before .args .case .now) (c .before .before .before .before .before .before .pre .0) (c .before .loop .k) _ (c .before .before .before .before .before .before .pre .1 .1 .0) (c .loop-test .taken))
+add-check-line c =
+    let start = c .before .before .before .before .before .before in
+    omega (arith, part-within (start .args .case .now) (start .pre .0) (c .before .loop .k) _ (start .pre .1 .1 .0) (c .loop-test .taken))
 
 sub-check-line : tie.Need-sub-check-line Inv-loop μ-loop
 sub-check-line c = omega arith
@@ -46,7 +46,13 @@ part-check-line-start c = omega arith
 
 part-check-line-end : tie.Need-part-check-line-end Inv-loop μ-loop
 part-check-line-end c =
-    omega (arith, c .before .loop .inv .0, room (c .before .before .before .before .before .before .args .case .now) (c .before .before .before .before .before .before .pre .0) (c .before .loop .k) _ (c .before .before .before .before .before .before .pre .1 .1 .0) (c .loop-test .taken))
+    let start = c .before .before .before .before .before .before in
+    omega (
+      arith,
+      c .before .loop .inv .0,
+      part-within (start .args .case .now) (start .pre .0) (c .before .loop .k) _ (start .pre .1 .1 .0)
+          (c .loop-test .taken),
+    )
 
 check-line-requires : tie.Need-check-line-requires Inv-loop μ-loop
 check-line-requires c κs =
@@ -54,7 +60,7 @@ check-line-requires c κs =
     let p = c .before .before .before .before .before .before .before .pre in
     let here = c .before .before .loop in
     let own = 65 * here .k in
-    let within = room (a .case .now) (p .0) (here .k) _ (p .1 .1 .0) (c .before .loop-test .taken) in (
+    let within = part-within (a .case .now) (p .0) (here .k) _ (p .1 .1 .0) (c .before .loop-test .taken) in (
       p .1 .0,
       (
         ranged (a .case .now) (passed (a .case .now) (p .0)),
@@ -69,9 +75,11 @@ same-length : tie.Need-same-length Inv-loop μ-loop
 same-length c =
     let start = c .before .before .before .before .before .before .before .before .before .before .before .before in
     let here = c .before .before .before .before .before .before .before .loop in
-    let within = room (start .args .case .now) (start .pre .0) (here .k) _ (start .pre .1 .1 .0) (c .before .before .before .before .before .before .loop-test .taken) in
+    let within = part-within (start .args .case .now) (start .pre .0) (here .k) _ (start .pre .1 .1 .0)
+    (c .before .before .before .before .before .before .loop-test .taken) in
     let own = 65 * here .k in
-    part-long own (own + 65 - own) (here .groups) (c .before .before .before .before .check-line .last .1 .1 .1 .1 .1 .0) (omega (arith, here .inv .0, within)) (c .before .before .before .before .check-line .ensures .sized ∙ omega arith)
+    part-long own (own + 65 - own) (here .groups) (c .before .before .before .before .check-line .last .1 .1 .1 .1 .1 .0)
+    (omega (arith, here .inv .0, within)) (c .before .before .before .before .check-line .ensures .sized ∙ omega arith)
     ∙ (here .inv .0 ∙ sym (start .pre .1 .1 .1))
 
 returns : tie.Need-returns Inv-loop μ-loop
@@ -98,9 +106,11 @@ loop-again c =
     let start = c .before .before .before .before .before .before .before .before .before .before .before .before in
     let a = start .args in
     let here = c .before .before .before .before .before .before .before .loop in
-    let within = room (start .args .case .now) (start .pre .0) (here .k) _ (start .pre .1 .1 .0) (c .before .before .before .before .before .before .loop-test .taken) in
+    let within = part-within (start .args .case .now) (start .pre .0) (here .k) _ (start .pre .1 .1 .0)
+    (c .before .before .before .before .before .before .loop-test .taken) in
     let own = 65 * here .k in
-    let long = part-long own (own + 65 - own) (here .groups) (c .before .before .before .before .check-line .last .1 .1 .1 .1 .1 .0) (omega (arith, here .inv .0, within)) (c .before .before .before .before .check-line .ensures .sized ∙ omega arith) in
+    let long = part-long own (own + 65 - own) (here .groups) (c .before .before .before .before .check-line .last .1 .1 .1 .1 .1 .0)
+    (omega (arith, here .inv .0, within)) (c .before .before .before .before .check-line .ensures .sized ∙ omega arith) in
     let line = c .before .before .before .before .check-line in
     let z : line .result .fault ≡ 0 = omega arith in
     let r = line .ensures .line z in

@@ -2,8 +2,6 @@
 use Prim.Native.Nat.{ℕ, suc, _+_, _-_, _*_, _≤_, _<_}
 use mathlib.Core.Path.{_≡_, refl, sym, ap, _∙_, subst}
 use mathlib.Core.List.{List}
-use mathlib.Core.Option.{none}
-use Rattle.case_tests.specs.Checked.{caseRefusal}
 use native.Mathlib.Omega.{arith}
 use lib.ListN.{length, getD, take, drop, length-take, length-drop}
 use borrow.Author.Needs.{needs}
@@ -17,7 +15,7 @@ use Rattle.wish_lines.specs.Lines.{Line}
 use Rattle.wish_lines.proofs.Ranged.{ranged, student-row}
 use Rattle.wishes.specs.Copy.{wished}
 use Rattle.wishes.specs.Records.{StudentPut, AllNoted}
-use Rattle.wishes.proofs.Working.{few, passed}
+use Rattle.wishes.proofs.Working.{few, passed, part-within}
 use Rattle.wishes.proofs.Judging.{narrow, part-read, head-over}
 use Rattle.wishes.proofs.Records.{Filled, filled-none, filled-all, student-shown, wished-long}
 use Rattle.wishes.proofs.put_wishes.Statement.{statement}
@@ -26,10 +24,6 @@ use Rattle.wishes.proofs.put_wishes.Reads as reads
 use Rattle.wishes.proofs.put_wishes.Lts as lts
 use Rattle.wishes.proofs.copying.copy_bytes.Reads as copy-bytes-reads
 use Rattle.wishes.proofs.copying.put_student.Reads as put-student-reads
-
--- the part of student k + 1 is within
-room : (case : List ℕ) → caseRefusal case ≡ none → (k n : ℕ) → n ≡ marketIn case .students → k < n → 65 * k + 65 ≤ 33280
-room case e k n q l = omega (arith, few case e)
 
 abbrev Inv-loop : tie.InvT-loop
 Inv-loop case table students groups copy₀ k₀ copy k =
@@ -46,7 +40,13 @@ copy-bytes-requires c κs = c .before .before .before .before .before .pre .1 .1
 loop-holds : tie.Need-loop-holds Inv-loop μ-loop
 loop-holds c =
     let a = c .before .before .before .before .before .before .before .before .args in
-    let bytes : Bytes (a .case .now) = record { below = λ k. omega (arith, c .before .before .before .before .before .before .before .shared-slice-known .given k) } in
+    let bytes : Bytes (a .case .now) = record {
+      below = λ k. omega (
+        arith,
+        c .before .before .before .before .before .before
+            .before .shared-slice-known .given k,
+      );
+    } in
     let copied = c .before .before .copy-bytes .ensures in (
       omega arith,
       refl,
@@ -56,13 +56,19 @@ loop-holds c =
     )
 
 mul-own : tie.Need-mul-own Inv-loop μ-loop
-mul-own c = let start = c .before .before .before .before .before .before .before .before .before .before in omega (arith, room (start .args .case .now) (start .pre .0) (c .before .loop .k) _ (start .pre .1 .1 .0) (c .loop-test .taken))
+mul-own c =
+    let start = c .before .before .before .before .before .before .before .before .before .before in
+    omega (arith, part-within (start .args .case .now) (start .pre .0) (c .before .loop .k) _ (start .pre .1 .1 .0) (c .loop-test .taken))
 
 add-put-student : tie.Need-add-put-student Inv-loop μ-loop
-add-put-student c = let start = c .before .before .before .before .before .before .before .before .before .before in omega (arith, room (start .args .case .now) (start .pre .0) (c .before .loop .k) _ (start .pre .1 .1 .0) (c .loop-test .taken))
+add-put-student c =
+    let start = c .before .before .before .before .before .before .before .before .before .before in
+    omega (arith, part-within (start .args .case .now) (start .pre .0) (c .before .loop .k) _ (start .pre .1 .1 .0) (c .loop-test .taken))
 
 add-put-student-2 : tie.Need-add-put-student-2 Inv-loop μ-loop
-add-put-student-2 c = let start = c .before .before .before .before .before .before .before .before .before .before in omega (arith, room (start .args .case .now) (start .pre .0) (c .before .loop .k) _ (start .pre .1 .1 .0) (c .loop-test .taken))
+add-put-student-2 c =
+    let start = c .before .before .before .before .before .before .before .before .before .before in
+    omega (arith, part-within (start .args .case .now) (start .pre .0) (c .before .loop .k) _ (start .pre .1 .1 .0) (c .loop-test .taken))
 
 sub-put-student : tie.Need-sub-put-student Inv-loop μ-loop
 sub-put-student c = omega arith
@@ -73,7 +79,12 @@ part-put-student-start c = omega arith
 part-put-student-end : tie.Need-part-put-student-end Inv-loop μ-loop
 part-put-student-end c =
     let start = c .before .before .before .before .before .before .before .before .before .before in
-    omega (arith, start .pre .1 .1 .1 .0, room (start .args .case .now) (start .pre .0) (c .before .loop .k) _ (start .pre .1 .1 .0) (c .loop-test .taken))
+    omega (
+      arith,
+      start .pre .1 .1 .1 .0,
+      part-within (start .args .case .now) (start .pre .0) (c .before .loop .k) _ (start .pre .1 .1 .0)
+          (c .loop-test .taken),
+    )
 
 put-student-requires : tie.Need-put-student-requires Inv-loop μ-loop
 put-student-requires c κs =
@@ -82,10 +93,11 @@ put-student-requires c κs =
     let p = start .pre in
     let here = c .before .before .before .loop in
     let own = 65 * here .k in
-    let within = room (a .case .now) (p .0) (here .k) _ (p .1 .1 .0) (c .before .before .loop-test .taken) in
+    let within = part-within (a .case .now) (p .0) (here .k) _ (p .1 .1 .0) (c .before .before .loop-test .taken) in
     let less : here .k < marketIn (a .case .now) .students = omega (arith, c .before .before .loop-test .taken, p .1 .1 .0) in
     let row = student-row (a .case .now) (passed (a .case .now) (p .0)) (here .k + 1) (omega arith) (omega arith) .0 in
-    let long = ap length (c .before .before .before .before .before .before .copy-bytes .ensures) ∙ head-length (a .case .now) (a .copy .now) (p .1 .1 .1 .1) in (
+    let long = ap length (c .before .before .before .before .before .before .copy-bytes .ensures) ∙ head-length (a .case .now) (a .copy .now)
+    (p .1 .1 .1 .1) in (
       p .1 .0,
       (
         ((omega arith, omega (arith, few (a .case .now) (p .0))), omega (arith, row)),
@@ -120,7 +132,11 @@ loop-again c =
           subst (λ n. Filled (a .case .now) nothing ls n old (put .last .1 .1 .1 .1 .0)) (sym more)
           (student-shown (a .case .now) nothing ls (here .k) (omega arith) part
           (λ x o.
-          part-read own (own + 65 - own) (a .groups .now) x (omega (arith, narrow (marketIn (a .case .now)) (ranged (a .case .now) nothing) (suc (here .k)) x o))
+          part-read own (own + 65 - own) (a .groups .now) x (omega (
+            arith,
+            narrow (marketIn (a .case .now)) (ranged (a .case .now) nothing)
+                (suc (here .k)) x o,
+          ))
           ∙ e (here .k) x less o)
           old (here .copy) (put .last .1 .1 .1 .1 .0)
           (subst (λ s. StudentPut (a .case .now) part s (here .copy) (put .last .1 .1 .1 .1 .0)) more (put .ensures .0)) (here .inv .2 nothing ls e)),
@@ -130,7 +146,8 @@ same-length : tie.Need-same-length Inv-loop μ-loop
 same-length c =
     let start = c .before .before .before .before .before .before .before .before .before .before in
     c .before .loop .inv .1
-    ∙ (ap length (c .before .before .before .before .copy-bytes .ensures) ∙ head-length (start .args .case .now) (start .args .copy .now) (start .pre .1 .1 .1 .1))
+    ∙ (ap length (c .before .before .before .before .copy-bytes .ensures) ∙ head-length (start .args .case .now) (start .args .copy .now)
+    (start .pre .1 .1 .1 .1))
 
 returns : tie.Need-returns Inv-loop μ-loop
 returns c =

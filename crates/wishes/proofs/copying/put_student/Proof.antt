@@ -86,7 +86,8 @@ put-third-requires-2 c κs =
       arith,
       here .inv .0 .inside (here .k) (c .before .before .before .before .loop-test .taken),
       c .before .before .before .before .before .before .before .before .before .before .before .before .before .before .before .before .before .pre .1 .1 .1,
-      here .inv .4 ∙ (ap length (c .before .before .before .before .before .before .before .before .put-third .ensures) ∙ third-long (a .copy .now) (a .s - 1) _),
+      here .inv .4 ∙ (ap length (c .before .before .before .before .before .before .before .before .put-third .ensures) ∙ third-long (a .copy .now)
+          (a .s - 1) _),
     )
 
 add-k : tie.Need-add-k Inv-loop μ-loop
@@ -97,7 +98,8 @@ loop-less c = omega arith
 
 loop-again : tie.Need-loop-again Inv-loop μ-loop
 loop-again c =
-    let a = c .before .before .before .before .before .before .before .before .before .before .before .before .before .before .before .before .before .before .before .before .args in
+    let a = c .before .before .before .before .before .before .before .before .before .before .before .before .before .before .before .before .before .before
+    .before .before .args in
     let here = c .before .before .before .before .before .before .before .before .loop in
     let own = c .before .before .before .before .before .before .before .before .before .before .before .before .before .before .before .pairs-of .result in
     let group : ℕ → ℕ = λ x. getD (a .groups .now) x 0 in
@@ -122,7 +124,8 @@ returns c =
     let a = c .before .before .before .before .before .before .before .before .before .before .before .before .before .args in
     let here = c .before .loop in
     let own = c .before .before .before .before .before .before .before .before .pairs-of in
-    let put = c .before .before .before .before .put-third .ensures ∙ ap (withThirdAt (a .copy .now) (a .s - 1)) (c .before .before .before .before .before .wide .ensures) in
+    let put = c .before .before .before .before .put-third .ensures ∙ ap (withThirdAt (a .copy .now) (a .s - 1))
+    (c .before .before .before .before .before .wide .ensures) in
     let done : here .k ≡ own .result .many = omega arith in
     let pairs : ℕ → List ℕ → List ℕ = withPairs (a .case .now) (λ x. getD (a .groups .now) x 0) (own .result .first) in (
       record {
