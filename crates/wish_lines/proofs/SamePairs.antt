@@ -6,7 +6,7 @@ use mathlib.Core.List.{List, [], _∷_}
 use Rattle.base.specs.Lists.{one}
 use Rattle.lgs.specs.Market.{Market}
 use Rattle.wish_lines.specs.Lines.{Line}
-use Rattle.wish_lines.specs.Reading.{misnamed, read, readLines, FitLine, FitLines}
+use Rattle.wish_lines.specs.Reading.{misnamed, read, readLines, FitLines}
 use Rattle.wish_lines.specs.Wishes.{Ranged}
 use Rattle.wish_lines.proofs.Naming.{named-exactly}
 use Rattle.wish_lines.proofs.Causes.{read-exactly}
