@@ -11,7 +11,6 @@ pub mod Length
 pub mod Causes
 pub mod Naming
 pub mod SamePairs
-pub mod Namings
 pub mod Counted
 pub mod Appending
 pub mod Ranged
