@@ -1,16 +1,15 @@
 -- The copy of a case with the groups of lines has these groups, and the rest as it was.
-use Prim.Native.Nat.{ℕ, zero, suc, _-_, _≤_, _<_}
+use Prim.Native.Nat.{ℕ, zero, suc, _-_, _≤_}
 use mathlib.Core.Path.{_≡_, refl, ap, _∙_}
 use mathlib.Core.Logic.{_⊎_, inl, inr, ⊎-elim}
 use mathlib.Core.Bool.{Bool, true, false}
 use mathlib.Core.List.{List, [], _∷_, map}
-use native.Mathlib.Omega.{arith}
 use lib.Dec.{eqb}
 use borrow.Author.Tests.{eqb-true}
 use Rattle.base.specs.Lists.{any, tally, find}
 use Rattle.base.proofs.Tests.{bool-cases, and-left}
 use Rattle.base.proofs.Below.{find-map}
-use Rattle.format.specs.Layout.{Row, rowAt, rows, rowCount, noRow, ofKind, isStudent, isWorkshop, isPair, marketOf}
+use Rattle.format.specs.Layout.{Row, rowAt, rows, noRow, ofKind, isStudent, isWorkshop, isPair, marketOf}
 use Rattle.format.specs.Causes.{NothingFound}
 use Rattle.format.specs.Refusals.{caseCauses}
 use Rattle.format.specs.Engine.{marketIn}

@@ -2,7 +2,6 @@
 use Prim.Native.Nat.{ℕ, zero, suc, _+_, _-_, _*_, _/_, _%_, _≤_, _<_}
 use mathlib.Core.Path.{_≡_, refl, sym, ap, _∙_, subst, fun-ext}
 use mathlib.Core.Logic.{_⊎_, inl, inr, ⊎-elim}
-use mathlib.Core.Bool.{Bool}
 use mathlib.Core.List.{List, [], _∷_, _++_, map}
 use mathlib.Core.List.{List·Memᴰ as Mem, List·Memᴰ·head as here, List·Memᴰ·tail as later, List·Memᴰ·not-nil as not-nil, List·Memᴰ·cases-cons as cases-cons}
 use mathlib.Core.List.{Memᴰ·append-left as in-left, Memᴰ·append-right as in-right, Memᴰ·of-map as of-map}
@@ -13,7 +12,7 @@ use Rattle.base.specs.Lists.{tally, total}
 use Rattle.base.proofs.Tests.{eq?, less?}
 use Rattle.base.proofs.Below.{tabulate-length, tabulate-in}
 use Rattle.lgs.specs.Market.{Market, allSeats, seatsOf}
-use Rattle.format.specs.Layout.{Row, Entry, rowAt, rows, rowCount, noRow, ofKind, isPair, entries, entryCount}
+use Rattle.format.specs.Layout.{Row, Entry, rowAt, rows, rowCount, ofKind, isPair, entries, entryCount}
 use Rattle.format.specs.Encoding.{rowBytes, Bytes, RowFits}
 use Rattle.format.specs.Causes.{Cause, each, finds, firstCause, NothingFound, FoundFirst}
 use Rattle.format.specs.Refusals.{Room, needed, badRoom, badPair, badScores, badRepeat, badTie, caseCauses, roomCauses, bookCauses, causes}
@@ -29,7 +28,7 @@ use Rattle.wish_lines.specs.Wishes.{Option?}
 use Rattle.wish_lines.proofs.Causes.{read-exactly}
 use Rattle.wish_lines.proofs.Counted.{each-counted}
 use Rattle.wish_lines.proofs.Ranged.{ranged}
-use Rattle.wishes.specs.Copy.{groupsIn, withThird, withWish, wished}
+use Rattle.wishes.specs.Copy.{withWish, wished}
 use Rattle.wishes.specs.Promises.{SameRest, CopyOf}
 use Rattle.wishes.proofs.Case.{unseen, any-new, tally-new, wish-cases, new-rows, copy-rest, copy-tier}
 use Rattle.wishes.proofs.Copy.{fit-at, line-range}

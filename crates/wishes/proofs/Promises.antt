@@ -1,9 +1,9 @@
 -- What is promised of the two parts for wish lines. An answer comes about in one of three ways: by the case's causes, by the room, or by the part's own work.
-use Prim.Native.Nat.{ℕ, _+_, _*_, _/_, _≤_, _<_}
-use mathlib.Core.Path.{_≡_, refl, sym, ap, _∙_, subst}
+use Prim.Native.Nat.{ℕ, _+_, _≤_, _<_}
+use mathlib.Core.Path.{_≡_, refl, sym, ap, _∙_}
 use mathlib.Core.Logic.{_⊎_, inl, inr, ⊎-elim}
-use mathlib.Core.List.{List, [], _∷_, _++_, map}
-use mathlib.Core.List.{List·Memᴰ as Mem, List·Memᴰ·head as here, Memᴰ·append-left as in-left, Memᴰ·append-right as in-right}
+use mathlib.Core.List.{List, [], _++_}
+use mathlib.Core.List.{List·Memᴰ·head as here, Memᴰ·append-left as in-left, Memᴰ·append-right as in-right}
 use mathlib.Core.Option.{Option, some, none}
 use native.Mathlib.Omega.{arith}
 use lib.ListN.{length, drop}
@@ -14,7 +14,7 @@ use Rattle.base.proofs.Tests.{less?}
 use Rattle.base.proofs.Below.{tabulate-length, tally-le}
 use Rattle.lgs.specs.Market.{Market}
 use Rattle.format.specs.Layout.{rowAt, rows, rowCount, ofKind}
-use Rattle.format.specs.Causes.{Cause, whole, firstCause, NothingFound, FoundFirst}
+use Rattle.format.specs.Causes.{Cause, whole, firstCause, NothingFound}
 use Rattle.format.specs.Refusals.{caseCauses}
 use Rattle.format.specs.Engine.{marketIn}
 use Rattle.format.proofs.Causes.{table-none, none-table, table-some, first-left, first-right, other-number}

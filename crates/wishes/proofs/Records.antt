@@ -2,8 +2,8 @@
 use Prim.Native.Nat.{ℕ, zero, suc, _+_, _-_, _*_, _/_, _%_, _≤_, _<_}
 use mathlib.Core.Path.{_≡_, refl, sym, ap, _∙_, subst}
 use mathlib.Core.Logic.{_⊎_, inl, inr, ⊎-elim}
-use mathlib.Core.Bool.{true, false, cond, _&&_}
-use mathlib.Core.List.{List, [], _∷_, map}
+use mathlib.Core.Bool.{true, cond, _&&_}
+use mathlib.Core.List.{List, map}
 use native.Mathlib.Omega.{arith}
 use borrow.Author.Tests.{eq-eqb, ne-eqb, le-leb, lt-leb}
 use lib.Dec.{eqb, leb}
@@ -12,7 +12,7 @@ use lib.Seq.{ext-getD, getD-set-same, getD-set-other}
 use Rattle.base.specs.Lists.{tabulate}
 use Rattle.base.proofs.Tests.{eq?, less?, and-make}
 use Rattle.base.proofs.Below.{tabulate-length, tabulate-at}
-use Rattle.format.specs.Layout.{Row, rowAt, rows, rowCount, noRow, isStudent, isPair}
+use Rattle.format.specs.Layout.{Row, rowAt, rows, rowCount, noRow, isPair}
 use Rattle.format.specs.Encoding.{caseBytes, Bytes}
 use Rattle.format.specs.Causes.{NothingFound}
 use Rattle.format.specs.Refusals.{caseCauses}
@@ -23,14 +23,14 @@ use Rattle.format.proofs.Positions.{student-place, student-from, places, pair-o
 use Rattle.format.proofs.Positions.{pair-there as in-market}
 use Rattle.format.proofs.Cases.{case-whole, case-clean}
 use Rattle.records.specs.Records.{pairPlace}
-use Rattle.tables.specs.Table.{Stretch, workshopIn}
+use Rattle.tables.specs.Table.{Stretch}
 use Rattle.tables.proofs.Reading.{pair-there}
 use Rattle.wish_lines.specs.Lines.{Line, position}
 use Rattle.wish_lines.specs.Wishes.{Option?}
 use Rattle.wish_lines.proofs.Ranged.{student-row}
 use Rattle.wishes.specs.Copy.{groupsIn, withThird, withWish, wished}
 use Rattle.wishes.specs.Records.{withThirdAt, withPairs, StudentPut}
-use Rattle.wishes.proofs.Case.{student-third, pair-third, wish-cases}
+use Rattle.wishes.proofs.Case.{wish-cases}
 use Rattle.wishes.proofs.Fields.{field-set, rows-back}
 use Rattle.wishes.proofs.Valid.{new-at}
 

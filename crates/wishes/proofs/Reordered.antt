@@ -5,17 +5,16 @@ use mathlib.Core.Logic.{⊎-elim}
 use mathlib.Core.Bool.{Bool, true, false, cond}
 use mathlib.Core.List.{List, [], _∷_, _++_, map, flatMap, flatten, append-assoc}
 use mathlib.Core.List.{List·Memᴰ as Mem, List·Memᴰ·head as here, List·Memᴰ·tail as later, List·Memᴰ·not-nil as not-nil, List·Memᴰ·cases-cons as cases-cons}
-use mathlib.Core.Option.{Option, some, none}
+use mathlib.Core.Option.{some, none}
 use native.Mathlib.Omega.{arith}
-use borrow.Author.Tests.{lt-ltb, le-ltb}
+use borrow.Author.Tests.{lt-ltb}
 use lib.Dec.{eqb, ltb}
 use lib.ListN.{length, getD, length-append}
 use Rattle.base.specs.Lists.{one, any, tally}
 use Rattle.base.proofs.Tests.{bool-cases, never}
 use Rattle.base.proofs.Below.{tally-append}
 use Rattle.lgs.specs.Market.{Market}
-use Rattle.format.specs.Layout.{Row, rows, ofKind}
-use Rattle.format.specs.Causes.{firstCause}
+use Rattle.format.specs.Layout.{Row}
 use Rattle.format.specs.Engine.{marketIn}
 use Rattle.format.specs.Printed.{ascii, decimal}
 use Rattle.wish_lines.specs.Lines.{Line, joined, groupText, lineText, linesText, times, Formed, position}
@@ -24,7 +23,7 @@ use Rattle.wish_lines.specs.Wishes.{Ranged}
 use Rattle.wish_lines.proofs.Grammar.{read-complete}
 use Rattle.wish_lines.proofs.Naming.{named-exactly}
 use Rattle.wish_lines.proofs.Written.{tally-in}
-use Rattle.wishes.specs.Copy.{groupsIn, withWish, wished}
+use Rattle.wishes.specs.Copy.{withWish, wished}
 use Rattle.wishes.specs.Outcome.{copyFor}
 use Rattle.wishes.specs.Promises.{SameItems, SameGroups, noGroups, moreGroups, Reordered, noLines, moreLines}
 

@@ -22,10 +22,10 @@ use Rattle.format.proofs.Positions.{student-from, places, pair-names, pair-ther
 use Rattle.format.proofs.Reading.{student-range, tiers-range}
 use Rattle.format.proofs.Cases.{case-whole, case-clean, case-passed}
 use Rattle.format.proofs.Encoding.{case-length}
-use Rattle.wish_lines.specs.Lines.{Line, position}
+use Rattle.wish_lines.specs.Lines.{Line}
 use Rattle.wish_lines.specs.Reading.{read, readLines}
 use Rattle.wish_lines.specs.Wishes.{Option?}
-use Rattle.wishes.specs.Copy.{groupsIn, withThird, withWish, wished}
+use Rattle.wishes.specs.Copy.{withThird, withWish, wished}
 use Rattle.wishes.proofs.Case.{unseen, no-row, any-new, tally-new, new-rows, student-third, pair-third, wish-cases}
 use Rattle.wishes.proofs.Copy.{line-range}
 

@@ -1,6 +1,6 @@
 -- From what the code has found to the answers of the two parts.
 use Prim.Native.Nat.{ℕ, _+_, _*_, _≤_, _<_}
-use mathlib.Core.Path.{_≡_, refl, ap, _∙_}
+use mathlib.Core.Path.{_≡_, ap, _∙_}
 use mathlib.Core.List.{List}
 use mathlib.Core.Option.{some, none}
 use native.Mathlib.Omega.{arith}
@@ -18,7 +18,6 @@ use Rattle.wish_lines.specs.Lines.{Line}
 use Rattle.wish_lines.specs.Wishes.{wishText}
 use Rattle.wishes.specs.Copy.{wished}
 use Rattle.wishes.specs.Outcome.{WishesOutcome, given, ungiven, textRoom, writeCauses, readCauses, copyFor, writeWishes, readWishes, wishesAfter}
-use Rattle.wishes.specs.declared.WishesAnswer.{WishesAnswer}
 use Rattle.wishes.specs.declared.WishesAnswer.the-variants.{Given, Refused}
 use Rattle.wishes.specs.Answered.{wishesAnswerFor, Gives, WriteAnswered, ReadAnswered}
 use Rattle.wishes.proofs.Answers.{wishes-values}

@@ -1,9 +1,9 @@
 // A copy of a case, in lent bytes, with a student's groups put into it.
 ghost use mathlib.Core.Path.{_≡_};
-ghost use Prim.Native.Nat.{ℕ, _+_, _-_, _*_, _≤_, _<_};
+ghost use Prim.Native.Nat.{_+_, _-_, _*_, _≤_, _<_};
 ghost use lib.ListN.{length};
 ghost use Rattle.format.specs.Buffers.{withHead};
-ghost use Rattle.format.specs.Layout.{rowAt, rowCount};
+ghost use Rattle.format.specs.Layout.{rowCount};
 ghost use Rattle.tables.specs.Table.{Tabled};
 ghost use Rattle.wishes.specs.Records.{withThirdAt, StudentPut};
 

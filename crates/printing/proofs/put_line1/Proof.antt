@@ -1,5 +1,5 @@
 -- `printing::put_line1` meets its contract: word, number and end of the line, put one after the other.
-use Rattle.putting.proofs.Laws.{put-then, put-within}
+use Rattle.putting.proofs.Laws.{put-then}
 use Rattle.printing.proofs.Decimal.{line-one}
 use borrow.Author.Needs.{needs}
 use Rattle.printing.proofs.put_line1.Statement.{statement}

@@ -1,5 +1,5 @@
 -- `printing::put_line2` meets its contract: word, numbers and end of the line, put one after the other.
-use Rattle.putting.proofs.Laws.{put-then, put-within}
+use Rattle.putting.proofs.Laws.{put-then}
 use Rattle.printing.proofs.Decimal.{line-two}
 use native.Mathlib.Omega.{arith}
 use Rattle.printing.proofs.Lengths.{long-line}

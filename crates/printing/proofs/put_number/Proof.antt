@@ -1,5 +1,5 @@
 -- `printing::put_number` meets its contract: a space, and then the digits.
-use Rattle.putting.proofs.Laws.{put-then, put-within}
+use Rattle.putting.proofs.Laws.{put-then}
 use borrow.Author.Needs.{needs}
 use Rattle.printing.proofs.put_number.Statement.{statement}
 use Rattle.printing.proofs.put_number.Tie as tie

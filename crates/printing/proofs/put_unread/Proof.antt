@@ -1,5 +1,5 @@
 -- `printing::put_unread` meets its contract: the word, and then the end of the line.
-use Rattle.putting.proofs.Laws.{put-then, put-within, put-whole}
+use Rattle.putting.proofs.Laws.{put-then, put-whole}
 use native.Mathlib.Omega.{arith}
 use Rattle.format.specs.Printed.{unread, numbers}
 use borrow.Author.Needs.{needs}

@@ -1,11 +1,11 @@
 -- `printing::put_visit_lines` meets its contract. The invariant: the lines of the first i interviews are put.
-use Prim.Native.Nat.{ℕ, _+_, _*_, _≤_, _-_}
-use mathlib.Core.Path.{_≡_, refl, ap, sym, _∙_}
-use mathlib.Core.List.{List, [], _∷_, _++_}
+use Prim.Native.Nat.{_+_, _*_, _≤_, _-_}
+use mathlib.Core.Path.{_≡_}
+use mathlib.Core.List.{[], _∷_}
 use native.Mathlib.Omega.{arith}
 use native.Mathlib.Numerals.{add-one}
 use borrow.Author.Needs.{needs}
-use lib.ListN.{length, getD, take}
+use lib.ListN.{length, getD}
 use Rattle.format.specs.Printed.{lineOf, visitWord, visitLines}
 use Rattle.api.specs.Text.{interviewsAt}
 use Rattle.putting.specs.Put.{Put}

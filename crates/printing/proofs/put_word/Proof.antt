@@ -1,10 +1,9 @@
 -- `printing::put_word` meets its contract. The invariant: the first i bytes of the word are put.
-use Prim.Native.Nat.{ℕ, _+_, _≤_, _-_}
-use mathlib.Core.Path.{_≡_, refl, sym, ap, subst, _∙_}
-use mathlib.Core.List.{List, [], _∷_, _++_}
+use Prim.Native.Nat.{_≤_, _-_}
+use mathlib.Core.Path.{_≡_}
 use native.Mathlib.Omega.{arith}
 use native.Mathlib.Numerals.{add-one}
-use lib.ListN.{length, getD, take}
+use lib.ListN.{length, take}
 use lib.Seq.{take-suc, take-all}
 use Rattle.putting.specs.Put.{Put}
 use Rattle.putting.proofs.Laws.{put-none, put-then, put-within, put-length}

@@ -1,5 +1,5 @@
 -- `wishes::read_into` meets its contract: the text's first fault, or the copy.
-use mathlib.Core.Path.{_≡_, refl, sym, _∙_}
+use mathlib.Core.Path.{sym}
 use native.Mathlib.Omega.{arith}
 use lib.ListN.{length}
 use Rattle.wishes.proofs.Working.{passed, read-by-line, read-done}

@@ -5,7 +5,6 @@ use mathlib.Core.List.{List}
 use native.Mathlib.Omega.{arith}
 use lib.ListN.{length, getD}
 use borrow.Author.Needs.{needs}
-use Rattle.format.specs.Layout.{rowCount}
 use Rattle.tables.specs.Table.{Stretch, workshopIn}
 use Rattle.wishes.specs.Records.{withThirdAt, withPairs}
 use Rattle.wishes.proofs.Records.{pairs-none, pairs-on, third-long}
