@@ -1,5 +1,4 @@
--- Example K has agreeing stages, and a finished run that lists more than the placed pairs: demand 3 speaks of it, and is no matter of course. So has a case
--- whose stages agree only because a mill with seats for all is passed over.
+-- Example K has agreeing stages, and a finished run that lists more than the placed pairs: demand 3 speaks of it, and is no matter of course.
 -- The stages agree by a test over the pairs of its records, and the test is computed.
 use Prim.Native.Nat.{ℕ, ◌≤◌, ◌<◌}
 use mathlib.Core.Path.{◌≡◌, refl, sym, ap, ◌∙◌}
@@ -12,22 +11,21 @@ use native.Mathlib.Omega.{arith}
 use lib.Dec.{eqb, ltb}
 use lib.ListN.{length, get_or, take, get_or-eq_default}
 use borrow.Author.Tests.{lt-ltb, le-ltb, eqb-true, eq-eqb, ne_eqb, not-false}
-use Rattle.base.specs.Lists.{count, any, tabulate, tally, find}
+use Rattle.base.specs.Lists.{any, tabulate, tally, find}
 use Rattle.base.specs.Words.{word, signed}
 use Rattle.base.specs.Below.{any_below}
 use Rattle.base.proofs.Below.{any_fails}
 use Rattle.base.proofs.Tests.{bool_cases, never, or_false, or_left, or_right, and_make, less?, eq?}
-use Rattle.lgs.specs.Market.{Market, eligible, seats_for_all, contested, matters, Rivals, ConsistentStages}
+use Rattle.lgs.specs.Market.{Market, matters, Rivals, ConsistentStages}
 use Rattle.lgs.specs.Rule.{interviewed}
 use Rattle.lgs.specs.Promises.{matching_of}
-use Rattle.lgs.proofs.Matters.{matters_paired}
+use Rattle.lgs.proofs.Matters.{matters_true}
 use Rattle.format.specs.Layout.{Row, Entry, is_pair, of_kind, row_at, rows, market_of, entry_at, entries, results_of}
 use Rattle.format.specs.Engine.{placed, refused, engine, Outcome}
-use Rattle.format.specs.Promises.{Example, WeakerExample, SettledExample, Preferred, OtherFares, of_fare}
+use Rattle.format.specs.Promises.{Example, SettledExample, Preferred, OtherFares, of_fare}
 use Rattle.format.specs.Encoding.{words, row_bytes, case_bytes}
 use Rattle.format.specs.Table.{case_of, students_k, workshops_k, pairs_k, case_with, K, book_k, visits_k, answer_k, never_k, answer_never_k, exact}
 use Rattle.format.specs.Table.{book_of, book_with, tied_k, answer_tied_k, fares_k, tens_k, answer_paid_k, table, ample, given, expected, Limits, TablesHold}
-use Rattle.format.specs.Table.{mill, book_mill, visits_mill}
 use Rattle.format.specs.Printed.{unread, readable, program_text, program_prints}
 use Rattle.format.proofs.Positions.{pair_says}
 use Rattle.format.proofs.Table.{computed}
@@ -76,7 +74,7 @@ module _ (rs : List Row) (none : some_differ rs ≡ false) where
   stages_agree = record { earlier = earlier; together = together }
     where
       apart : (w s t : ℕ) → Rivals M w s t → differ M w s t ≡ false
-      apart w s t R = agree w s t (matters_paired M w s R.first) (matters_paired M w t R.second)
+      apart w s t R = agree w s t (matters_true M w s R.first).1 (matters_true M w t R.second).1
 
       earlier : (w s t : ℕ) → Rivals M w s t → M.workshop_tier w s < M.workshop_tier w t → M.stage s < M.stage t
       earlier w s t R l =
@@ -103,14 +101,14 @@ module _ (rs : List Row) (none : some_differ rs ≡ false) where
 -- ---- example K
 
 agrees_k : some_differ (rows K) ≡ false
-unfolding some_differ meets differ matters contested seats_for_all eligible count market_of rows row_at word any find tally tabulate K case_with case_of flat_map
-    case_bytes row_bytes words students_k workshops_k pairs_k
+unfolding some_differ meets differ matters market_of rows row_at word any find tally tabulate K case_with case_of flat_map case_bytes row_bytes words students_k
+    workshops_k pairs_k
 agrees_k = refl
 
 -- with fares
 agrees_tens : some_differ (rows tens_k) ≡ false
-unfolding some_differ meets differ matters contested seats_for_all eligible count market_of rows row_at word any find tally tabulate tens_k fares_k case_of flat_map
-    case_bytes row_bytes words students_k workshops_k
+unfolding some_differ meets differ matters market_of rows row_at word any find tally tabulate tens_k fares_k case_of flat_map case_bytes row_bytes words students_k
+    workshops_k
 agrees_tens = refl
 
 -- a run on it that lists K's visits, one of them of a pair that is not placed
@@ -147,30 +145,6 @@ example_tied_k = on_k K tied_k (1 ∷ 2 ∷ 0 ∷ []) 0 agrees_k computed.exactl
 pub example_fares_k : Example tens_k book_k exact
 unfolding answer_paid_k visits_k interviewed any
 example_fares_k = on_k tens_k book_k (1 ∷ 0 ∷ 2 ∷ []) 21011 agrees_tens computed.exactly_paid (1, 2, refl, λ e. omega arith)
-
--- ---- the mill
-
-agrees_mill : some_differ (rows mill) ≡ false
-unfolding some_differ meets differ matters contested seats_for_all eligible count market_of rows row_at word any find tally tabulate mill case_of flat_map case_bytes
-    row_bytes words
-agrees_mill = refl
-
--- it has a seat for each of its two students; at the mill student 2 is in a better group than 1, and of a later stage
-example_mill : WeakerExample mill book_mill ample 2
-unfolding visits_mill interviewed seats_for_all eligible count market_of rows row_at word any find tally tabulate mill case_of flat_map case_bytes row_bytes words
-example_mill =
-    record {
-      example = record {
-        places = 1 ∷ 2 ∷ [];
-        interviews = visits_mill;
-        fares = 0;
-        answer = computed.amply_mill;
-        consistent = stages_agree (rows mill) agrees_mill;
-        listed_unplaced = (1, 2, refl, λ e. omega arith);
-      };
-      seats = refl;
-      stricter = λ C. omega (arith, C.earlier 2 2 1 (omega arith) refl refl (omega arith));
-    }
 
 -- of students 2 and 3 of its group 2, with equal marks, workshop 2 prefers 2, who has the lower lot
 preferred_k : Preferred K tied_k 2 2 3
@@ -261,7 +235,6 @@ tables_hold =
       agreeing_never = example_never_k;
       agreeing_lots = example_tied_k;
       agreeing_fares = example_fares_k;
-      agreeing_mill = example_mill;
       otherwise_paid = other_k;
       parted = preferred_k;
       settling = settled_k;

@@ -20,11 +20,11 @@ use Rattle.format.specs.Printed.{digits_within, decimal, numbers, place_lines, v
 use Rattle.format.specs.Table.{Computed, case_of, book_of, students_k, workshops_k, pairs_k, case_with, book_with, K, book_k, visits_k, answer_k, table}
 use Rattle.format.specs.Table.{own_table, ample, exact, short_rooms, people, counts_refused, buffers_after, buffers_expected, texts, texts_expected}
 use Rattle.format.specs.Table.{never_table, never_k, answer_never_k, tied_k, answer_tied_k, lots_k, lots_table, given, expected}
-use Rattle.format.specs.Table.{two_rounds, two_rounds_book, second_choice, fares_k, tens_k, answer_paid_k, fares_table, mill, book_mill, visits_mill}
+use Rattle.format.specs.Table.{two_rounds, two_rounds_book, second_choice, fares_k, tens_k, answer_paid_k, fares_table}
 
 pub computed : Computed
 unfolding given expected table own_table never_table never_k answer_never_k tied_k answer_tied_k lots_k two_rounds two_rounds_book second_choice lots_table
-    fares_k tens_k answer_paid_k fares_table fares_of sum_of mill book_mill visits_mill
+    fares_k tens_k answer_paid_k fares_table fares_of sum_of
     ample exact short_rooms people counts_refused buffers_after buffers_expected
     flat places_after visits_after values
     texts texts_expected program_prints unread words row_bytes case_bytes flat_map case_of book_of students_k workshops_k pairs_k case_with book_with K book_k visits_k
@@ -45,7 +45,6 @@ computed =
       exactly_never = refl;
       exactly_tied = refl;
       exactly_paid = refl;
-      amply_mill = refl;
       shortly = refl;
       lot_first = refl;
       buffers = refl;

@@ -5,10 +5,10 @@ use mathlib.Core.List.{Memᴰ as Mem}
 use Rattle.base.specs.Lists.{upto, any, sum_of}
 use Rattle.base.specs.Words.{word}
 use Rattle.base.specs.Bits.{bit, shifted}
-use Rattle.lgs.specs.Market.{seats_for_all, ConsistentStages}
+use Rattle.lgs.specs.Market.{ConsistentStages}
 use Rattle.lgs.specs.Profiles.{Profile, StrictProfile, RespectsTiers, Fits, StudentOptimal}
 use Rattle.lgs.specs.Rule.{Interview, interviewed, State, below, going, stopped, finished, lazy_gale_shapley}
-use Rattle.lgs.specs.Promises.{Listed, OptimalWhateverUnseen, MinimalInterviews, NextInterview, Begins, matching_of, ConsistentEverywhere}
+use Rattle.lgs.specs.Promises.{Listed, OptimalWhateverUnseen, MinimalInterviews, NextInterview, Begins, matching_of}
 use Rattle.lgs.specs.Fares.{fares_of}
 use Rattle.format.specs.Layout.{Row, Entry, row_at, row_count, rows, of_kind, entries, is_interview}
 use Rattle.format.specs.Encoding.{Bytes}
@@ -346,12 +346,6 @@ pub record Example (case book : List ℕ) (room : Room) : Type 0 where
   pub answer : engine case book room ≡ placed places interviews fares
   pub consistent : ConsistentStages (market_in case) (market_in case).stage
   pub listed_unplaced : (s : ℕ) × (w : ℕ) × (interviewed interviews s w ≡ true) × (matching_of places s ≡ w → ⊥)
-
--- such a run whose stages agree only because the workshop w, with seats for all, is passed over (document 02, Paper 7)
-pub record WeakerExample (case book : List ℕ) (room : Room) (w : ℕ) : Type 0 where
-  pub example : Example case book room
-  pub seats : seats_for_all (market_in case) w ≡ true
-  pub stricter : ConsistentEverywhere (market_in case) (market_in case).stage → ⊥
 
 -- a case with agreeing stages, a book after which the next interview is one of student s, and two books with its records that bring placements: student t is of
 -- an earlier stage, and student u gets different places

@@ -11,7 +11,7 @@ use Rattle.format.specs.Refusals.{Room, bad_counts}
 use Rattle.format.specs.Engine.{placed, next, refused, engine, Outcome}
 use Rattle.format.specs.Buffers.{places_after, visits_after, scratch_after, values}
 use Rattle.format.specs.Printed.{ascii, printed, unread, program_room, program_prints}
-use Rattle.format.specs.Promises.{Example, WeakerExample, SettledExample, Preferred, OtherFares}
+use Rattle.format.specs.Promises.{Example, SettledExample, Preferred, OtherFares}
 
 -- ---- bytes from fields
 
@@ -529,20 +529,6 @@ pub record Limits : Type 0 where
   pub long_case : (case : List ℕ) (book : Option (List ℕ)) → 65537 ≤ length case → program_prints (some case) book ≡ unread
   pub long_book : (case : Option (List ℕ)) (book : List ℕ) → 65537 ≤ length book → program_prints case (some book) ≡ unread
 
--- ---- a mill with seats for all (document 02, Paper 7)
-
--- Workshop 2 is the mill: it has a seat for each of the two students, and ranks them the other way round than workshop 1, with which the stages agree.
-unfoldable pub mill : List ℕ
-mill =
-    case_of (numbered 1 1 2 ∷ numbered 2 2 2 ∷ []) (f3 1 1 9 ∷ f3 2 2 9 ∷ []) (f4 1 1 1 1 ∷ f4 1 2 1 2 ∷ f4 2 1 1 2 ∷ f4 2 2 1 1 ∷ [])
-
-unfoldable pub book_mill : List ℕ
-book_mill = book_of (f4 1 1 5 5 ∷ f4 1 2 3 5 ∷ f4 2 2 3 5 ∷ [])
-
--- student 1 visits both and goes to workshop 1; student 2, for whom workshop 1 is then deleted, goes to the mill
-unfoldable pub visits_mill : List Interview
-visits_mill = (1, 1) ∷ (1, 2) ∷ (2, 2) ∷ []
-
 -- what the engine answers to the samples, and what it should
 unfoldable pub given : List Sample → List Outcome
 given ls = map (λ (l : Sample). engine l.case l.book ample) ls
@@ -563,15 +549,13 @@ pub record Computed : Type 0 where
   pub exactly_never : engine K never_k exact ≡ answer_never_k
   pub exactly_tied : engine K tied_k exact ≡ answer_tied_k
   pub exactly_paid : engine tens_k book_k exact ≡ answer_paid_k
-  pub amply_mill : engine mill book_mill ample ≡ placed_free (1 ∷ 2 ∷ []) visits_mill
   pub shortly : map (λ (room : Room). engine K (0 ∷ []) room) short_rooms ≡ map (λ (room : Room). refused 6 0) short_rooms
   pub lot_first : map (λ (room : Room). engine (lots_k 1 2 2) (0 ∷ []) room) short_rooms ≡ map (λ (room : Room). refused 13 2) short_rooms
   pub buffers : buffers_after ≡ buffers_expected
   pub text : texts ≡ texts_expected
 
 -- the program's limit, and K is a run with agreeing stages, also where two of the listed visits ended in never, where a lot decides (workshop 2 has 2 before
--- 3), and with fares; K with fares differs from K in nothing else; the mill's stages agree only as it is passed over; after two visits to K student 1 is
--- settled, and student 2 is not
+-- 3), and with fares; K with fares differs from K in nothing else; after two visits to K student 1 is settled, and student 2 is not
 pub record TablesHold : Type 0 where
   pub computed : Computed
   pub limits : Limits
@@ -579,7 +563,6 @@ pub record TablesHold : Type 0 where
   pub agreeing_never : Example K never_k exact
   pub agreeing_lots : Example K tied_k exact
   pub agreeing_fares : Example tens_k book_k exact
-  pub agreeing_mill : WeakerExample mill book_mill ample 2
   pub otherwise_paid : OtherFares K tens_k
   pub parted : Preferred K tied_k 2 2 3
   pub settling : SettledExample K (take 16 book_k) book_k (book_with 5 4 7 4 6) ample 2 1 2

@@ -16,7 +16,7 @@ use Rattle.base.specs.Lists.{any, update}
 use Rattle.base.proofs.Tests.{never, bool_cases, and_left, and_right, or_left, eq?, less?}
 use Rattle.base.proofs.Counting.{find?, count_none}
 use Rattle.base.proofs.Members.{in_first, update_at, update_off}
-use Rattle.lgs.specs.Market.{Market, Results, eligible, contested, Rivals, ConsistentStages}
+use Rattle.lgs.specs.Market.{Market, Results, Rivals, ConsistentStages}
 use Rattle.lgs.specs.Profiles.{Profile, seated, flip}
 use Rattle.lgs.specs.Rule.{State, interviewed, below, holders, lowest_of, close, due, hand_on, insert, by_stage, start}
 use Rattle.lgs.proofs.Sides.{real}
@@ -26,7 +26,7 @@ use Rattle.lgs.proofs.Advance.{Due, due_in}
 use Rattle.lgs.proofs.Close.{Seating, same_seats, held_after, close_keeps, close_deletes, lowest_holder}
 use Rattle.lgs.proofs.Lowest.{Lowest}
 use Rattle.lgs.proofs.Undetermined.{Reachable}
-use Rattle.lgs.proofs.Matters.{eligible_is, matters_is, over_contested, uncontested_reachable}
+use Rattle.lgs.proofs.Matters.{matters_is}
 use Rattle.lgs.proofs.Choose.{best_chosen}
 use Rattle.lgs.proofs.Apply.{seat, drop, choosers₁, one_more, lowest_joined}
 use Rattle.lgs.proofs.Moves.{Move, interviews, leaves, sits, drops, joined_state, dropped}
@@ -78,9 +78,10 @@ module _ (M : Market) (agree : ConsistentStages M M.stage) where
   worse_later w s t r l =
       ⊎_elim (λ e. omega (arith, agree.together w s t r e)) (λ less. omega (arith, agree.earlier w s t r less)) (eq-or-lt_of_le l)
 
--- two of a contested workshop's students are rivals
-pub rivals : (M : Market) (w s t : ℕ) → contested M w ≡ true → eligible M w s ≡ true → eligible M w t ≡ true → Rivals M w s t
-rivals M w s t c a b = record { first = matters_is M w s c a; second = matters_is M w t c b }
+-- two whom a workshop has interviewed are rivals
+rivals : (M : Market) (Vs : ℕ → ℕ → Bool) (σ : State) (w s t : ℕ) → Seen M Vs σ s w → Seen M Vs σ t w → Rivals M w s t
+rivals M Vs σ w s t a b =
+    record { first = matters_is M w s a.seats a.pair a.outside; second = matters_is M w t b.seats b.pair b.outside }
 
 module _ (M : Market) (B : Results) (O : Profile) (Vs : ℕ → ℕ → Bool) (E : Setting M B O Vs) where
   start_needed : Needed M (start M B)
@@ -185,49 +186,25 @@ module _ (M : Market) (B : Results) (O : Profile) (Vs : ℕ → ℕ → Bool) (E
 
   module _ (agree : ConsistentStages M M.stage) (σ : State) (I : Inv M B O Vs σ) (N : Needed M σ) (s : ℕ) (rest : List ℕ)
       (wait : σ.waiting ≡ s ∷ rest) where
+    -- whoever has had an interview with the workshop that the student applies to is in her tier there or a better one
     module _ (c : ℕ) (pos : 0 < c) (k : Chosen M B O Vs σ s c) where
-      s_came : interviewed σ.interviews s c ≡ true
-      s_came = (k.real pos).0
-
-      -- the workshop has interviewed its own students alone, and so holds them alone, with her
-      came : (t : ℕ) → interviewed σ.interviews t c ≡ true → eligible M c t ≡ true
-      came t v = let a : Seen M Vs σ t c = I.seen t c v in eligible_is M c t a.pair a.outside
-
-      holder_came : (t : ℕ) → update σ.held s c t ≡ c → interviewed σ.interviews t c ≡ true
-      holder_came t q = ((choosers₁ M B O Vs E σ I s rest wait c pos k t q).real pos).0
-
-      own : (t : ℕ) → update σ.held s c t ≡ c → eligible M c t ≡ true
-      own t q = came t (holder_came t q)
-
-      -- where it is contested, whomever it has interviewed is in her tier or a better one
-      no_better : contested M c ≡ true → (t : ℕ) → interviewed σ.interviews t c ≡ true → M.workshop_tier c t ≤ M.workshop_tier c s
-      no_better fought t v = later_worse M agree c t s (rivals M c s t fought (came s s_came) (came t v)) (N.early t c s v (in_first wait))
+      no_better : (t : ℕ) → interviewed σ.interviews t c ≡ true → M.workshop_tier c t ≤ M.workshop_tier c s
+      no_better t v = later_worse M agree c t s (rivals M Vs σ c s t (I.seen s c (k.real pos).0) (I.seen t c v)) (N.early t c s v (in_first wait))
 
       sits_needed : seated M (update σ.held s c) c ≤ M.quota c → Needed M (close M B (joined_state M B σ s rest c) c)
       sits_needed fits =
           seating_needed σ I N s rest wait c pos _ _ (seat M B O Vs E σ I s rest wait c pos k fits)
-          (λ t v. ⊎_elim (λ fought. inr (s, update_at σ.held s c s refl, no_better fought t v)) (roomy t v) (bool_cases (contested M c)))
+          (λ t v. inr (s, update_at σ.held s c s refl, no_better t v))
           (λ t w u v m. N.early t w u v (rw wait (later m)))
           (in_order σ I N s rest wait).1
-        where
-          roomy : (t : ℕ) → interviewed σ.interviews t c ≡ true → contested M c ≡ false → Reachable M (update σ.held s c) t c
-          roomy t v passed =
-              let a : Seen M Vs σ t c = I.seen t c v in
-              let r : (1 ≤ t) × (t ≤ M.students) = E.wf.student t c a.pair in
-              uncontested_reachable M c (update σ.held s c) own a.seats passed t r.0 r.1 (came t v)
 
       module _ (x : ℕ) (low : Lowest M B O Vs E σ (joined_state M B σ s rest c) c (λ y v. I.seen y c v) x)
           (over : M.quota c < seated M (update σ.held s c) c) where
-        -- a workshop that drops somebody is contested
-        fought : contested M c ≡ true
-        fought = over_contested M c (update σ.held s c) own (I.seen s c s_came).seats over
-
-        x_came : interviewed σ.interviews x c ≡ true
-        x_came = holder_came x low.holder
+        x-seen : Seen M Vs σ x c
+        x-seen = I.seen x c ((choosers₁ M B O Vs E σ I s rest wait c pos k x low.holder).real pos).0
 
         reach : (t : ℕ) → interviewed σ.interviews t c ≡ true → Reachable M (update (update σ.held s c) x 0) t c
-        reach t v =
-            ⊎_elim same (λ (ne : s ≡ x → ⊥). inr (s, update_off _ x 0 s ne ∙ update_at σ.held s c s refl, no_better fought t v)) (eq? s x)
+        reach t v = ⊎_elim same (λ (ne : s ≡ x → ⊥). inr (s, update_off _ x 0 s ne ∙ update_at σ.held s c s refl, no_better t v)) (eq? s x)
           where
             -- the student herself is dropped: the holders are the same
             same : s ≡ x → Reachable M (update (update σ.held s c) x 0) t c
@@ -240,8 +217,8 @@ module _ (M : Market) (B : Results) (O : Profile) (Vs : ℕ → ℕ → Bool) (E
 
         hand_before : M.stage s ≤ M.stage x
         hand_before =
-            worse_later M agree c s x (rivals M c s x fought (came s s_came) (came x x_came))
-            (workshop_no_worse M B O Vs E c s x (real (flip M.paired c) s (I.seen s c s_came).pair) (real (flip M.paired c) x (I.seen x c x_came).pair)
+            worse_later M agree c s x (rivals M Vs σ c s x (I.seen s c (k.real pos).0) x-seen)
+            (workshop_no_worse M B O Vs E c s x (real (flip M.paired c) s (I.seen s c (k.real pos).0).pair) (real (flip M.paired c) x x-seen.pair)
             (low.low s (update_at σ.held s c s refl)))
 
         drops_needed : Needed M (close M B (hand_on M B σ (x ∷ rest) (update (update σ.held s c) x 0)) c)
@@ -251,7 +228,7 @@ module _ (M : Market) (B : Results) (O : Profile) (Vs : ℕ → ℕ → Bool) (E
             (λ t w u v m.
             ⊎_elim (λ (e : u ≡ x). rw e (omega (arith, N.early t w s v (in_first wait), hand_before))) (λ z. N.early t w u v (rw wait (later z)))
             (cases_cons m)) (
-              (λ t m. N.early x c t x_came (rw wait (later m))),
+              (λ t m. N.early x c t ((choosers₁ M B O Vs E σ I s rest wait c pos k x low.holder).real pos).0 (rw wait (later m))),
               (in_order σ I N s
                   rest wait).1,
             )

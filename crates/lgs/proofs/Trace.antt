@@ -12,7 +12,7 @@ use Rattle.lgs.specs.Market.{Market, Results}
 use Rattle.lgs.specs.Rule.{State, Step, going, stopped, finished, Interview, interviewed, choices, due, best, advance, add_interview}
 use Rattle.lgs.specs.Rule.{interview_all, apply, turn, step, run, fuel, start, lazy_gale_shapley}
 use Rattle.lgs.proofs.Interviews.{interviews_with, none_interviewed}
-use Rattle.lgs.proofs.Moves.{IsGoing, finished_not_going, stopped_not_going, finished_not_stopped, same_state, Move, moves, interviews_stay, move_met}
+use Rattle.lgs.proofs.Moves.{IsGoing, finished_not_going, stopped_not_going, finished_not_stopped, Move, moves, interviews_stay, move_met}
 
 module _ (M : Market) (B : Results) (τ : State) where
   -- steps lead from the state to τ
@@ -63,26 +63,6 @@ module _ (M : Market) (B : Results) where
       by_step (going σ') g more f = first σ.waiting σ' refl g (more σ' f)
       by_step (stopped s w vs) g more f = here (stopped s w vs) g (stopped_not_going s w vs) f
       by_step (finished p vs) g more f = here (finished p vs) g (finished_not_going p vs) f
-
-  -- a state that so many steps lead to is reached
-  pub run_reaches : (k : ℕ) (σ τ : State) → run M B k (going σ) ≡ going τ → Reaches M B τ σ
-  unfolding run step
-  run_reaches zero σ τ e = there (same_state e)
-  run_reaches (suc k) σ τ e = by_waiting σ.waiting refl (by_step (step M B σ σ.waiting) refl (λ σ' f. run_reaches k σ' τ f) e)
-    where
-      Next : Type 0
-      Next = (σ' : State) × (step M B σ σ.waiting ≡ going σ') × Reaches M B τ σ'
-
-      by_step : (y : Step) → step M B σ σ.waiting ≡ y → ((σ' : State) → run M B k (going σ') ≡ going τ → Reaches M B τ σ') → run M B k y ≡ going τ → Next
-      by_step (going σ') g more f = (σ', g, more σ' f)
-      by_step (stopped s w vs) g more f =
-          absurd (stopped_not_going s w vs (τ, sym (run_answer k (stopped s w vs) (stopped_not_going s w vs)) ∙ f))
-      by_step (finished p vs) g more f =
-          absurd (finished_not_going p vs (τ, sym (run_answer k (finished p vs) (finished_not_going p vs)) ∙ f))
-
-      by_waiting : (l : List ℕ) → σ.waiting ≡ l → Next → Reaches M B τ σ
-      by_waiting [] w n = absurd (finished_not_going σ.held σ.interviews (n.0, sym (ap (step M B σ) w) ∙ n.1))
-      by_waiting (s ∷ rest) w n = goes s rest w (sym (ap (step M B σ) w) ∙ n.1) n.2
 
   pub lgs_last : (x : Step) → (IsGoing x → ⊥) → lazy_gale_shapley M B ≡ x → Last (start M B) x
   unfolding lazy_gale_shapley

@@ -6,7 +6,7 @@ use mathlib.Core.List.{List, [], ◌∷◌, map}
 use mathlib.Core.Option.{some}
 use lib.ListN.{replicate}
 use Rattle.base.specs.Lists.{upto}
-use Rattle.lgs.specs.Market.{Market, Results, outscored, eligible, seats_for_all, contested, matters}
+use Rattle.lgs.specs.Market.{Market, Results, outscored, matters}
 use Rattle.lgs.specs.Rule.{State, Step, going, stopped, finished, start, declined, unopened, best, open?, choices, due, holders, below, lowest_of}
 use Rattle.lgs.specs.Rule.{advance, add_interview, interview_all, close, settle, apply, turn, step, run, fuel, lazy_gale_shapley}
 use Rattle.lgs.specs.Stages.{asked, raised, moves, settled, least_stages}
@@ -33,7 +33,7 @@ priced M fare = altered M M.stage fare
 -- ---- the least stages
 module _ (M : Market) (stage : ℕ → ℕ) (fare : ℕ → ℕ → ℕ) where
   settled_same : (k : ℕ) (xs : List ℕ) → settled (altered M stage fare) k xs ≡ settled M k xs
-  unfolding settled moves raised asked matters contested seats_for_all eligible
+  unfolding settled moves raised asked matters
   settled_same zero xs = refl
   settled_same (suc k) xs = ap (λ o. cond (moves M xs) o (some xs)) (settled_same k (map (raised M xs) (upto M.students)))
 

@@ -1,6 +1,6 @@
 -- The market that a case describes, and the results of the interviews that a book holds.
-use Rattle.std.specs.Prelude.{ℕ, ◌-◌, ◌<◌, Bool, true, not, ◌&&◌, ◌||◌, ◌≡◌, ltb, leb, eqb}
-use Rattle.base.specs.Lists.{count, total}
+use Rattle.std.specs.Prelude.{ℕ, ◌-◌, ◌<◌, Bool, true, not, ◌&&◌, ◌||◌, ◌≡◌, ltb, eqb}
+use Rattle.base.specs.Lists.{total}
 
 -- The case, decoded: students 1 to `students`, workshops 1 to `workshops`. A tier is document 01's group, and a lower one is better.
 -- Where an option is named, 0 is the outside option (document 01: none); its tier is the person's outside tier (the line group).
@@ -62,21 +62,9 @@ outscored M B w x y =
 -- ---- Stages.
 
 module _ (M : Market) where
-  -- one of the workshop's "students not beyond its line group": they have a pair, and she is not beyond its outside tier
-  unfoldable pub eligible : ℕ → ℕ → Bool
-  eligible w s = M.paired s w && not (ltb (workshop_outside M w) (M.workshop_tier w s))
-
-  -- "seats for all": its "quota is at least the number of its students not beyond its line group" (document 02, Paper 7)
-  unfoldable pub seats_for_all : ℕ → Bool
-  seats_for_all w = leb (count (eligible w) M.students) (M.quota w)
-
-  -- agreement asks something at the workshop: it has a "quota above 0", and not seats for all ("agreement now passes over these workshops")
-  unfoldable pub contested : ℕ → Bool
-  contested w = ltb 0 (M.quota w) && not (seats_for_all w)
-
-  -- the student matters to the workshop: it is contested, and she is one of these students
+  -- the student matters to the workshop: it has seats, they have a pair, and she is not beyond its outside tier
   unfoldable pub matters : ℕ → ℕ → Bool
-  matters w s = contested w && eligible w s
+  matters w s = ltb 0 (M.quota w) && (M.paired s w && not (ltb (workshop_outside M w) (M.workshop_tier w s)))
 
   -- two students of whom the stages must tell: both matter to the workshop
   pub record Rivals (w s t : ℕ) : Type 0 where

@@ -1,9 +1,9 @@
 -- What the answers of the staged rule promise, for a market and the results of interviews: the statements of demands 2 and 3.
 use Rattle.std.specs.Prelude.{ℕ, ◌≤◌, ◌<◌, Bool, true, false, ◌&&◌, ◌≡◌, List, [], ◌∷◌, ◌++◌, length}
 use Rattle.base.specs.Lists.{count, total, entry_for}
-use Rattle.lgs.specs.Market.{Market, Results, eligible, seats_for_all, ConsistentStages}
+use Rattle.lgs.specs.Market.{Market, Results, ConsistentStages}
 use Rattle.lgs.specs.Profiles.{Profile, StrictProfile, RespectsTiers, Fits, StudentOptimal, Determined}
-use Rattle.lgs.specs.Rule.{Interview, interviewed, State, Step, going, stopped, finished, choices, best, start, step, run, lazy_gale_shapley}
+use Rattle.lgs.specs.Rule.{Interview, interviewed, Step, going, stopped, finished, lazy_gale_shapley}
 use Rattle.lgs.specs.Fares.{fares_of, fares_in}
 
 -- the matching that a list of places stands for: student s has entry s - 1, and nobody else has a place
@@ -134,50 +134,3 @@ EarlierSettled M =
     → (t : ℕ)
     → M.stage t < M.stage s
     → p' t ≡ p'' t
-
--- ---- Workshops with seats for all (document 02, Paper 7).
-
--- "The stages agree" in document 01's own words, "at each workshop with quota above 0", also at those with seats for all
-pub record ConsistentEverywhere (M : Market) (stage : ℕ → ℕ) : Type 0 where
-  pub earlier : (w s t : ℕ)
-      → 0 < M.quota w
-      → eligible M w s ≡ true
-      → eligible M w t ≡ true
-      → M.workshop_tier w s < M.workshop_tier w t
-      → stage s < stage t
-  pub together : (w s t : ℕ)
-      → 0 < M.quota w
-      → eligible M w s ≡ true
-      → eligible M w t ≡ true
-      → M.workshop_tier w s ≡ M.workshop_tier w t
-      → stage s ≡ stage t
-
--- "this weaker condition": whatever agrees in document 01's sense agrees, so no short list is lost
-abbrev pub WeakerAgreement : Market → Type 0
-WeakerAgreement M = (stage : ℕ → ℕ) → ConsistentEverywhere M stage → ConsistentStages M stage
-
-module _ (M : Market) (B : Results) where
-  -- a run comes to the state
-  abbrev pub Comes : State → Type 0
-  Comes σ = (k : ℕ) × (run M B k (going (start M B)) ≡ going σ)
-
-  -- the student in hand "applies to the best" of what is open to her, and it is the workshop w
-  pub record Applies (σ : State) (s w : ℕ) : Type 0 where
-    pub rest : List ℕ
-    pub hand : σ.waiting ≡ s ∷ rest
-    pub first : ℕ
-    pub others : List ℕ
-    pub choice : choices M B σ s ≡ first ∷ others
-    pub chosen : best M B s first others ≡ w
-
--- "never drops anyone": whatever the results, at each step of a run the workshop takes whoever applies to it, and keeps whom it has
-abbrev pub NeverDrops : Market → Type 0
-NeverDrops M =
-    (w : ℕ)
-    → 1 ≤ w
-    → seats_for_all M w ≡ true
-    → (B : Results) (σ σ' : State)
-    → Comes M B σ
-    → step M B σ σ.waiting ≡ going σ'
-    → (s : ℕ)
-    → (Applies M B σ s w → σ'.held s ≡ w) × (σ.held s ≡ w → σ'.held s ≡ w)

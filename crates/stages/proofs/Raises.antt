@@ -15,11 +15,11 @@ use Rattle.base.specs.Below.{any_below}
 use Rattle.base.specs.Bits.{member}
 use Rattle.base.proofs.Tests.{less?, eq?, or_left, or_right, or_false, bool_cases, never}
 use Rattle.base.proofs.Below.{any_first, any_fails, any_none}
-use Rattle.lgs.specs.Market.{Market, contested, matters, Rivals, ConsistentStages}
+use Rattle.lgs.specs.Market.{Market, matters, Rivals, ConsistentStages}
 use Rattle.lgs.specs.Stages.{stage_of, FromOne}
 use Rattle.lgs.proofs.Valid.{WellFormed}
-use Rattle.lgs.proofs.Matters.{matters_true, matters_paired}
-use Rattle.lgs.proofs.Stages.{ranked, rank, rank_agree, rank_few}
+use Rattle.lgs.proofs.Matters.{matters_true}
+use Rattle.lgs.proofs.Stages.{ranked, rank_agree, rank_few}
 use Rattle.stages.specs.Raising.{tier_for, stands_for, Enough, Noted, Capped, climbed_of, Rises, Climbed, Lifted, Fit, Raised}
 
 -- ---- the larger of two
@@ -179,15 +179,6 @@ module _ (M : Market) (wf : WellFormed M) (w : ℕ) where
           rank_few M wf (stands_for tier) stage C (stands stage C),
         );
       }
-
--- in any case one for each student
-pub everybody_enough : (M : Market) → WellFormed M → (n : ℕ) → M.students ≡ n → Enough M n
-everybody_enough M wf n size =
-    record {
-      within = λ stage C.
-          let r = rank M wf stage C in
-          (ranked M (λ s. true) stage, r.0, r.1, λ s l u. omega (arith, r.2 s l u, size));
-    }
 
 -- ---- the tiers, from the best on
 
@@ -423,10 +414,10 @@ module _ (M : Market) (w n : ℕ) (old new tiers tops needs : List ℕ) (moved t
   -- a student who matters is one of the market, her tier has students, and she gets what it needs
   module _ (s : ℕ) (m : matters M w s ≡ true) where
     hers : (1 ≤ s) × (s ≤ n)
-    hers = named s (matters_paired M w s m)
+    hers = named s (matters_true M w s m).1
 
     tier_low : 1 ≤ tier_for M w s
-    tier_low = omega (arith, tier_is s m, low s (matters_paired M w s m))
+    tier_low = omega (arith, tier_is s m, low s (matters_true M w s m).1)
 
     filled : 0 < get_or tops (tier_for M w s) 0
     filled = omega (arith, F.from_one s hers.0 (omega (arith, hers.1, students)), top_of s hers.0 hers.1)
@@ -570,20 +561,3 @@ module _ (M : Market) (w n : ℕ) (old new tiers tops needs : List ℕ) (moved t
           let g = C.some p in
           let o = one_in g.0 g.1 g.2 in
           (o.0, o.1, o.2, gets o.0 o.5 ∙ ap (λ i. get_or needs i 0) o.3 ∙ g.3)
-
--- a workshop that is not contested asks nothing
-pub passed_raised : (M : Market) (w n : ℕ) (own : List ℕ) → length own ≡ 512 → contested M w ≡ false → Raised M w n own own 0 0
-passed_raised M w n own size passed =
-    record {
-      sized = size;
-      grows = λ s. omega arith;
-      below = λ B. B;
-      agrees = record {
-        earlier = λ s t R l. never (matters_true M w s R.first).0 passed;
-        together = λ s t R e. never (matters_true M w s R.first).0 passed;
-      };
-      noticed = λ s v l p. absurd (omega arith);
-      some = inl refl;
-      within = λ k l f. f;
-      tall = λ l. absurd (omega arith);
-    }

@@ -15,7 +15,7 @@ use borrow.Author.Tests.{eqb-true, eqb-false, eq-eqb, ne_eqb}
 use Rattle.base.specs.Lists.{find}
 use Rattle.base.proofs.Tests.{bool_cases, never, and_make, or_false, is_false, eq?, less?}
 use Rattle.base.proofs.Below.{tabulate_length, tabulate_in, any_below_lem, any_none, find_none, find_map}
-use Rattle.lgs.specs.Market.{eligible, seats_for_all, contested, matters, Rivals, ConsistentStages}
+use Rattle.lgs.specs.Market.{matters, Rivals, ConsistentStages}
 use Rattle.lgs.specs.Stages.{stage_of, FromOne, LeastStages}
 use Rattle.lgs.proofs.Unpriced.{altered}
 use Rattle.format.specs.Layout.{Row, row_at, rows, row_count, no_row, with_second, of_kind, is_student, market_of}
@@ -212,7 +212,7 @@ module _ (case stages : List ℕ)
 
   module _ (consistent : ConsistentStages (market_in case) (stage_of stages)) where
     new_agree : ConsistentStages (market_in (restaged stages case)) (market_in (restaged stages case)).stage
-    unfolding matters contested seats_for_all eligible
+    unfolding matters
     new_agree =
         rw new_market
         (record {

@@ -18,11 +18,10 @@ use Rattle.base.proofs.Members.{entry_past}
 use Rattle.lgs.specs.Market.{Market, matters, Rivals, ConsistentStages}
 use Rattle.lgs.specs.Stages.{stage_of, FromOne, LeastStages, NoStages}
 use Rattle.lgs.proofs.Valid.{WellFormed}
-use Rattle.lgs.proofs.Matters.{matters_paired}
-use Rattle.lgs.proofs.Stages.{outside, below_few}
+use Rattle.lgs.proofs.Matters.{matters_true}
+use Rattle.lgs.proofs.Stages.{outside, ranked, rank, below_few}
 use Rattle.tables.proofs.Laws.{member_zero}
 use Rattle.stages.specs.Raising.{Below, Enough, AgreesAt, Raised}
-use Rattle.stages.proofs.Raises.{everybody_enough}
 use Rattle.stages.specs.Rounds.{starting, turn_of, TooHigh, Going, Stepped, Rounded, Settled}
 use Rattle.stages.specs.declared.rounds.Progress.{Progress}
 
@@ -76,7 +75,7 @@ module _ (M : Market) where
     where
       stays : (s : ℕ) → matters M v s ≡ true → stage_of own' s ≡ stage_of own s
       stays s m =
-          ⊎_elim (λ (l : stage_of own s < stage_of own' s). never (R.noticed s v l (matters_paired M v s m)) e)
+          ⊎_elim (λ (l : stage_of own s < stage_of own' s). never (R.noticed s v l (matters_true M v s m).1) e)
           (λ (l : stage_of own' s ≤ stage_of own s). omega (arith, R.grows s))
           (less? (stage_of own s) (stage_of own' s))
 
@@ -197,7 +196,11 @@ module _ (M : Market) where
           within = λ h s. omega (arith, small s);
           tall = λ h. never h refl;
           rest = λ v r. never r (member_zero v);
-          limit = everybody_enough M wf n size;
+          limit = record {
+            within = λ stage C.
+                let r = rank M wf stage C in
+                (ranked M (λ s. true) stage, r.0, r.1, λ s l u. omega (arith, r.2 s l u, size));
+          };
           few = omega arith;
         };
         rested = λ m h. never refl m;
@@ -251,7 +254,7 @@ module _ (M : Market) where
 
       everywhere : p.high ≡ false → (w s t : ℕ) → Rivals M w s t → AgreesAt M own w
       everywhere h w s t R =
-          let hers = named s w (matters_paired M w s R.first) in
+          let hers = named s w (matters_true M w s R.first).1 in
           I.going.rest w (I.rested (still h) h w hers.1.0 hers.1.1)
 
   -- ---- the rounds come to an end
@@ -299,7 +302,7 @@ module _ (M : Market) (wf : WellFormed M) (own : List ℕ) (few : M.students ≤
       }
     where
       same : (s w : ℕ) → matters M w s ≡ true → stage_of (take M.students own) s ≡ stage_of own s
-      same s w m = let r = wf.student s w (matters_paired M w s m) in part_same M own few size s r.0 r.1
+      same s w m = let r = wf.student s w (matters_true M w s m).1 in part_same M own few size s r.0 r.1
 
   pub settled_least : Settled M own true → LeastStages M (take M.students own)
   settled_least S =

@@ -1,55 +1,55 @@
--- A student's tier at a workshop, and the tier in which she matters to it.
+-- The tier in which a student matters to a workshop, by how far the workshop's tiers reach.
 use Prim.Native.Nat.{ℕ, ◌≤◌, ◌<◌}
-use mathlib.Core.Path.{◌≡◌, fun_ext}
+use mathlib.Core.Path.{◌≡◌}
 use mathlib.Core.Logic.{⊎_elim}
-use mathlib.Core.Bool.{true, false, not, cond, ◌&&◌}
+use mathlib.Core.Bool.{true, false, cond}
 use mathlib.Core.List.{List}
 use native.Mathlib.Omega.{arith}
-use lib.Dec.{ltb, leb, eqb}
-use borrow.Author.Tests.{ne_eqb}
-use Rattle.base.specs.Lists.{count}
-use Rattle.base.proofs.Tests.{bool_cases, is_false, never}
-use Rattle.lgs.specs.Market.{Market, eligible, seats_for_all, contested, matters, workshop_outside}
+use lib.Dec.{ltb}
+use borrow.Author.Tests.{eq-eqb, ne_eqb, lt-ltb, le-ltb}
+use Rattle.base.proofs.Tests.{bool_cases, eq?, less?, is_false, never}
+use Rattle.lgs.specs.Market.{Market, matters, workshop_outside}
 use Rattle.lgs.proofs.Valid.{WellFormed}
-use Rattle.lgs.proofs.Matters.{eligible_true}
+use Rattle.lgs.proofs.Matters.{matters_true, matters_is}
 use Rattle.format.specs.Engine.{market_in}
-use Rattle.stages.specs.Raising.{Ready, tier_at, tier_for}
+use Rattle.stages.specs.Raising.{Ready, reachOf, tier_for}
 
-module _ (M : Market) (w s : ℕ) where
-  pub unpaired_tier : M.paired s w ≡ false → 0 ≡ tier_at M w s
-  unpaired_tier e = rw (is_false (eligible M w s) (λ t. never (eligible_true M w s t).0 e))
+module _ (M : Market) (w : ℕ) where
+  -- a workshop without seats reaches nowhere
+  pub reach-none : M.quota w ≡ 0 → 0 ≡ reachOf M w
+  reach-none e = rw (eq-eqb (M.quota w) 0 e)
 
-  -- a pair's tier, or 0 where it is beyond the outside tier
-  pub tier_known : M.paired s w ≡ true → cond (ltb (workshop_outside M w) (M.workshop_tier w s)) 0 (M.workshop_tier w s) ≡ tier_at M w s
-  unfolding eligible
-  tier_known p =
-      ⊎_elim (λ (b : ltb (workshop_outside M w) (M.workshop_tier w s) ≡ true). rw (p, b))
-      (λ (b : ltb (workshop_outside M w) (M.workshop_tier w s) ≡ false). rw (p, b))
-      (bool_cases (ltb (workshop_outside M w) (M.workshop_tier w s)))
+  pub reach-outside : (M.quota w ≡ 0 → ⊥) → workshop_outside M w ≡ reachOf M w
+  reach-outside n = rw (ne_eqb (M.quota w) 0 n)
 
-  pub tier_most : (M.paired s w ≡ true → M.workshop_tier w s ≤ 513) → tier_at M w s ≤ 513
-  tier_most f =
-      ⊎_elim (λ (b : eligible M w s ≡ true). rw b (f (eligible_true M w s b).0)) (λ (b : eligible M w s ≡ false). rw b (omega arith))
-      (bool_cases (eligible M w s))
+  module _ (s : ℕ) where
+    tier-zero : (matters M w s ≡ true → ⊥) → 0 ≡ tier_for M w s
+    tier-zero n = rw (is_false (matters M w s) n)
 
-  -- she has a tier exactly where she is one of the workshop's students
-  pub in_tier_lem : (M.paired s w ≡ true → 1 ≤ M.workshop_tier w s) → not (eqb (tier_at M w s) 0) ≡ eligible M w s
-  in_tier_lem low =
-      ⊎_elim
-      (λ (b : eligible M w s ≡ true). rw (b, ne_eqb (M.workshop_tier w s) 0 (λ z. omega (arith, z, low (eligible_true M w s b).0))))
-      (λ (b : eligible M w s ≡ false). rw b)
-      (bool_cases (eligible M w s))
+    pub unpaired_tier : M.paired s w ≡ false → 0 ≡ tier_for M w s
+    unpaired_tier e = tier-zero (λ t. never (matters_true M w s t).1 e)
 
--- whether it is contested, by its seats and the number of its students
-pub contested_by : (M : Market) (w n quota inside : ℕ) → M.students ≡ n → quota ≡ M.quota w → inside ≡ count (eligible M w) n
-    → (ltb 0 quota && not (leb inside quota)) ≡ contested M w
-unfolding contested seats_for_all
-contested_by M w n quota inside e q k = rw (q, k, e)
+    -- a pair's tier, or 0 where it is beyond the reach
+    pub tier_known : M.paired s w ≡ true → 1 ≤ M.workshop_tier w s
+        → cond (ltb (reachOf M w) (M.workshop_tier w s)) 0 (M.workshop_tier w s) ≡ tier_for M w s
+    tier_known p l = ⊎_elim beyond within (less? (reachOf M w) (M.workshop_tier w s))
+      where
+        beyond : reachOf M w < M.workshop_tier w s → cond (ltb (reachOf M w) (M.workshop_tier w s)) 0 (M.workshop_tier w s) ≡ tier_for M w s
+        beyond b =
+            rw (lt-ltb (reachOf M w) (M.workshop_tier w s) b)
+            (tier-zero (λ t. let m = matters_true M w s t in omega (arith, b, m.2, reach-outside (λ z. omega (arith, m.0, z)))))
 
--- the students of a contested workshop matter to it
-pub contested_tiers : (M : Market) (w : ℕ) → contested M w ≡ true → tier_at M w ≡ tier_for M w
-unfolding matters
-contested_tiers M w c = fun_ext (λ s. rw c)
+        within : M.workshop_tier w s ≤ reachOf M w → cond (ltb (reachOf M w) (M.workshop_tier w s)) 0 (M.workshop_tier w s) ≡ tier_for M w s
+        within u =
+            ⊎_elim (λ (z : M.quota w ≡ 0). absurd (omega (arith, reach-none z, l, u)))
+            (λ (n : M.quota w ≡ 0 → ⊥).
+            rw (le-ltb (reachOf M w) (M.workshop_tier w s) u, matters_is M w s (omega (arith, n)) p (omega (arith, reach-outside n, u))))
+            (eq? (M.quota w) 0)
+
+    pub tier_most : (M.paired s w ≡ true → M.workshop_tier w s ≤ 513) → tier_for M w s ≤ 513
+    tier_most f =
+        ⊎_elim (λ (b : matters M w s ≡ true). rw b (f (matters_true M w s b).1)) (λ (b : matters M w s ≡ false). rw b (omega arith))
+        (bool_cases (matters M w s))
 
 -- the market of a case that is ready is well formed
 pub ready_wf : (case table : List ℕ) (n m : ℕ) → Ready case table n m → WellFormed (market_in case)

@@ -2,7 +2,7 @@
 use Rattle.std.specs.Prelude.{ℕ, suc, ◌+◌, ◌-◌, ◌≤◌, ◌<◌, max, ◌≡◌, ◌⊎◌, Bool, true, not, cond, ◌||◌, List, eqb, length, get_or}
 use Rattle.base.specs.Below.{any_below}
 use Rattle.base.specs.Bits.{member}
-use Rattle.lgs.specs.Market.{Market, eligible, matters, Rivals, ConsistentStages}
+use Rattle.lgs.specs.Market.{Market, matters, Rivals, ConsistentStages, workshop_outside}
 use Rattle.lgs.specs.Stages.{stage_of, FromOne}
 use Rattle.format.specs.Engine.{market_in}
 use Rattle.tables.specs.Table.{Tabled}
@@ -23,11 +23,11 @@ pub record Ready (case table : List ℕ) (n m : ℕ) : Type 0 where
   pub tier : (s w : ℕ) → (market_in case).paired s w ≡ true → (1 ≤ (market_in case).workshop_tier w s) × ((market_in case).workshop_tier w s ≤ 513)
 
 module _ (M : Market) where
-  -- the student's tier at the workshop, or 0 where she is not one of its students
-  abbrev pub tier_at : ℕ → ℕ → ℕ
-  tier_at w s = cond (eligible M w s) (M.workshop_tier w s) 0
+  -- how far the workshop's tiers reach: to its outside tier, and nowhere where it has no seats
+  abbrev pub reachOf : ℕ → ℕ
+  reachOf w = cond (eqb (M.quota w) 0) 0 (workshop_outside M w)
 
-  -- the tier in which the student matters to the workshop, or 0: at a contested workshop the same
+  -- the tier in which the student matters to the workshop, or 0
   abbrev pub tier_for : ℕ → ℕ → ℕ
   tier_for w s = cond (matters M w s) (M.workshop_tier w s) 0
 

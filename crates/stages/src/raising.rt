@@ -1,10 +1,10 @@
 // One workshop: what it asks of the students who matter to it, and those raised to that. `own` has each student's stage so far.
-ghost use Rattle.std.specs.Prelude.{◌≡◌, cond, not, ◌&&◌, ℕ, ◌≤◌, ◌<◌, max, ltb, leb, length, get_or};
+ghost use Rattle.std.specs.Prelude.{◌≡◌, cond, ℕ, ◌≤◌, ◌<◌, max, ltb, length, get_or};
 ghost use Rattle.base.specs.Lists.{count};
-ghost use Rattle.lgs.specs.Market.{eligible, workshop_outside};
 ghost use Rattle.lgs.specs.Stages.{stage_of};
 ghost use Rattle.format.specs.Engine.{market_in};
-ghost use Rattle.stages.specs.Raising.{Ready, tier_at, stands_for, Enough, Capped, Noted, Climbed, Lifted, Fit, Raised, climbed_of};
+ghost use Rattle.lookup.specs.Clean.{WorkshopAt};
+ghost use Rattle.stages.specs.Raising.{Ready, tier_for, reachOf, stands_for, Enough, Capped, Noted, Climbed, Lifted, Fit, Raised, climbed_of};
 
 // The larger of two stages.
 fn larger(a: u16, b: u16) -> u16
@@ -13,51 +13,47 @@ fn larger(a: u16, b: u16) -> u16
     if a < b { b } else { a }
 }
 
-// Whether a workshop with so many seats and so many students is contested: it has seats, but not for all.
-fn is_contested(quota: usize, students: usize) -> bool
-    ensures { result ≡ (ltb 0 quota && not (leb students quota)) }
+// How far the workshop's tiers reach: to its outside tier, and nowhere where it has no seats.
+fn reach_of(case: &[u8], students: usize, w: usize) -> usize
+    requires { WorkshopAt case.now students w }
+    ensures { result ≡ reachOf (market_in case.now) w }
 {
-    let seats_for_all = students <= quota;
-    (0 < quota) & !seats_for_all
+    if lookup::quota_of(case, students, w) == 0 {
+        return 0;
+    }
+    lookup::workshop_outside(case, students, w) as usize
 }
 
-// The tier, or 0 where it is beyond the outside tier.
-fn if_within(outside: usize, tier: usize) -> usize
-    ensures { result ≡ cond (ltb outside tier) 0 tier }
+// The tier, or 0 where it is beyond the reach.
+fn if_within(reach: usize, tier: usize) -> usize
+    ensures { result ≡ cond (ltb reach tier) 0 tier }
 {
-    if outside < tier { 0 } else { tier }
+    if reach < tier { 0 } else { tier }
 }
 
-// The tier of student s at workshop w, or 0 where she is not one of its students.
+// The tier in which student s matters to workshop w, or 0.
 fn tier_of(
     case: &[u8],
     table: &[u64],
     students: usize,
     workshops: usize,
     w: usize,
-    outside: usize,
+    reach: usize,
     s: usize,
 ) -> usize
     requires ready { Ready case.now table.now students workshops }
     requires le_w { ((1 ≤ w) × (w ≤ workshops)) × ((1 ≤ s) × (s ≤ students)) }
-    requires outside_value { outside ≡ workshop_outside (market_in case.now) w }
-    ensures { (result ≡ tier_at (market_in case.now) w s) × (result ≤ 513) }
+    requires reach_value { reach ≡ reachOf (market_in case.now) w }
+    ensures { (result ≡ tier_for (market_in case.now) w s) × (result ≤ 513) }
 {
     if tables::has_pair(case, table, s, w) {
         let pair = tables::pair_at(case, table, s, w);
-        return if_within(outside, lookup::workshop_tier(case, pair) as usize);
+        return if_within(reach, lookup::workshop_tier(case, pair) as usize);
     }
     0
 }
 
-// How many kinds of students there are (one for each tier, and one for each student in none), and how many students are in a tier.
-#[derive(Drop)]
-struct Count {
-    kinds: usize,
-    inside: usize,
-}
-
-// The tier of each student, and the largest stage in each tier.
+// The tier of each student, and the largest stage in each tier. How many tiers there are, and students in none.
 fn note_tops(
     case: &[u8],
     table: &[u64],
@@ -67,30 +63,27 @@ fn note_tops(
     own: &[u16],
     tiers: &mut [u16],
     tops: &mut [u16],
-) -> Count
+) -> usize
     requires ready { Ready case.now table.now students workshops }
     requires le_w { (1 ≤ w) × (w ≤ workshops) }
     requires tiers_len { (length tiers.old ≡ 512) × (length tops.old ≡ 514) }
     requires fit { Fit (market_in case.now) own.now }
-    ensures kinds_value { result.kinds ≡ count (stands_for (tier_at (market_in case.now) w)) students }
-    ensures inside_value { result.inside ≡ count (eligible (market_in case.now) w) students }
-    ensures noted { Noted (tier_at (market_in case.now) w) (stage_of own.now) students tiers.new tops.new }
+    ensures value { result ≡ count (stands_for (tier_for (market_in case.now) w)) students }
+    ensures noted { Noted (tier_for (market_in case.now) w) (stage_of own.now) students tiers.new tops.new }
 {
-    let outside = lookup::workshop_outside(case, students, w) as usize;
+    let reach = reach_of(case, students, w);
     records::clear(&mut *tops);
     let mut kinds = 0;
-    let mut inside = 0;
     let mut s = 0;
     while s < students {
-        let tier = tier_of(case, table, students, workshops, w, outside, s + 1);
+        let tier = tier_of(case, table, students, workshops, w, reach, s + 1);
         let top = tops[tier];
         tiers[s] = tier as u16;
         tops[tier] = larger(top, own[s]);
         kinds += records::one_if((tier == 0) | (top == 0));
-        inside += records::one_if(tier != 0);
         s += 1;
     }
-    Count { kinds, inside }
+    kinds
 }
 
 // The stage of a tier whose students have at most `top`, where better tiers have at most `best`: an empty tier has 0.
@@ -166,7 +159,7 @@ pub struct Upshot {
     pub kinds: usize,
 }
 
-// The students are raised to what workshop w asks: nothing where it is not contested. `tiers` and `tops` are room to work in.
+// The students are raised to what workshop w asks. `tiers` and `tops` are room to work in.
 pub fn raise(
     case: &[u8],
     table: &[u64],
@@ -184,7 +177,7 @@ pub fn raise(
     ensures raised { Raised (market_in case.now) w students own.old own.new result.moved result.top }
     ensures enough { Enough (market_in case.now) result.kinds }
 {
-    let noted = note_tops(
+    let kinds = note_tops(
         case,
         table,
         students,
@@ -194,14 +187,6 @@ pub fn raise(
         &mut *tiers,
         &mut *tops,
     );
-    let quota = lookup::quota_of(case, students, w) as usize;
-    if !is_contested(quota, noted.inside) {
-        return Upshot {
-            moved: 0,
-            top: 0,
-            kinds: students,
-        };
-    }
     let top = climb(&mut *tops);
     let moved = lift(
         case,
@@ -212,9 +197,5 @@ pub fn raise(
         &tops[..],
         &mut *own,
     );
-    Upshot {
-        moved,
-        top,
-        kinds: noted.kinds,
-    }
+    Upshot { moved, top, kinds }
 }

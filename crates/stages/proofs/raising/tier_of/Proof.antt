@@ -3,7 +3,7 @@ use mathlib.Core.Path.{◌≡◌, sym, ◌∙◌}
 use native.Mathlib.Omega.{arith}
 use borrow.Author.Rules.{rules}
 use Rattle.format.specs.Engine.{market_in}
-use Rattle.stages.specs.Raising.{tier_at}
+use Rattle.stages.specs.Raising.{tier_for}
 use Rattle.stages.proofs.Tiers.{unpaired_tier, tier_known, tier_most}
 use Rattle.stages.proofs.raising.tier_of.Statement.{statement}
 use Rattle.stages.proofs.raising.tier_of.Tie as tie
@@ -34,7 +34,8 @@ returns c =
     let paired = sym c.before.before.before.before.has_pair.ensures ∙ c.before.before.before.if1.true in
     let e : c.before.workshop_tier_lem.result ≡ M.workshop_tier a.w a.s =
     c.before.workshop_tier_lem.ensures ∙ rw c.before.before.pair_at.ensures (sym (start.requires.0.pair a.s a.w paired).workshop_tier) in
-    let r : c.if-within.result ≡ tier_at M a.w a.s = c.if-within.ensures ∙ rw (e, start.requires.1.1) (tier_known M a.w a.s paired) in
+    let r : c.if-within.result ≡ tier_for M a.w a.s = c.if-within.ensures ∙ rw (e, start.requires.1.1) (tier_known M a.w a.s paired
+    (start.requires.0.tier a.s a.w paired).0) in
     (r, rw r (tier_most M a.w a.s (λ p. (start.requires.0.tier a.s a.w p).1)))
 
 returns-2 : tie.Need-returns-2
