@@ -1,4 +1,6 @@
 // What stands around the turns: testing the input and making the scratch ready, a student's place, and the answer.
+#![tactic(auto)]
+
 ghost use Rattle.std.specs.Prelude.{◌≡◌, ◌<◌, length, set, replicate};
 ghost use Rattle.answering.specs.Finish.{to_place, answer_end};
 ghost use Rattle.answering.specs.Call.{TestedInput};

@@ -1,4 +1,5 @@
 // What a caller of the engine sees: the answer, the student states that are lent, and the answer in numbers; no code. `specs/` has the contract.
+#![tactic(auto)]
 
 // The engine's answer. The places, and the interviews of which it gives the count and what they cost, are in the lent buffers.
 #[derive(Drop)]

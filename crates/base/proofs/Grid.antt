@@ -105,7 +105,7 @@ total_at : (f : ℕ → ℕ) (n a : ℕ) → 1 ≤ a → a ≤ n → total (λ s
 unfolding total
 total_at f zero a l u = absurd (omega arith)
 total_at f (suc n) a l u =
-    ⊎_elim (λ (e : a ≡ suc n). rw (e, eq-eqb (suc n) (suc n) refl) (omega (arith, others (suc n) n (omega arith))))
+    ⊎_elim (λ (e : a ≡ suc n). let less : n < a = omega arith in rw (e, eq-eqb (suc n) (suc n) refl) (omega (arith, others a n less)))
     (λ (less : a < suc n). rw (ne_eqb a (suc n) (λ e. omega arith)) (omega (arith, total_at f n a l (omega arith))))
     (eq-or-lt_of_le u)
   where

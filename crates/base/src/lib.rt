@@ -1,1 +1,2 @@
 // No code: definitions on lists, bits and searches in `specs/`, and their laws in `proofs/`.
+#![tactic(auto)]

@@ -1,4 +1,6 @@
 // The open workshops as the 64 bits of one number: workshop w, from 1 to 64, is bit w - 1. Larger sets as the bits of a slice.
+#![tactic(auto)]
+
 ghost use Rattle.std.specs.Prelude.{◌≡◌, true, not, ◌&&◌, ◌||◌, ℕ, ◌-◌, ◌*◌, ◌^◌, ◌≤◌, ◌<◌, eqb, length};
 ghost use Rattle.std.specs.Int.Bits.{bit_or, bit_and};
 ghost use Rattle.base.specs.Lists.{count};

@@ -1,4 +1,6 @@
 // Causes 1 to 5 and 13, which look at the case alone.
+#![tactic(auto)]
+
 ghost use Rattle.std.specs.Prelude.{◌≡◌, ◌||◌, ◌%◌, length};
 ghost use Rattle.std.proofs.Math.Option.{none};
 ghost use Rattle.format.specs.Refusals.{not_within};

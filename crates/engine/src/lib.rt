@@ -1,5 +1,7 @@
 // The engine: a case and a book are answered in lent memory. A slice of students' states is a slice of structs, which the borrow checker does not
 // cover: the functions here that have one are proved by a walk of their MIR, and what they call beside each other is covered.
+#![tactic(auto)]
+
 ghost use Rattle.std.specs.Prelude.{◌≡◌, length, replicate};
 ghost use Rattle.format.specs.Engine.{market_in, results_in};
 ghost use Rattle.api.specs.Answered.{zero_state, Answered};

@@ -1,4 +1,6 @@
 // The library for hosts in other languages: each public function with the machine's way of calling. A slice is a pointer and a length, an answer is numbers.
+#![tactic(auto)]
+
 ghost use Rattle.std.specs.Prelude.{◌≡◌, length};
 ghost use Rattle.stages.specs.Outcome.{work_out};
 ghost use Rattle.api.specs.Answered.{Answered, answer_in};

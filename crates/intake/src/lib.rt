@@ -1,4 +1,6 @@
 // Tests a case, the lent room and a book for the twelve refusals, of which the first in the order of the causes is told, and builds the pairs' table and index.
+#![tactic(auto)]
+
 ghost use Rattle.std.specs.Prelude.{◌≡◌, length};
 ghost use Rattle.tables.specs.Table.{Blank};
 ghost use Rattle.case_tests.specs.Checked.{checked_of};

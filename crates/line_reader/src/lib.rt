@@ -1,4 +1,6 @@
 // One wish line of a text: its form, whose it is, what it names, and the number of the group that each item stands in.
+#![tactic(auto)]
+
 ghost use Rattle.std.specs.Prelude.{◌≡◌, cond, ℕ, ◌+◌, ◌-◌, ◌≤◌, ◌<◌, min, length, drop};
 ghost use Rattle.format.specs.Engine.{market_in};
 ghost use Rattle.tables.specs.Table.{Tabled};

@@ -1,4 +1,6 @@
 // What the run reads from the case, the book, the index of the pairs and the table of the case: a student's, a workshop's and a pair's fields, and the scores.
+#![tactic(auto)]
+
 ghost use Rattle.std.specs.Prelude.{◌≡◌, ◌+◌, ◌-◌, ◌≤◌, ◌<◌, length, get_or};
 ghost use Rattle.base.specs.Words.{biased};
 ghost use Rattle.lgs.specs.Market.{student_outside, workshop_outside};

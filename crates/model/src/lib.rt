@@ -1,5 +1,6 @@
 // The engine's data; no code. `specs/` has the engine's run as pure functions: on sets and lists (Model), and on the buffers as the code keeps
 // them (Turn). `proofs/` shows that both give the answer of the staged rule.
+#![tactic(auto)]
 
 use api::StudentState;
 

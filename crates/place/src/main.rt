@@ -1,4 +1,6 @@
 // Reads case.dat and book.dat in the current folder, and prints what `program` says of them.
+#![tactic(auto)]
+
 ghost use Rattle.program.specs.Files.{Within};
 
 use libc::STDOUT_FILENO;

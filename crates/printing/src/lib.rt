@@ -1,4 +1,6 @@
 // The text of an answer, put into lent bytes. Text that does not fit is cut off at the buffer's end; nothing is written past it.
+#![tactic(auto)]
+
 ghost use Rattle.std.specs.Prelude.{◌≡◌, [], ◌∷◌, ◌++◌, ◌+◌, ◌*◌, ◌≤◌, ◌<◌, length, take};
 ghost use Rattle.format.specs.Printed.{ascii, decimal, line_of, place_lines, visit_lines, visits_text, unread, Whole};
 ghost use Rattle.api.specs.Text.{interviews_at, text_of};

@@ -1,4 +1,6 @@
 // What the program prints for what was read of its two files, in lent bytes.
+#![tactic(auto)]
+
 ghost use Rattle.std.specs.Prelude.{◌≤◌, ◌≡◌, length};
 ghost use Rattle.format.specs.Engine.{engine};
 ghost use Rattle.format.specs.Printed.{printed, program_prints, program_room};

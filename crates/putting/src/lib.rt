@@ -1,4 +1,6 @@
 // Text, put into lent bytes. Text that does not fit is cut off at the buffer's end; nothing is written past it.
+#![tactic(auto)]
+
 ghost use Rattle.std.specs.Prelude.{[], ◌∷◌, ◌≤◌, length};
 ghost use Rattle.putting.specs.Put.{Put};
 

@@ -1,4 +1,6 @@
 // A workshop's seats: who ranks before whom, who takes a seat and who loses it, and where the workshop's part of the seat slice lies.
+#![tactic(auto)]
+
 ghost use Rattle.std.specs.Prelude.{◌≡◌, true, not, ◌&&◌, ◌||◌, ℕ, ◌+◌, ◌-◌, ◌≤◌, ◌<◌, length, get_or, eqb, ltb};
 ghost use Rattle.base.specs.Words.{biased};
 ghost use Rattle.lgs.specs.Market.{Market, seats_of, seats_before};

@@ -1,4 +1,6 @@
 // Works out the stages of a case: for each student the least that agrees with every workshop, or a refusal.
+#![tactic(auto)]
+
 ghost use Rattle.std.specs.Prelude.{◌≡◌, ◌≤◌, length, take};
 ghost use Rattle.std.proofs.Math.Option.{none};
 ghost use Rattle.format.specs.Buffers.{with_head};

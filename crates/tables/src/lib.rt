@@ -1,5 +1,7 @@
 // A table of the pairs, of where the seats start and of the students of a stage, made once for a call: a pair's record is her first pair's plus the count of
 // her workshops before it.
+#![tactic(auto)]
+
 ghost use Rattle.std.specs.Prelude.{◌≡◌, true, ℕ, ◌+◌, ◌-◌, ◌/◌, ◌%◌, ◌≤◌, ◌<◌, length, eqb};
 ghost use Rattle.base.specs.Lists.{count};
 ghost use Rattle.base.specs.Bits.{member};

@@ -2,6 +2,8 @@
 // tier and her score in one number; of all records that tie with an earlier one the lowest is kept. Each key has a slot, equal keys the same one. A first
 // pass asks whether two of her keys share a slot; where none do she has no tie. Where some do a second pass compares the keys, and a key whose slot was
 // not met before with no other. A score of -1000 ties with nothing: its record is passed over.
+#![tactic(auto)]
+
 ghost use Rattle.std.specs.Prelude.{◌≡◌, false, ℕ, ◌+◌, ◌-◌, ◌*◌, ◌≤◌, ◌<◌, max, min, length, get_or, set};
 ghost use Rattle.base.specs.Search.{first_bad, or_end};
 ghost use Rattle.format.specs.Layout.{rows, row_at, row_count, entries, entry_at, entry_count};

@@ -1,4 +1,6 @@
 // One turn of the student in hand: she goes to her next tier and is interviewed there, or applies to the best of what is open to her.
+#![tactic(auto)]
+
 ghost use Rattle.std.specs.Prelude.{◌≡◌, true, false, not, cond, ◌&&◌, List, [], ◌∷◌, ℕ, suc, ◌+◌, ◌-◌, ◌*◌, ◌≤◌, ◌<◌, length, eqb, ltb};
 ghost use Rattle.base.specs.Lists.{count};
 ghost use Rattle.base.specs.Words.{biased};

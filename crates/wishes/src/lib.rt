@@ -1,4 +1,6 @@
 // Wish lines (document 02, Paper 6): a case's lines are written into lent bytes, and lines are read into a copy of the case.
+#![tactic(auto)]
+
 ghost use Rattle.std.specs.Prelude.{◌≡◌, List, ◌≤◌, length};
 ghost use Rattle.std.proofs.Math.Option.{none};
 ghost use Rattle.format.specs.Engine.{market_in};
