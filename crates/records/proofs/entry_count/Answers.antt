@@ -2,11 +2,7 @@
 use mathlib.Core.Path.{◌∙◌}
 use Rattle.base.proofs.Digits.{shifted_is}
 use Rattle.format.proofs.Shift.{shift_counts}
-use Rattle.records.proofs.entry_count.Statement.{statement}
-use Rattle.records.proofs.entry_count.Tie as tie
+use Rattle.records.proofs.entry_count.Goals as goal
 
-returns : tie.Need-returns
+pub returns : goal.returns
 returns c = (shifted_is c.args.len 3, shifted_is c.args.len 3 ∙ shift_counts.quotient c.args.len)
-
-pub entry-count-spec : {M : Type 1} → statement M
-entry-count-spec = tie.close (tie.spec returns)

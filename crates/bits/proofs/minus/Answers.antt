@@ -1,11 +1,7 @@
 -- `bits::minus` meets its contract. `&` with the complement takes the second set out (`member_minus`).
 use native.Mathlib.Omega.{arith}
 use Rattle.base.proofs.Digits.{member_minus}
-use Rattle.bits.proofs.minus.Statement.{statement}
-use Rattle.bits.proofs.minus.Tie as tie
+use Rattle.bits.proofs.minus.Goals as goal
 
-returns : tie.Need-returns
+pub returns : goal.returns
 returns c = λ x. member_minus 64 c.args.a c.args.b x (omega arith) (omega arith)
-
-pub minus-spec : {M : Type 1} → statement M
-minus-spec = tie.close (tie.spec returns)

@@ -3,12 +3,8 @@ use native.Mathlib.Omega.{arith}
 use lib.IntN.{pos}
 use Rattle.base.specs.Words.{biased}
 use Rattle.base.proofs.Signed.{code_less}
-use Rattle.records.proofs.negative.Statement.{statement}
-use Rattle.records.proofs.negative.Tie as tie
+use Rattle.records.proofs.negative.Goals as goal
 
-returns : tie.Need-returns
+pub returns : goal.returns
 unfolding biased
 returns c = code_less c.args.a (pos 0) c.ranges.a (record { sfits = omega arith })
-
-pub negative-spec : {M : Type 1} → statement M
-negative-spec = tie.close (tie.spec returns)
