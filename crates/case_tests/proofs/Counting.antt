@@ -2,7 +2,7 @@
 use Prim.Native.Nat.{ℕ, suc, ◌+◌, ◌-◌, ◌≤◌, ◌<◌}
 use mathlib.Core.Path.{◌≡◌, refl, sym, ◌∙◌}
 use mathlib.Core.Logic.{⊎_elim}
-use mathlib.Core.Bool.{Bool, true, false, not, ◌&&◌, ◌||◌, or_false}
+use mathlib.Core.Bool.{Bool, true, false, not, ◌&&◌, ◌||◌, or-false}
 use mathlib.Core.List.{List}
 use native.Mathlib.Omega.{arith}
 use native.Mathlib.Numerals.{add-one}
@@ -71,7 +71,7 @@ module _ (case : List ℕ) where
         ⊎_elim
         (λ (a : (row_at case i).kind < 2).
         let e : (row_at case i).kind ≡ 1 = omega arith in
-        rw (row_at_lem case i l, e, add-one n, ← c.students) (sym (or_false (not (eqb (row_at case i).first (suc n))))))
+        rw (row_at_lem case i l, e, add-one n, ← c.students) (sym (or-false (not (eqb (row_at case i).first (suc n))))))
         (λ (a : 2 ≤ (row_at case i).kind).
         ⊎_elim (λ (b : (row_at case i).kind < 3). let e : (row_at case i).kind ≡ 2 = omega arith in rw (row_at_lem case i l, e, add-one m, ← c.workshops))
         (λ (b : 3 ≤ (row_at case i).kind). let e : (row_at case i).kind ≡ 3 = omega arith in rw (row_at_lem case i l, e))
