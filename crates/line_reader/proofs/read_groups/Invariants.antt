@@ -1,0 +1,11 @@
+-- `line_reader::read_groups` meets its contract. The invariant is `Going`: the whole groups and the items of the group in hand.
+use Prim.Native.Nat.{◌-◌}
+use lib.ListN.{length}
+use Rattle.line_reader.proofs.Reading.{Going}
+use Rattle.line_reader.proofs.read_groups.Given as goal
+
+abbrev pub invariant-loop-i : goal.invariant-loop-i
+invariant-loop-i l = Going l.text l.from l.i l.within l.g l.m l.groups
+
+abbrev pub decreases-loop-i : goal.decreases-loop-i
+decreases-loop-i l = length l.text - l.i
