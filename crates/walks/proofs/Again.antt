@@ -9,16 +9,16 @@
 -- us)) ∗ [ν]_1 ∗ LentAgain δ us
 --     back_on          [ν]_1 ∗ LentAgain δ us ∗ finally δ zs   becomes   own (the `&κ mut [T]` ((b, o), γ, zs)) ∗ [κ]_q.        The lifetime ν is ended
 -- The same for a `&` of it:
--- lends_read       own (the `&κ mut [T]` ((b, o), γ, us)) ∗ [κ]_q   becomes, at a new lifetime ν and some name δ,   own (the `&ν [T]` ((b, o), δ, us))
--- ∗ [ν]_1 ∗ LentRead us
---     read-back        [ν]_1 ∗ LentRead us   becomes   own (the `&κ mut [T]` ((b, o), γ, us)) ∗ [κ]_q.        The lifetime ν is ended
+-- lends_read       own (the `&κ mut [T]` ((b, o), γ, us)) ∗ [κ]_q   becomes, at a new lifetime ν,   own (the `&ν [T]` ((b, o), us)) ∗ [ν]_1 ∗ LentRead us,
+-- for T as `Row`'s `lends_row` asks
+--     read_back_lem    [ν]_1 ∗ LentRead us   becomes   own (the `&κ mut [T]` ((b, o), γ, us)) ∗ [κ]_q.        The lifetime ν is ended
 -- Assumes `Logic`.
 use mathlib.Core.Path.{◌≡◌, refl, sym, ◌∙◌, ap, subst}
 use Prim.Native.Nat.{ℕ}
 use mathlib.Core.List.{List, [], ◌∷◌}
 use lib.ListN.{length}
 use seplogic.Ra.Ura.{Ura}
-use seplogic.Ra.TreeShare.{full_share}
+use base.Fraction.{full_share}
 use mir.Syntax.{Lifetime}
 use mir.Val.{Val}
 use base.Logic.{ent, sep, ex}
@@ -33,6 +33,7 @@ use denote.Shadow.{pure_l, pure_i}
 use types.Share.{arr_parts}
 use denote.Memory.{mem, shares}
 use denote.Ref.{MutBor}
+use denote.Shares.{Shares}
 use denote.Slice.{slice_val, MutSlice, ShrSlice, heres, Room, finally, mut_slice_at, coded_holeys}
 use denote.Lend.{Held, lends_slice, slice_back}
 use denote.Index.{row, whole_out, whole_in, opens_slice, closes_slice}
@@ -104,15 +105,15 @@ abbrev pub LentRead : (R : RattleType) (κ : Lft) (ν : ℕ) (q : Share) (γ : G
 LentRead R κ ν q γ b o us = fsep (flent (ν ∷ []) ((arr_parts (shares R) (length us)).part full_share us b o)) (Opened R κ q γ b o us)
 
 module _ {M : Type 1} {𝓤 : Ura M} {𝓛 : Logic 𝓤} {K : Type 0} {Γ : List (Item 𝓤)} {G : Goal 𝓤 𝓛.H} where
-  pub lends_read : K → Soaks G → (R : RattleType) (ℓ ℓ' : Lifetime) (κ : Lft) (q : Share) (γ : GName) (b o m : ℕ) (us : List R.Denot) → Room R m
-      → length us ≡ m
-      → ((ν : ℕ) (δ : GName) → Seq K 𝓛 (‵ ((ShrSlice ℓ' (ν ∷ []) R).own_val (record { ref_ptr = (b, o); ghost_name = δ; now = us }) (slice_val (b, o) m ∷ []))
+  pub lends_read : K → Soaks G → (R : RattleType) → Shares 𝓛 R [] → (ℓ ℓ' : Lifetime) (κ : Lft) (q : Share) (γ : GName) (b o m : ℕ) (us : List R.Denot)
+      → Room R m → length us ≡ m
+      → ((ν : ℕ) → Seq K 𝓛 (‵ ((ShrSlice ℓ' (ν ∷ []) R).own_val (record { ref_ptr = (b, o); now = us }) (slice_val (b, o) m ∷ []))
       ∷ ‵ (flft (ν ∷ []) full_share) ∷ ‵ (LentRead R κ ν q γ b o us) ∷ Γ) G)
       → Seq K 𝓛 (‵ ((MutSlice ℓ κ R).own_val (record { ref_ptr = (b, o); ghost_name = γ; now = us }) (slice_val (b, o) m ∷ [])) ∷ ‵ (flft κ q) ∷ Γ) G
-  lends_read t z R ℓ ℓ' κ q γ b o m us room e k =
-      opens_row t z R ℓ κ q γ b o us $ lends_row t z R ℓ' b o us (subst (Room R) (sym e) room) (λ ν δ.
-      rewrite t 0 (λ (j : ℕ). ‵ ((ShrSlice ℓ' (ν ∷ []) R).own_val (record { ref_ptr = (b, o); ghost_name = δ; now = us }) (slice_val (b, o) j ∷ []))) e refl $
-      move t (2 ∷ 3 ∷ []) $ fjoin t $ move t (1 ∷ 2 ∷ 0 ∷ []) $ k ν δ)
+  lends_read t z R sh ℓ ℓ' κ q γ b o m us room e k =
+      opens_row t z R ℓ κ q γ b o us $ lends_row t z R sh ℓ' b o us (subst (Room R) (sym e) room) (λ ν.
+      rewrite t 0 (λ (j : ℕ). ‵ ((ShrSlice ℓ' (ν ∷ []) R).own_val (record { ref_ptr = (b, o); now = us }) (slice_val (b, o) j ∷ []))) e refl $
+      move t (2 ∷ 3 ∷ []) $ fjoin t $ move t (1 ∷ 2 ∷ 0 ∷ []) $ k ν)
 
   pub read_back_lem : K → Soaks G → (R : RattleType) (ℓ : Lifetime) (κ : Lft) (q : Share) (γ : GName) (b o m ν : ℕ) (us : List R.Denot) → Room R m
       → length us ≡ m

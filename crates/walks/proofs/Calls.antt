@@ -6,7 +6,7 @@
 use mathlib.Core.Path.{sym, ap, subst}
 use mathlib.Core.List.{List, [], ◌∷◌}
 use seplogic.Ra.Ura.{Ura}
-use mir.Syntax.{Name, Place, Opd as Operand, Body, seq, call}
+use mir.Syntax.{Callee, Place, Opd as Operand, Body, seq, call}
 use mir.Val.{Val}
 use base.Logic.{ent, emp, id⊢}
 use prog.Wp.{Env, Calls, Loops}
@@ -30,7 +30,7 @@ abbrev pub Out : (S : Signature) → Lfts S.lifetimes → RattleType
 Out S κs = type_at S.result κs
 
 module _ {M : Type 1} {𝓤 : Ura M} {𝓛 : Logic 𝓤} {K : Type 0} {Γ : List (Item 𝓤)} {E : Env 𝓤 𝓛.H} {C : Calls 𝓤 𝓛.H}
-    {Λ : Loops 𝓤 𝓛.H} {q : Post 𝓤 𝓛.H} {f : Name} {xs : List Operand} {d : Place} {rest : Body} where
+    {Λ : Loops 𝓤 𝓛.H} {q : Post 𝓤 𝓛.H} {f : Callee} {xs : List Operand} {d : Place} {rest : Body} where
   -- what the callee asks stands at the head; what is made of its `ensures` at the result r is `fin r`
   open 𝓛 use {H}
 
@@ -43,7 +43,7 @@ module _ {M : Type 1} {𝓤 : Ura M} {𝓛 : Logic 𝓤} {K : Type 0} {Γ : List
       → Seq K 𝓛 (raw ((triple_of 𝓛 S s).pre x) ∷ Γ) (runs C Λ E (seq (call f xs d) rest) q)
   calls_out t fm S s known x fin ens val tl os k =
       calls_at t fm (triple_of 𝓛 S s) known x os (λ v.
-      use1 𝓛 (later (some (λ (r : (Out S x.0.0).Denot). (raw (alive 𝓛 S x.0.0 x.0.1) ⊛ ‵ ((Out S x.0.0).own r (v ∷ []))) ⊛ raw ((s x.0.0
+      use1 𝓛 (later (some (λ (r : (Out S x.0.0).Denot). (raw (alive 𝓛 S x.0.0 x.0.1) ⊛ ‵ ((Out S x.0.0).own_val r (v ∷ []))) ⊛ raw ((s x.0.0
       x.0.3).ensures x.1 r)))) (id⊢ 𝓤 _) $ await t tt $ pick t (λ r. split t $ split t $ move t (1 ∷ 2 ∷ []) $
       peeks t (Out S x.0.0) (Is (Out S x.0.0)) (shows 𝓛 (Out S x.0.0)) r (v ∷ []) (λ is. drop t $ use1 𝓛 (fin r) (ens r) $
       subst (λ (u : Val). Seq K 𝓛 (fin r ∷ raw (alive 𝓛 S x.0.0 x.0.1) ∷ Γ) (lands C Λ E d u rest q)) (sym (ap only (tl r (v ∷ []) is)))

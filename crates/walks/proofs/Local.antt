@@ -5,16 +5,17 @@
 --     cells_back   [ν]_1 ∗ the lender's part ∗ finally δ zs   becomes   the elements zs in memory.        The lifetime ν is ended
 --     local_out    the elements zs in memory are the local, at some value: enough to free it
 --     local_back   both
---     lends_cells  the elements zs in memory become, at a new lifetime ν and some name δ,   own (the `&ν [T]` ((l, 0), δ, zs)) ∗ [ν]_1 ∗ the lender's part
+--     lends_cells  the elements zs in memory become, at a new lifetime ν,   own (the `&ν [T]` ((l, 0), zs)) ∗ [ν]_1 ∗ the lender's part,   for T as `Row`'s
+-- `lends_row` asks
 --     shared_back  [ν]_1 ∗ the lender's part   becomes   the elements zs in memory.        The lifetime ν is ended
---     long_kind    what is asked of T, for `u64`
+--     long_kind, long_shares    what is asked of T, for `u64`
 -- Assumes `Logic`, and that T is Copy.
 use mathlib.Core.Path.{◌≡◌, refl}
 use Prim.Native.Nat.{ℕ, zero, suc}
 use mathlib.Core.List.{List, [], ◌∷◌, map}
 use lib.ListN.{length, replicate, length-replicate}
 use seplogic.Ra.Ura.{Ura}
-use seplogic.Ra.TreeShare.{full_share}
+use base.Fraction.{full_share}
 use mir.Syntax.{Lifetime, w64, ty_array}
 use mir.Val.{Val, vint}
 use base.Logic.{ent}
@@ -35,6 +36,8 @@ use denote.Shadow.{shadow, makes_shadow}
 use denote.Memory.{cell_at, lone, mem, shares, part_at, part_of}
 use denote.Plain.{uint_Tells}
 use denote.Builtin.{u64}
+use denote.Copied.{uint_Copied}
+use denote.Shares.{Shares}
 use denote.Slice.{slice_val, MutSlice, ShrSlice, Room, finally}
 use denote.Steps.{owned, peeks}
 use Rattle.walks.proofs.Row.{Kind, lends_row, row_back}
@@ -46,7 +49,10 @@ array_val_lem k zs = array_val (map (λ r. k.val r) zs)
 abbrev pub long_kind : Kind u64
 long_kind = record { val = λ n. vint w64 n; tells = uint_Tells w64; makes = λ 𝓛 n vs p. makes_shadow 𝓛 (u64.own_val n vs) (tt, tt) p }
 
-each_repeat : (R : RattleType) (n : ℕ) (x : R.Denot) (v : Val) → Is R x (v ∷ []) → shadow (each R.Denot R.own (replicate n x) (replicate n v))
+pub long_shares : {M : Type 1} {𝓤 : Ura M} (𝓛 : Logic 𝓤) → Shares 𝓛 u64 []
+long_shares 𝓛 = (uint_Copied 𝓛 w64).shares full_share []
+
+each_repeat : (R : RattleType) (n : ℕ) (x : R.Denot) (v : Val) → Is R x (v ∷ []) → shadow (each R.Denot R.own_val (replicate n x) (replicate n v))
 each_repeat R zero x v is = tt
 each_repeat R (suc n) x v is = (is, each_repeat R n x v is)
 
@@ -76,7 +82,8 @@ module _ {M : Type 1} {𝓤 : Ura M} (𝓛 : Logic 𝓤) (R : RattleType) (k : K
       use1 𝓛 (‵ (part_at (Array R n) full_share zs l 0)) (Array-whole 𝓛 R full_share n zs l 0) $ fpick ! (λ vs. fsplit ! $ move ! (1 ∷ []) $
       peeks ! (Array R n) (Is (Array R n)) (shows 𝓛 (Array R n)) zs vs (λ is. drop ! $
       rewrite ! 0 (λ (us : List Val). ‵ (cell_at full_share (Array R n).mir us l 0)) (Array-Tells R (λ r. k.val r ∷ []) k.tells n zs vs is) refl $
-      use1 𝓛 (‵ (fat full_share (ty_array (lone R.mir) n) l 0 (array_val_lem k zs))) (𝓛.laws.raw_at full_share (ty_array (lone R.mir) n) l 0 (array_val_lem k zs)) $
+      use1 𝓛 (‵ (fat full_share (ty_array (lone R.mir) n) l 0 (array_val_lem k zs)))
+      (𝓛.laws.raw_at full_share (ty_array (lone R.mir) n) l 0 (array_val_lem k zs)) $
       done !))
 
 module _ {M : Type 1} {𝓤 : Ura M} {𝓛 : Logic 𝓤} {K : Type 0} {Γ : List (Item 𝓤)} {G : Goal 𝓤 𝓛.H} where
@@ -104,15 +111,15 @@ module _ {M : Type 1} {𝓤 : Ura M} {𝓛 : Logic 𝓤} {K : Type 0} {Γ : List
       use1 𝓛 (‵ (fat full_share (ty_array (lone R.mir) n) l 0 (array_val_lem k zs))) (array_out 𝓛 R k n l zs e) $ s)
 
   pub local_back : K → Soaks G → (R : RattleType) (k : Kind R) (n m l ν : ℕ) (δ : GName) (zs : List R.Denot) → length zs ≡ n
-      → Step K 𝓛 (‵ (fat full_share (ty_array (lone R.mir) n) l 0 (array_val_lem k zs)) ∷ Γ) G (‵ (flft (ν ∷ []) full_share) ∷ ‵ (flent (ν ∷ []) (Held R m l 0 δ))
-      ∷ ‵ (finally R δ zs) ∷ Γ) G
+      → Step K 𝓛 (‵ (fat full_share (ty_array (lone R.mir) n) l 0 (array_val_lem k zs)) ∷ Γ) G (‵ (flft (ν ∷ []) full_share)
+      ∷ ‵ (flent (ν ∷ []) (Held R m l 0 δ)) ∷ ‵ (finally R δ zs) ∷ Γ) G
   local_back t z R k n m l ν δ zs e = step (λ s. cells_back t z R m l ν δ zs $ local_out t R k n l zs e $ s)
 
-  pub lends_cells : K → Soaks G → (R : RattleType) (ℓ : Lifetime) (l : ℕ) (zs : List R.Denot) → Room R (length zs)
-      → ((ν : ℕ) (δ : GName) → Seq K 𝓛 (‵ ((ShrSlice ℓ (ν ∷ []) R).own_val (record { ref_ptr = (l, 0); now = zs }) (slice_val (l, 0) (length zs) ∷ []))
+  pub lends_cells : K → Soaks G → (R : RattleType) → Shares 𝓛 R [] → (ℓ : Lifetime) (l : ℕ) (zs : List R.Denot) → Room R (length zs)
+      → ((ν : ℕ) → Seq K 𝓛 (‵ ((ShrSlice ℓ (ν ∷ []) R).own_val (record { ref_ptr = (l, 0); now = zs }) (slice_val (l, 0) (length zs) ∷ []))
       ∷ ‵ (flft (ν ∷ []) full_share) ∷ ‵ (flent (ν ∷ []) ((arr_parts (shares R) (length zs)).part full_share zs l 0)) ∷ Γ) G)
       → Seq K 𝓛 (‵ (cells (mem R) zs l 0) ∷ Γ) G
-  lends_cells t z R ℓ l zs room c = use1 𝓛 (‵ (row R full_share zs l 0)) (whole_out 𝓛 R zs l 0) $ lends_row t z R ℓ l 0 zs room c
+  lends_cells t z R sh ℓ l zs room c = use1 𝓛 (‵ (row R full_share zs l 0)) (whole_out 𝓛 R zs l 0) $ lends_row t z R sh ℓ l 0 zs room c
 
   pub shared_back : K → Soaks G → (R : RattleType) (l ν : ℕ) (zs : List R.Denot)
       → Step K 𝓛 (‵ (cells (mem R) zs l 0) ∷ Γ) G (‵ (flft (ν ∷ []) full_share)

@@ -6,7 +6,8 @@
 --     opens_row        own (the `&κ mut [T]` ((b, o), γ, ys)) ∗ [κ]_q   becomes   the row ys ∗ Opened ys
 -- closes_row       the row zs ∗ Opened ys   becomes   own (the `&κ mut [T]` ((b, o), γ, zs)) ∗ [κ]_q,   for zs as long as ys. The machine value has
 -- the count that it had
---     lends_row        the row zs   becomes, at a new lifetime ν and some name δ,   own (the `&ν [T]` ((b, o), δ, zs)) ∗ [ν]_1 ∗ the lender's part
+--     lends_row        the row zs   becomes, at a new lifetime ν,   own (the `&ν [T]` ((b, o), zs)) ∗ [ν]_1 ∗ the lender's part,   where T is shared out
+-- with no token but that of the `&`: `Denote/Shares.antt`'s law at `'static`, as plain data has it (`Denote/Copied.antt`'s `shares`)
 --     row_back         [ν]_1 ∗ the lender's part   becomes   the row zs.        The lifetime ν is ended
 --     takes_elem       the row ys   becomes   the cell of ys[i] ∗ the others, and that ys[i] is a T is learned
 --     puts_elem        the cell with y ∗ the others   becomes   the row ys with y at i
@@ -17,14 +18,15 @@ use Prim.Native.Nat.{ℕ, ◌<◌}
 use mathlib.Core.List.{List, [], ◌∷◌}
 use lib.ListN.{length, get_or, set}
 use seplogic.Ra.Ura.{Ura}
-use seplogic.Ra.TreeShare.{full_share}
+use base.Fraction.{full_share}
 use mir.Syntax.{Lifetime}
 use mir.Val.{Val}
-use base.Fml.{Lft, GName, Share, Fml, fsep, flft, flent, fobs, fauth, fobor}
+use base.Fml.{Lft, GName, Share, Fml, Incl-refl, fsep, flft, flent, fobs, fauth, fobor}
 use types.Logic.{Logic}
-use types.Kit.{Item, ‵, ◌⊛◌, some, later, ◌$◌, Step, step, Seq, Goal, Soaks, move, drop, use1, split, pick, await, fsplit, fjoin, feq_i}
+use types.Kit.{Item, ‵, ◌⊛◌, later, ◌$◌, Step, step, Seq, Goal, Soaks, move, drop, use2, split, await, fsplit, fjoin, feq_i}
 use types.Share.{arr_parts}
 use types.Tokens.{lft_new, lft_end, lent_back}
+use contract.BorrowLft.{⊑_static}
 use denote.RattleType.{RattleType}
 use denote.Shadow.{pure_i}
 use denote.Laws.{Is, Tells, Makes, shows}
@@ -33,6 +35,7 @@ use denote.Ref.{MutBor}
 use denote.Slice.{slice_val, MutSlice, ShrSlice, Room, heres, coded_holeys, mut_slice_at}
 use denote.Lend.{Held, lends_shr_slice}
 use denote.Index.{row, place, others, elem_out, elem_put, elem_back, opens_slice, closes_slice}
+use denote.Shares.{Shares}
 use denote.Steps.{owned}
 use denote.Struct.Declared.{Declared}
 use denote.Struct.Declared as D
@@ -70,16 +73,16 @@ module _ {M : Type 1} {𝓤 : Ura M} {𝓛 : Logic 𝓤} {K : Type 0} {Γ : List
       fjoin t $ pure_i t (mut_slice_at R (at_list R κ q γ b o zs) (slice_val (b, o) (length ys) ∷ [])) (tt, (tt, tt))
       (ap (λ (m : ℕ). slice_val (b, o) m ∷ []) (sym e), subst (Room R) (sym e) room) $ fjoin t $ s)
 
-  pub lends_row : K → Soaks G → (R : RattleType) (ℓ : Lifetime) (b o : ℕ) (zs : List R.Denot) → Room R (length zs)
-      → ((ν : ℕ) (δ : GName) → Seq K 𝓛 (‵ ((ShrSlice ℓ (ν ∷ []) R).own_val (record { ref_ptr = (b, o); now = zs }) (slice_val (b, o) (length zs) ∷ []))
+  pub lends_row : K → Soaks G → (R : RattleType) → Shares 𝓛 R [] → (ℓ : Lifetime) (b o : ℕ) (zs : List R.Denot) → Room R (length zs)
+      → ((ν : ℕ) → Seq K 𝓛 (‵ ((ShrSlice ℓ (ν ∷ []) R).own_val (record { ref_ptr = (b, o); now = zs }) (slice_val (b, o) (length zs) ∷ []))
       ∷ ‵ (flft (ν ∷ []) full_share) ∷ ‵ (flent (ν ∷ []) ((arr_parts (shares R) (length zs)).part full_share zs b o)) ∷ Γ) G)
       → Seq K 𝓛 (‵ (row R full_share zs b o) ∷ Γ) G
-  lends_row t z R ℓ b o zs room c =
-      feq_i t ℕ (length zs) (length zs) refl $ fjoin t $ lft_new t z (λ ν. move t (1 ∷ []) $
-      use1 𝓛 (later (some (λ (δ : GName). ‵ ((ShrSlice ℓ (ν ∷ []) R).own_val (record { ref_ptr = (b, o); now = zs }) (slice_val (b, o) (length zs) ∷ []))
-      ⊛ ‵ (flent (ν ∷ []) ((arr_parts (shares R) (length zs)).part full_share zs b o)))))
-      (lends_shr_slice 𝓛 R ℓ (ν ∷ []) full_share zs b o room) $
-      await t z $ pick t (λ δ. split t $ move t (0 ∷ 2 ∷ 1 ∷ []) $ c ν δ))
+  lends_row t z R sh ℓ b o zs room c =
+      feq_i t ℕ (length zs) (length zs) refl $ fjoin t $ lft_new t z (λ ν. move t (1 ∷ 0 ∷ []) $
+      use2 𝓛 (later ((‵ ((ShrSlice ℓ (ν ∷ []) R).own_val (record { ref_ptr = (b, o); now = zs }) (slice_val (b, o) (length zs) ∷ []))
+      ⊛ ‵ (flent (ν ∷ []) ((arr_parts (shares R) (length zs)).part full_share zs b o))) ⊛ ‵ (flft (ν ∷ []) full_share)))
+      (lends_shr_slice 𝓛 R ℓ (ν ∷ []) full_share zs b o room [] sh ((ν ∷ [], full_share) ∷ []) (⊑_static (ν ∷ [])) (Incl-refl (ν ∷ []))) $
+      await t z $ split t $ split t $ move t (0 ∷ 2 ∷ 1 ∷ []) $ c ν)
 
   pub row_back : K → Soaks G → (R : RattleType) (b o ν : ℕ) (zs : List R.Denot)
       → Step K 𝓛 (‵ (row R full_share zs b o) ∷ Γ) G (‵ (flft (ν ∷ []) full_share)

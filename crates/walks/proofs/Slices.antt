@@ -1,12 +1,12 @@
 -- Names for what a walk says of the slices that a function has: where one lies, its machine value, a loan of it for a call, and the types of its locals.
 -- Definitions: assume nothing.
-use Prim.Native.Nat.{ℕ}
+use Prim.Native.Nat.{ℕ, zero}
 use mathlib.Core.List.{List}
 use lib.ListN.{length}
 use mir.Syntax.{Ty, named, erased, imm, mut, w8, w16, w64, ty_int, ty_ref}
 use mir.Val.{Val}
 use base.Fml.{Lft, Share, GName}
-use denote.Ref.{Bor, MutBor}
+use denote.Ref.{Bor, MutBor, as_bor}
 use denote.Slice.{slice_ty, slice_val}
 
 -- tuples that are nested to the right
@@ -17,28 +17,31 @@ a ⸴ b = (a, b)
 abbrev pub ◌⸴'◌ : {A B : Type 1} → A → B → A × B
 a ⸴' b = (a, b)
 
--- a slice reference: where it lies, and its ghost name
+-- a slice reference: where it lies, and its ghost name. A `&` has none: there γ is not read
 pub record Spot : Type 0 where
   pub b : ℕ
   pub o : ℕ
   pub γ : GName
 
 abbrev pub spot_of_lem : {X : Type 0} → MutBor X → Spot
-spot_of_lem r = record { b = r.ptr.0; o = r.ptr.1; γ = r.name }
+spot_of_lem r = record { b = r.ref_ptr.0; o = r.ref_ptr.1; γ = r.ghost_name }
 
-abbrev pub ref : {X : Type 0} → Spot → List X → Bor (List X)
+abbrev pub shr_spot_of : {X : Type 0} → Bor X → Spot
+shr_spot_of r = record { b = r.ref_ptr.0; o = r.ref_ptr.1; γ = zero }
+
+abbrev pub ref : {X : Type 0} → Spot → List X → MutBor (List X)
 ref p l = record { ref_ptr = (p.b, p.o); ghost_name = p.γ; now = l }
 
 -- the machine value of the slice, which stays while the list changes
 abbrev pub sv : {X : Type 0} → Spot → List X → Val
 sv p l = slice_val (p.b, p.o) (length l)
 
--- a slice lent for a call: its lifetime, and its ghost name there
+-- a slice lent for a call as a `&mut`: its lifetime, and its ghost name there
 pub record Loan : Type 0 where
   pub ν : ℕ
   pub δ : GName
 
-abbrev pub anew : {X : Type 0} → Spot → Loan → List X → Bor (List X)
+abbrev pub anew : {X : Type 0} → Spot → Loan → List X → MutBor (List X)
 anew p a l = record { ref_ptr = (p.b, p.o); ghost_name = a.δ; now = l }
 
 -- a slice that a function has: its lifetime and the share of it, where it lies, its list, and how many elements its machine value says
@@ -49,8 +52,12 @@ pub record Slice (X : Type 0) : Type 0 where
   pub now : List X
   pub count : ℕ
 
-abbrev pub ref_of : {X : Type 0} → Slice X → Bor (List X)
+abbrev pub ref_of : {X : Type 0} → Slice X → MutBor (List X)
 ref_of s = ref s.p s.now
+
+-- the `&` there
+abbrev pub shr_of : {X : Type 0} → Slice X → Bor (List X)
+shr_of s = as_bor (ref_of s)
 
 abbrev pub val_of : {X : Type 0} → Slice X → Val
 val_of s = slice_val (s.p.b, s.p.o) s.count

@@ -6,8 +6,8 @@ use mathlib.Core.Path.{◌≡◌, refl, ◌∙◌}
 use mathlib.Core.List.{List, [], ◌∷◌}
 use lib.ListN.{length, replicate}
 use seplogic.Ra.Ura.{Ura}
-use seplogic.Ra.TreeShare.{full_share}
-use mir.Syntax.{Name, Place, Opd as Operand, Body, Lifetime, named, seq, call}
+use base.Fraction.{full_share}
+use mir.Syntax.{Callee, Place, Opd as Operand, Body, Lifetime, named, seq, call}
 use mir.Val.{vunit}
 use base.Logic.{ent, emp, id⊢}
 use base.Fml.{ftrue}
@@ -69,7 +69,7 @@ module _ (R : RattleType) (zero : R.Denot) where
 
     module _ {M : Type 1} {𝓤 : Ura M} {𝓛 : Logic 𝓤} {K : Type 0} {Γ : List (Item 𝓤)} {E : Env 𝓤 𝓛.H} {C : Calls 𝓤 𝓛.H} {Λ : Loops 𝓤
         𝓛.H}
-        {q : Post 𝓤 𝓛.H} {f : Name} {xs : List Operand} {d : Place} {rest : Body} where
+        {q : Post 𝓤 𝓛.H} {f : Callee} {xs : List Operand} {d : Place} {rest : Body} where
       open 𝓛 use {H}
 
       pub calls_zero : K → FmC 𝓤 H 𝓛.laws C → Triple 𝓤 (C f) (ZeroOf 𝓛) → Room R s.count → length s.now ≡ s.count
@@ -80,7 +80,7 @@ module _ (R : RattleType) (zero : R.Denot) where
           lends t tt R ℓ (named 0) s long (λ a. group t 2 $ use1 𝓛 (raw ((ZeroOf 𝓛).pre (to 𝓛 a))) (goes 𝓛 a) $
           calls_out t fm signature (spec 𝓛) known (to 𝓛 a) (Fin 𝓛 a) (λ _. id⊢ 𝓤 _) (λ _. vunit) Nothing-Tells (os a) (λ _ _.
           pick t (λ ws. split t $ move t (1 ∷ []) $ heard t (ws.0 ≡ zeros s.now) (λ e.
-          fsplit t $ move t (1 ∷ []) $ drop t $ fsplit t $ move t (1 ∷ []) $ feq_l t (λ e'. move t (1 ∷ []) $
+          fsplit t $ move t (1 ∷ []) $ drop t $ fsplit t $ move t (1 ∷ []) $ drop t $ fsplit t $ move t (1 ∷ []) $ feq_l t (λ e'. move t (1 ∷ []) $
           use1 𝓛 (‵ (life (on_loan s a)) ⊛ ‵ ftrue) (id⊢ 𝓤 _) $ split t $ move t (1 ∷ []) $ drop t $
           move t (0 ∷ 2 ∷ 1 ∷ []) $ backs t tt R ℓ s a ws.0 room long (e' ∙ long) $
           rewrite t 0 (λ (l : List R.Denot). ‵ (exc ℓ R (now_at_lem s l))) e refl $ k))))))
