@@ -11,9 +11,9 @@ returns-then-h c =
     let b = c.read_groups-b in
     let own = c.set_of in
     let right = c.if-h.true in
-    checked (market_in s.args.case.now) s.args.text.now s.args.from s.args.k b.new.1.1.0 _ b.ensures.sized s.requires.ranged
+    checked (market_in s.args.case.now) s.args.text.now s.args.from s.args.k b.new.groups _ b.ensures.sized s.requires.ranged
     (λ p w e. (s.requires.tabled.named p w e).1.1) s.requires.k_bound.0 h.result h.ensures right b.result b.ensures
-    own.result own.ensures.1 refl c.fault_of.ensures
+    own.result own.ensures.by_index refl c.fault_of.ensures
 
 pub returns : goal.returns
 returns c =

@@ -9,14 +9,14 @@ returns-then-n-eq0-clause-part_after c =
     let a = c.args in
     let M = market_in a.case.now in
     let B = results_in a.book.now in
-    let r = two_parts _ _ _ (push_empty M B a.w a.x a.part-1.now c.if-n-eq0.true) in r.0
+    let r = two_parts _ _ _ (push_empty M B a.w a.x a.part.now c.if-n-eq0.true) in r.0
 
 pub returns-then-n-eq0-clause-value : goal.returns-then-n-eq0-clause-value
 returns-then-n-eq0-clause-value c =
     let a = c.args in
     let M = market_in a.case.now in
     let B = results_in a.book.now in
-    let r = two_parts _ _ _ (push_empty M B a.w a.x a.part-1.now c.if-n-eq0.true) in r.1
+    let r = two_parts _ _ _ (push_empty M B a.w a.x a.part.now c.if-n-eq0.true) in r.1
 
 pub returns-then-stays-clause-part_after : goal.returns-then-stays-clause-part_after
 returns-then-stays-clause-part_after c =
@@ -25,7 +25,7 @@ returns-then-stays-clause-part_after c =
     let M = market_in a.case.now in
     let B = results_in a.book.now in
     let y = stays_true M B a.w a.x _ _ c.stays.ensures c.if-stays.true in
-    let r = two_parts _ _ _ (push_none M B a.w a.part-1.now start.requires.in_order a.x y.0 y.1 (omega arith)) in r.0
+    let r = two_parts _ _ _ (push_none M B a.w a.part.now start.requires.in_order a.x y.0 y.1 (omega arith)) in r.0
 
 pub returns-then-stays-clause-value : goal.returns-then-stays-clause-value
 returns-then-stays-clause-value c =
@@ -34,4 +34,4 @@ returns-then-stays-clause-value c =
     let M = market_in a.case.now in
     let B = results_in a.book.now in
     let y = stays_true M B a.w a.x _ _ c.stays.ensures c.if-stays.true in
-    let r = two_parts _ _ _ (push_none M B a.w a.part-1.now start.requires.in_order a.x y.0 y.1 (omega arith)) in r.1
+    let r = two_parts _ _ _ (push_none M B a.w a.part.now start.requires.in_order a.x y.0 y.1 (omega arith)) in r.1

@@ -22,8 +22,8 @@ pub loop-i-init : goal.loop-i-init
 loop-i-init c =
     let start = c in
     let a = start.args in
-    let h = start.requires.1.1.1.1 in
-    settle_start (market_in a.case.now) (results_in a.book.now) a.w a.part.now h.0 a.x h.1.0 h.1.1
+    let asked = start.requires in
+    settle_start (market_in a.case.now) (results_in a.book.now) a.w a.part.now asked.in_order a.x asked.part_nonzero asked.part_value
 
 pub stays-requires-clause-booked : goal.stays-requires-clause-booked
 stays-requires-clause-booked c =

@@ -21,6 +21,6 @@ returns c =
     let own : Stands M B a.w a.x a.t (to_z w16 (of_z w16 a.a)) =
     record { tier = start.requires.t_value.0; score = passed_on a.a _ start.ranges.a start.requires.t_value.1 } in
     let other : Stands M B a.w a.y y.result.tier (to_z w16 (of_z w16 y.result.score)) =
-    record { tier = y.ensures.0; score = passed_on y.result.score _ (record { sfits = c.struct_told-1.given.1.0.1 }) y.ensures.1 } in
+    record { tier = y.ensures.tier_value; score = passed_on y.result.score _ (record { sfits = assumption (y.type_inv) }) y.ensures.score_value } in
     stays_by M B a.w a.x a.y c.ranks_before.result c.if-y-eq0.false
     (before_by M B a.w a.x a.y _ _ _ _ own other _ c.ranks_before.ensures)
