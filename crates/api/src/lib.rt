@@ -2,7 +2,7 @@
 #![tactic(auto)]
 
 // The engine's answer. The places, and the interviews of which it gives the count and what they cost, are in the lent buffers.
-#[derive(Drop)]
+#[derive(Clone, Copy)]
 pub enum Answer {
     Placed {
         visits: usize,
@@ -23,7 +23,7 @@ pub enum Answer {
 // A student's state (document 01: a card): the tier reached, the workshop held or 0, and the open workshops, workshop w as bit w - 1. It has no
 // padding: a state that is zero is sixteen bytes of zero.
 #[repr(C)]
-#[derive(Drop)]
+#[derive(Clone, Copy)]
 pub struct StudentState {
     pub reached: u32,
     pub held: u32,
@@ -32,7 +32,7 @@ pub struct StudentState {
 
 // The answer in numbers: kind 0 is a placement, 1 a next visit, 2 a refusal.
 #[repr(C)]
-#[derive(Drop)]
+#[derive(Clone, Copy)]
 pub struct Report {
     pub kind: u64,
     pub first: u64,
@@ -43,7 +43,7 @@ pub struct Report {
 
 // A part's answer in numbers: kind 0 is done, 2 a refusal.
 #[repr(C)]
-#[derive(Drop)]
+#[derive(Clone, Copy)]
 pub struct PartReport {
     pub kind: u64,
     pub first: u64,

@@ -51,7 +51,7 @@ fn fails(cause: u16, case: &[u8], table: &[u64], e: Entry) -> bool
 // ---- a scan of the book
 
 // The record that comes next, or at which the scan stopped, and how many are left to read.
-#[derive(Drop)]
+#[derive(Clone, Copy)]
 struct Scan {
     next: usize,
     left: usize,

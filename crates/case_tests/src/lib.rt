@@ -13,7 +13,7 @@ mod pairs;
 mod scans;
 mod sound;
 
-#[derive(Drop)]
+#[derive(Clone, Copy)]
 pub enum Checked {
     // The number of the cause, and the record's place.
     Refused {

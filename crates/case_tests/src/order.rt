@@ -7,7 +7,7 @@ ghost use Rattle.format.specs.Refusals.{bad_form, bad_order};
 ghost use Rattle.case_tests.specs.Order.{Counted, Ordered};
 
 // A place among the records, and how many students and workshops stand before it.
-#[derive(Drop)]
+#[derive(Clone, Copy)]
 pub struct Order {
     pub at: usize,
     pub students: usize,

@@ -29,7 +29,7 @@ fn is_next(case: &[u8], i: usize, s: usize, last: u16, workshops: usize) -> bool
 }
 
 // The workshops of one student's pairs, and the record after the last of them.
-#[derive(Drop)]
+#[derive(Clone, Copy)]
 struct Pile {
     set: u64,
     end: usize,

@@ -12,7 +12,7 @@ use case_tests::{Checked, refused};
 mod lengths;
 
 // The lengths of the lent buffers.
-#[derive(Drop)]
+#[derive(Clone, Copy)]
 pub struct Room {
     pub places: usize,
     pub visits: usize,

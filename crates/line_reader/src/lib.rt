@@ -11,7 +11,7 @@ ghost use Rattle.line_reader.specs.Marks.{Noted, next_group, BodyRead};
 ghost use Rattle.line_reader.specs.Checked.{LineChecked};
 
 // What is wrong with the line, 14, 15 or 0 for nothing; and then where the next line begins.
-#[derive(Drop)]
+#[derive(Clone, Copy)]
 pub struct LineFound {
     pub fault: usize,
     pub end: usize,
@@ -20,7 +20,7 @@ pub struct LineFound {
 // ---- numbers and items
 
 // A number, up to 1,000, and where it ends; or `right` is false.
-#[derive(Drop)]
+#[derive(Clone, Copy)]
 pub struct Number {
     pub right: bool,
     pub value: u64,
@@ -158,7 +158,7 @@ fn head(text: &[u8], from: usize) -> Number
 // ---- one item, with the braces and the comma or the line feed around it
 
 // Kind 0: the line departs; 1: an item of the same group follows; 2: a group follows; 3: the line has ended.
-#[derive(Drop)]
+#[derive(Clone, Copy)]
 pub struct Turn {
     pub kind: u64,
     pub value: u64,
@@ -222,7 +222,7 @@ fn next_item(text: &[u8], i: usize, within: bool) -> Turn
 // ---- what is named
 
 // The set of the workshops named, whether a number is twice there or above 64, and how often none is named.
-#[derive(Drop)]
+#[derive(Clone, Copy)]
 pub struct Marks {
     pub named: u64,
     pub stray: bool,
@@ -275,7 +275,7 @@ fn next_group(g: u8, within: bool) -> u8
 }
 
 // Where the groups end, and what they name; or `right` is false.
-#[derive(Drop)]
+#[derive(Clone, Copy)]
 pub struct Body {
     pub right: bool,
     pub end: usize,

@@ -150,7 +150,7 @@ pub fn student_score_of(
 }
 
 // Where student s stands at workshop w: its tier for her, and the score that it gave her.
-#[derive(Drop)]
+#[derive(Clone, Copy)]
 pub struct Standing {
     pub tier: u16,
     pub score: i16,

@@ -7,7 +7,7 @@ use api::StudentState;
 // Where a run stands: the student in hand, or 0 when it is over; the last student taken in the order of stages; the workshop that has just
 // dropped the student in hand, or 0; the number of interviews held; the student and the workshop of the interview that is missing, or 0; what the
 // interviews held have cost.
-#[derive(Drop)]
+#[derive(Clone, Copy)]
 pub struct Run {
     pub hand: usize,
     pub last: usize,
@@ -19,7 +19,7 @@ pub struct Run {
 }
 
 // What a turn gives back.
-#[derive(Drop)]
+#[derive(Clone, Copy)]
 pub struct Turned {
     pub state: StudentState,
     pub run: Run,

@@ -12,7 +12,7 @@ use case_tests::Checked;
 
 // What came of reading a file into a buffer: so many bytes stand at its head, and they are the whole file where they do not fill the buffer; or
 // the file is missing or cannot be read.
-#[derive(Drop)]
+#[derive(Clone, Copy)]
 pub enum FileRead {
     Bytes(usize),
     Failed,

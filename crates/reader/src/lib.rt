@@ -8,7 +8,7 @@ ghost use Rattle.records.specs.Records.{entry_of};
 
 use records::Entry;
 
-#[derive(Drop)]
+#[derive(Clone, Copy)]
 pub struct BookReader<'a> {
     pub book: &'a [u8],
     pub next: usize,

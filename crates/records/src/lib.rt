@@ -10,7 +10,7 @@ ghost use Rattle.format.specs.Refusals.{bad_score};
 ghost use Rattle.records.specs.Records.{row_of, entry_of};
 
 // A record of the case, as the layout has it.
-#[derive(Drop)]
+#[derive(Clone, Copy)]
 pub struct Row {
     pub kind: u8,
     pub pad: u8,
@@ -24,7 +24,7 @@ pub struct Row {
 }
 
 // A record of the book.
-#[derive(Drop)]
+#[derive(Clone, Copy)]
 pub struct Entry {
     pub student: u16,
     pub workshop: u16,

@@ -16,7 +16,7 @@ mod raising;
 mod rounds;
 
 // The answer; the stages are in the lent buffer.
-#[derive(Drop)]
+#[derive(Clone, Copy)]
 pub enum StagesAnswer {
     Staged { students: usize },
     Refused { cause: usize, record: usize },

@@ -152,7 +152,7 @@ fn lift(
 }
 
 // The workshops of those raised, the largest stage of those who matter to the workshop, and how many stages there can be in all.
-#[derive(Drop)]
+#[derive(Clone, Copy)]
 pub struct Upshot {
     pub moved: u64,
     pub top: u16,

@@ -8,7 +8,7 @@ use super::raising::raise;
 
 // Where a round stands: the workshops whose students agree, whether somebody was raised in it, how many stages there can be at most, and whether somebody
 // is above that.
-#[derive(Drop)]
+#[derive(Clone, Copy)]
 pub struct Progress {
     pub resting: u64,
     pub moving: bool,

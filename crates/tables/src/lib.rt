@@ -109,7 +109,7 @@ pub fn pair_at(case: &[u8], table: &[u64], s: usize, w: usize) -> usize
 }
 
 // A student's pairs: the number of the first record, and how many there are.
-#[derive(Drop)]
+#[derive(Clone, Copy)]
 pub struct Pairs {
     pub first: usize,
     pub many: usize,

@@ -340,7 +340,7 @@ fn put_interview(visits: &mut [u16], count: usize, s: u16, w: u16)
 }
 
 // How many interviews have been held, the open set, the workshop of a missing interview or 0, and what those of this round cost.
-#[derive(Drop)]
+#[derive(Clone, Copy)]
 pub struct Round {
     pub count: usize,
     pub openings: u64,

@@ -18,14 +18,14 @@ use case_tests::Checked;
 mod copying;
 
 // The answer of both parts; the text, or the copy of the case, is at the head of the lent buffer.
-#[derive(Drop)]
+#[derive(Clone, Copy)]
 pub enum WishesAnswer {
     Given { bytes: usize },
     Refused { cause: usize, place: usize },
 }
 
 // What is found of a text: its first fault and that line's place, or cause 0.
-#[derive(Drop)]
+#[derive(Clone, Copy)]
 pub struct Verdict {
     pub cause: usize,
     pub place: usize,

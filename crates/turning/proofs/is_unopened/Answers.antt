@@ -1,0 +1,18 @@
+-- `turning::is_unopened` meets its contract. By the workshop's no, and else by never.
+use mathlib.Core.Path.{sym, ◌∙◌}
+use Rattle.base.proofs.Tests.{or_right, or_none}
+use Rattle.lgs.specs.Rule.{unopened}
+use Rattle.format.specs.Engine.{results_in}
+use Rattle.turning.proofs.is_unopened.Goals as goal
+
+pub returns-then-is_declined : goal.returns-then-is_declined
+unfolding unopened
+returns-then-is_declined c = λ s p q.
+    let a = c.args in
+    sym (or_right ((results_in a.book.now).never s a.w) _ (sym (c.is_declined.ensures s p q) ∙ c.if-is_declined.true))
+
+pub returns : goal.returns
+unfolding unopened
+returns c = λ s p q.
+    let d = sym (c.is_declined.ensures s p q) ∙ c.if-is_declined.false in
+    rw d (c.ended_in_never.ensures ∙ (sym q.never ∙ sym (or_none _)))
