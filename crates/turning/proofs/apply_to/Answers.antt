@@ -8,12 +8,12 @@ use Rattle.turning.proofs.apply_to.Goals as goal
 pub returns-then-c-eq0-clause-by_index : goal.returns-then-c-eq0-clause-by_index
 returns-then-c-eq0-clause-by_index c =
     let a = c.args in (λ visits. (apply_none (market_in a.case.now) (results_in a.book.now) visits a.seats.now a.state a.run a.c
-          c.next_run-next.result c.if-c-eq0.true (c.next_run-next.ensures (results_in a.book.now))).0)
+    c.next_run-next.result c.if-c-eq0.true (c.next_run-next.ensures (results_in a.book.now))).0)
 
 pub returns-then-c-eq0-clause-by_index_2 : goal.returns-then-c-eq0-clause-by_index_2
 returns-then-c-eq0-clause-by_index_2 c =
     let a = c.args in (λ visits. (apply_none (market_in a.case.now) (results_in a.book.now) visits a.seats.now a.state a.run a.c
-          c.next_run-next.result c.if-c-eq0.true (c.next_run-next.ensures (results_in a.book.now))).1)
+    c.next_run-next.result c.if-c-eq0.true (c.next_run-next.ensures (results_in a.book.now))).1)
 
 pub seat_at-x-requires-clause-w_in_bounds : goal.seat_at-x-requires-clause-w_in_bounds
 seat_at-x-requires-clause-w_in_bounds c =
@@ -32,13 +32,13 @@ seat_at-x-requires-clause-in_order c =
 pub returns-clause-by_index : goal.returns-clause-by_index
 returns-clause-by_index c =
     let a = c.args in (λ visits. (apply_some (market_in a.case.now) (results_in a.book.now) visits a.seats.now a.state a.run a.c
-          c.seat_at-x.result _ c.after_seating-next.result c.if-c-eq0.false
-          c.seat_at-x.ensures.seats_after c.seat_at-x.ensures.value
-          (c.after_seating-next.ensures (results_in a.book.now))).0)
+    c.seat_at-x.result _ c.after_seating-next.result c.if-c-eq0.false
+    c.seat_at-x.ensures.seats_after c.seat_at-x.ensures.value
+    (c.after_seating-next.ensures (results_in a.book.now))).0)
 
 pub returns-clause-by_index_2 : goal.returns-clause-by_index_2
 returns-clause-by_index_2 c =
     let a = c.args in (λ visits. (apply_some (market_in a.case.now) (results_in a.book.now) visits a.seats.now a.state a.run a.c
-          c.seat_at-x.result _ c.after_seating-next.result c.if-c-eq0.false
-          c.seat_at-x.ensures.seats_after c.seat_at-x.ensures.value
-          (c.after_seating-next.ensures (results_in a.book.now))).1)
+    c.seat_at-x.result _ c.after_seating-next.result c.if-c-eq0.false
+    c.seat_at-x.ensures.seats_after c.seat_at-x.ensures.value
+    (c.after_seating-next.ensures (results_in a.book.now))).1)

@@ -20,11 +20,11 @@ best_of-requires-clause-le_s c =
     let first = c.start_at-start in
     let others = c.rest_at-rest in
     let booked = start.requires.by_index in (
-          start.requires.le_s.0,
-          start.requires.le_s.1,
-          λ l. ⊎_elim (λ e. absurd (omega (arith, first.ensures.0 e)))
-              (λ e. booked first.result (first.ensures.1 e).set) (bool_cases start.args.outside),
-        )
+      start.requires.le_s.0,
+      start.requires.le_s.1,
+      λ l. ⊎_elim (λ e. absurd (omega (arith, first.ensures.0 e)))
+          (λ e. booked first.result (first.ensures.1 e).set) (bool_cases start.args.outside),
+    )
 
 pub best_of-requires-clause-by_index : goal.best_of-requires-clause-by_index
 best_of-requires-clause-by_index c =
@@ -32,8 +32,8 @@ best_of-requires-clause-by_index c =
     let first = c.start_at-start in
     let others = c.rest_at-rest in
     let booked = start.requires.by_index in λ x m. ⊎_elim (λ e. booked x (rw (others.ensures.0 e) at m))
-            (λ e. booked x (and_left (member start.args.set x) _ (sym (others.ensures.1 e first.result (first.ensures.1 e) x) ∙ m)))
-            (bool_cases start.args.outside)
+    (λ e. booked x (and_left (member start.args.set x) _ (sym (others.ensures.1 e first.result (first.ensures.1 e) x) ∙ m)))
+    (bool_cases start.args.outside)
 
 pub returns : goal.returns
 returns c =

@@ -29,9 +29,9 @@ returns-clause-value c =
     let a = start.args in
     let o = round_to (market_in a.case.now) (results_in a.book.now) a.seats.now a.run.hand (a.state.reached + 1) a.state.openings
     a.workshops in open_turned (market_in a.case.now) (results_in a.book.now) a.visits.now a.seats.now a.state a.run a.workshops
-          (a.state.reached + 1) start.requires.clean.workshops (add-one a.state.reached) c.hold_round-round.result
-          c.after_round-next.result c.hold_round-round.ensures.value (c.after_round-next.ensures (market_in a.case.now)
-          (results_in a.book.now) o c.hold_round-round.ensures.value)
+    (a.state.reached + 1) start.requires.clean.workshops (add-one a.state.reached) c.hold_round-round.result
+    c.after_round-next.result c.hold_round-round.ensures.value (c.after_round-next.ensures (market_in a.case.now)
+    (results_in a.book.now) o c.hold_round-round.ensures.value)
 
 pub returns-clause-visits_after : goal.returns-clause-visits_after
 returns-clause-visits_after c =
@@ -39,4 +39,4 @@ returns-clause-visits_after c =
     let a = start.args in
     let o = round_to (market_in a.case.now) (results_in a.book.now) a.seats.now a.run.hand (a.state.reached + 1) a.state.openings
     a.workshops in open_visits (market_in a.case.now) (results_in a.book.now) a.visits.now a.seats.now a.state a.run a.workshops
-          (a.state.reached + 1) start.requires.clean.workshops (add-one a.state.reached) _ c.hold_round-round.ensures.visits_after
+    (a.state.reached + 1) start.requires.clean.workshops (add-one a.state.reached) _ c.hold_round-round.ensures.visits_after

@@ -35,27 +35,25 @@ left c = turn_of (market c) (results c) c.args.visits.now c.args.seats.now c.arg
 
 -- which way the turn goes
 opens : (c : Then-count-outside)
-    → left c.before
-    ≡ open_tier (market c.before) (results c.before) c.args.visits.now c.args.seats.now
-    (told c.before) c.args.run
+    → turn_of (market_in c.args.case.now) (results_in c.args.book.now) c.args.visits.now c.args.seats.now c.args.state c.args.run
+    ≡ open_tier (market_in c.args.case.now) (results_in c.args.book.now) c.args.visits.now c.args.seats.now
+    c.told_state-told.result c.args.run
 opens c =
-    let d = c in
-    let a = d.args in
-    turn_opens (market c.before) (results c.before) a.visits.now a.seats.now a.state a.run (told c.before) (outside c.before)
-    d.told_state-told.ensures (ap (λ (x : ℕ). eqb x (told c.before).reached) d.student_outside.ensures)
-    (ap (λ (b : Bool). b && not (outside c.before)) (sym (count_test (told c.before).openings d.count.result (omega arith) d.count.ensures)) ∙ c.if-count-outside.true)
+    let a = c.args in
+    turn_opens (market_in c.args.case.now) (results_in c.args.book.now) a.visits.now a.seats.now a.state a.run c.told_state-told.result (eqb c.student_outside.result c.told_state-told.result.reached)
+    c.told_state-told.ensures (ap (λ (x : ℕ). eqb x c.told_state-told.result.reached) c.student_outside.ensures)
+    (ap (λ (b : Bool). b && not (eqb c.student_outside.result c.told_state-told.result.reached)) (sym (count_test c.told_state-told.result.openings c.count.result (omega arith) c.count.ensures)) ∙ c.if-count-outside.true)
 
 applies : (c : Else-count-outside)
-    → left c.before
-    ≡ apply_to (market c.before) (results c.before) c.args.visits.now c.args.seats.now
-    (told c.before) c.args.run
-    (favourite_in (market c.before) (results c.before) c.args.run.hand (outside c.before) (told c.before).openings)
+    → turn_of (market_in c.args.case.now) (results_in c.args.book.now) c.args.visits.now c.args.seats.now c.args.state c.args.run
+    ≡ apply_to (market_in c.args.case.now) (results_in c.args.book.now) c.args.visits.now c.args.seats.now
+    c.told_state-told.result c.args.run
+    (favourite_in (market_in c.args.case.now) (results_in c.args.book.now) c.args.run.hand (eqb c.student_outside.result c.told_state-told.result.reached) c.told_state-told.result.openings)
 applies c =
-    let d = c in
-    let a = d.args in
-    turn_applies (market c.before) (results c.before) a.visits.now a.seats.now a.state a.run (told c.before) (outside c.before)
-    d.told_state-told.ensures (ap (λ (x : ℕ). eqb x (told c.before).reached) d.student_outside.ensures)
-    (ap (λ (b : Bool). b && not (outside c.before)) (sym (count_test (told c.before).openings d.count.result (omega arith) d.count.ensures)) ∙ c.if-count-outside.false)
+    let a = c.args in
+    turn_applies (market_in c.args.case.now) (results_in c.args.book.now) a.visits.now a.seats.now a.state a.run c.told_state-told.result (eqb c.student_outside.result c.told_state-told.result.reached)
+    c.told_state-told.ensures (ap (λ (x : ℕ). eqb x c.told_state-told.result.reached) c.student_outside.ensures)
+    (ap (λ (b : Bool). b && not (eqb c.student_outside.result c.told_state-told.result.reached)) (sym (count_test c.told_state-told.result.openings c.count.result (omega arith) c.count.ensures)) ∙ c.if-count-outside.false)
 
 pub open_tier-requires-clause-le_hand : goal.open_tier-requires-clause-le_hand
 open_tier-requires-clause-le_hand c =
@@ -110,7 +108,7 @@ returns-then-count-outside-clause-seats_after c =
     let o = c.student_outside in
     let e = opens (goal.at.returns-then-count-outside-clause-seats_after c).Then-count-outside in
     let r = c.open_tier in open_seats (market_in a.case.now)
-            (results_in a.book.now) a.visits.now a.seats.now t.result a.run ∙ sym (ap (λ x. x.seats) e)
+    (results_in a.book.now) a.visits.now a.seats.now t.result a.run ∙ sym (ap (λ x. x.seats) e)
 
 pub apply_to-requires-clause-booked : goal.apply_to-requires-clause-booked
 apply_to-requires-clause-booked c =
@@ -144,7 +142,7 @@ returns-clause-visits_after c =
     let f = c.favourite-c in
     let e = applies (goal.at.returns-clause-visits_after c).Else-count-outside ∙ ap (λ (x : ℕ). apply_to (market_in a.case.now) (results_in a.book.now)
     a.visits.now a.seats.now t.result a.run x) (sym f.ensures) in apply_visits (market_in a.case.now) (results_in a.book.now) a.visits.now a.seats.now t.result a.run f.result ∙ sym
-            (ap (λ x. x.visits) e)
+    (ap (λ x. x.visits) e)
 
 pub returns-clause-seats_after : goal.returns-clause-seats_after
 returns-clause-seats_after c =
