@@ -29,9 +29,8 @@ fn put_decimal(out: &mut [u8], at: usize, n: usize) -> usize
     requires { at ≤ length out.old }
     ensures { Put (decimal n) at out.old out.new result }
 {
-    let mut digits = [0u8; 20];
-    let k = io::decimal(n as u64, &mut digits);
-    put_word(out, at, &digits[..k])
+    let mut digits = itoa::Buffer::new();
+    put_word(out, at, digits.format(n).as_bytes())
 }
 
 // A space and a number.
