@@ -1,49 +1,47 @@
 // Reads case.dat and book.dat in the current folder, and prints what `program` says of them.
 #![tactic(auto)]
 
+ghost use Rattle.std.specs.Prelude.{IfSome};
 ghost use Rattle.program.specs.Files.{Within};
+ghost use Rattle.place.specs.Reads.{BytesOf};
 
-use libc::STDOUT_FILENO;
 use program::FileRead;
+use std::fs::Files;
+use std::io::{Read, Write};
+use std::{fs, io};
 
-// Reads from fd into buf until the end of the input, or until buf is full.
-fn read_all(fd: i32, buf: &mut [u8]) -> FileRead
-    ensures { Within result buf.new }
+// Reads into buf until the end of the input, or until buf is full.
+fn read_all<R: Read>(input: &mut R, buf: &mut [u8]) -> FileRead
+    ensures within { Within result buf.new }
+    ensures bytes { IfSome (R.remaining input.old) (BytesOf result buf.new) }
 {
     let mut done = 0;
     while done < buf.len() {
-        let got = libc::read(fd, &mut buf[done..]);
-        if got < 0 {
-            return FileRead::Failed;
+        match input.read(&mut buf[done..]) {
+            Ok(0) => return FileRead::Bytes(done),
+            Ok(n) => done += n,
+            Err(_) => return FileRead::Failed,
         }
-        let n = io::count(got, &buf[done..]);
-        if n == 0 {
-            return FileRead::Bytes(done);
-        }
-        done += n;
     }
     FileRead::Bytes(done)
 }
 
-// Reads a file, as read_all does.
-fn read_file(path: &[u8], buf: &mut [u8]) -> FileRead
+// Reads a file, as `read_all` does.
+fn read_file<F: Files>(files: &F, path: &str, buf: &mut [u8]) -> FileRead
     ensures { Within result buf.new }
 {
-    let fd = os::open_read(path);
-    if fd < 0 {
-        return FileRead::Failed;
+    match fs::open(files, path) {
+        Ok(mut file) => read_all(&mut file, buf),
+        Err(_) => FileRead::Failed,
     }
-    let r = read_all(fd, &mut *buf);
-    libc::close(fd);
-    r
 }
 
-fn main() {
+fn main(rt: HostRuntime) -> io::Result<()> {
     let mut case = [0u8; 65537];
     let mut book = [0u8; 65537];
     let mut out = [0u8; 131072];
-    let casefile = read_file(b"case.dat", &mut case);
-    let bookfile = read_file(b"book.dat", &mut book);
+    let casefile = read_file(&rt, "case.dat", &mut case);
+    let bookfile = read_file(&rt, "book.dat", &mut book);
     let end = program::put_program(&case, casefile, &book, bookfile, &mut out);
-    io::write_all(STDOUT_FILENO, &out[..end]);
+    io::writer(&rt).write_all(&out[..end])
 }
