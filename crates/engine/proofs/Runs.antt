@@ -1,5 +1,8 @@
 -- Laws of `run_of`, the run of at most k turns: what the loop of `run_all` needs.
---     runs_none    no turn leaves what there was
+--     run_here     where no student is in hand, the run has ended
+--     run_same     a run that ends goes to the same end after a turn
+--     turns_left   how many turns a run takes until it ends, of at most k
+--     left_less    they get fewer with each turn
 --     runs_on      where a student is in hand after k turns, one turn more is `turn_on` of that
 --     runs_out     where none is, more turns change nothing
 --     runs_less    where the hand is empty after n turns, and not after k, k is less
@@ -56,6 +59,46 @@ module _ (M : Market) (B : Results) where
   out (suc k) (suc n) σ h l =
       ⊎_elim (λ e. stops (suc k) σ e ∙ sym (stops (suc n) σ e))
       (λ e. goes k σ e ∙ out k n (turn_on M B σ) (ap hand_of (sym (goes k σ e)) ∙ h) (omega (arith, l)) ∙ sym (goes n σ e)) (which σ)
+
+  pub run_here : (k : ℕ) (σ : RunState) → hand_of σ ≡ 0 → from k σ ≡ σ
+  run_here k σ e = stops k σ (eq-eqb (hand_of σ) 0 e)
+
+  in_hand : (σ : RunState) → 0 < hand_of σ → eqb (hand_of σ) 0 ≡ false
+  in_hand σ l = ne_eqb (hand_of σ) 0 (λ e. none (hand_of σ) e l)
+
+  -- after a turn, k turns are k + 1 turns before it
+  pub run_turn : (k : ℕ) (σ : RunState) → 0 < hand_of σ → from k (turn_on M B σ) ≡ from (suc k) σ
+  run_turn k σ l = sym (goes k σ (in_hand σ l))
+
+  pub run_same : (k : ℕ) (σ : RunState) → hand_of (from k σ) ≡ 0 → 0 < hand_of σ → from k (turn_on M B σ) ≡ from k σ
+  run_same k σ e l = run_turn k σ l ∙ sym (out k (suc k) σ e (omega arith))
+
+  pub turns_left : ℕ → RunState → ℕ
+  turns_left zero σ = 0
+  turns_left (suc k) σ = cond (eqb (hand_of σ) 0) 0 (suc (turns_left k (turn_on M B σ)))
+
+  left_none : (k : ℕ) (σ : RunState) → eqb (hand_of σ) 0 ≡ true → turns_left k σ ≡ 0
+  unfolding turns_left
+  left_none zero σ e = refl
+  left_none (suc k) σ e = ap (λ (b : Bool). cond b 0 (suc (turns_left k (turn_on M B σ)))) e
+
+  left_one : (k : ℕ) (σ : RunState) → eqb (hand_of σ) 0 ≡ false → turns_left (suc k) σ ≡ suc (turns_left k (turn_on M B σ))
+  unfolding turns_left
+  left_one k σ e = ap (λ (b : Bool). cond b 0 (suc (turns_left k (turn_on M B σ)))) e
+
+  -- no turn is left that a run of at most k, which ends, has not counted
+  left_same : (k : ℕ) (σ : RunState) → hand_of (from k σ) ≡ 0 → turns_left (suc k) σ ≡ turns_left k σ
+  unfolding run_of
+  left_same zero σ e = left_none 1 σ (eq-eqb (hand_of σ) 0 e) ∙ sym (left_none 0 σ (eq-eqb (hand_of σ) 0 e))
+  left_same (suc k) σ e =
+      ⊎_elim (λ h. left_none (suc (suc k)) σ h ∙ sym (left_none (suc k) σ h))
+      (λ h. left_one (suc k) σ h ∙ ap suc (left_same k (turn_on M B σ) (ap hand_of (sym (goes k σ h)) ∙ e)) ∙ sym (left_one k σ h)) (which σ)
+
+  pub left_less : (k : ℕ) (σ : RunState) → hand_of (from k σ) ≡ 0 → 0 < hand_of σ → turns_left k (turn_on M B σ) < turns_left k σ
+  left_less k σ e l =
+      let same = left_same k σ e in
+      let one = left_one k σ (in_hand σ l) in
+      omega (arith, same, one)
 
   module _ (visits seats : List ℕ) (states : List StudentState) (r : Run) where
     pub runs_none : (visits, (seats, (states, r))) ≡ run_of M B 0 visits seats states r
