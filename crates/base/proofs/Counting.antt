@@ -1,13 +1,13 @@
 -- Counting over 1 to n: search, inclusion, and the exchange (pigeonhole) that stability arguments use; sums, and the largest.
 use Prim.Native.Nat.{ℕ, zero, suc, ◌+◌, ◌*◌, ◌≤◌, ◌<◌}
-use mathlib.Core.Path.{◌≡◌, refl, sym, subst, ap}
+use mathlib.Core.Path.{◌≡◌, refl, ap}
 use mathlib.Core.Logic.{◌⊎◌, inl, inr, ⊎_elim}
 use mathlib.Core.Bool.{Bool, true, false, not, ◌&&◌}
 use native.Mathlib.Omega.{arith}
 use borrow.Author.Tests.{not-true, not-false}
 use native.Mathlib.Nat.{eq-or-lt_of_le}
 use Rattle.base.specs.Lists.{one, count, total, largest}
-use Rattle.base.proofs.Tests.{bool_cases, never, and_left, and_right}
+use Rattle.base.proofs.Tests.{bool_cases, and_left, and_right}
 
 -- some number of 1 to n passes, or none does
 pub find? : (p : ℕ → Bool) (n : ℕ) → ((h : ℕ) × (1 ≤ h) × (h ≤ n) × (p h ≡ true)) ⊎ ((h : ℕ) → 1 ≤ h → h ≤ n → p h ≡ false)

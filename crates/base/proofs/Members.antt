@@ -1,8 +1,8 @@
 -- Who is in a list that `upto`, `keep` and `pick` give, that the first two name nobody twice, where `upto` has whom, and what `entry_for` gives.
-use Prim.Native.Nat.{ℕ, zero, suc, ◌+◌, ◌≤◌, ◌<◌}
-use mathlib.Core.Path.{◌≡◌, refl, sym, subst, ap, ◌∙◌}
+use Prim.Native.Nat.{ℕ, zero, suc, ◌≤◌, ◌<◌}
+use mathlib.Core.Path.{◌≡◌, refl, sym, ap, ◌∙◌}
 use mathlib.Core.Logic.{◌⊎◌, inl, inr, ⊎_elim}
-use mathlib.Core.Bool.{Bool, true, false, cond, ◌||◌, or_assoc}
+use mathlib.Core.Bool.{Bool, true, false, ◌||◌, or_assoc}
 use mathlib.Core.List.{List, [], ◌∷◌, ◌++◌, map}
 use mathlib.Core.List.Memᴰ.{cases_cons}
 use mathlib.Core.List.Memᴰ.{head as here}
@@ -12,7 +12,6 @@ use mathlib.Core.List.{Memᴰ as Mem}
 use mathlib.Core.List.Memᴰ.{append_cases}
 use mathlib.Core.List.Memᴰ.{append_left as in_left}
 use mathlib.Core.List.Memᴰ.{append_right as in_right}
-use mathlib.Core.List.Memᴰ.{cast as same_in}
 use mathlib.Core.List.Memᴰ.{eq_of_singleton}
 use native.Mathlib.Omega.{arith}
 use borrow.Author.Tests.{eq-eqb, ne_eqb}
@@ -20,7 +19,7 @@ use lib.ListN.{length, get_or, replicate, length-append, length-map, get_or-appe
 use lib.Seq.{get_or_at, ext_get_or}
 use native.Mathlib.Nat.{eq-or-lt_of_le}
 use Rattle.base.specs.Lists.{upto, keep, cons_if, pick, any, update, entry_for}
-use Rattle.base.proofs.Tests.{bool_cases, never, or_true, or_left, or_right, or_false, or_none}
+use Rattle.base.proofs.Tests.{bool_cases, never, or_true, or_false, or_none}
 
 pub in_upto : (n x : ℕ) → 1 ≤ x → x ≤ n → Mem x (upto n)
 unfolding upto

@@ -10,8 +10,8 @@ use Rattle.base.specs.Search.{first_bad, some_if, or_else, or_end}
 use Rattle.base.specs.Below.{any_below}
 use Rattle.base.proofs.Tests.{less?, is_false}
 use Rattle.base.proofs.Below.{any_found, any_none}
-use lib.Dec.{eqb, ltb}
-use borrow.Author.Tests.{eq-eqb, ne_eqb, lt-ltb, le-ltb}
+use lib.Dec.{ltb}
+use borrow.Author.Tests.{lt-ltb, le-ltb}
 
 module _ (bad : ℕ → Bool) where
   -- none below i, and none at i

@@ -1,13 +1,13 @@
 -- A signed number of 16 bits, an integer ℤ in the code, and the same number 32768 higher, a natural number in the definitions, compare alike.
 use Prim.Native.Nat.{ℕ, suc, ◌+◌, ◌-◌, ◌%◌, ◌^◌, ◌≤◌, ◌<◌}
 use mathlib.Core.Path.{◌≡◌, sym, ap, ◌∙◌}
-use mathlib.Core.Logic.{◌⊎◌, ⊎_elim}
+use mathlib.Core.Logic.{⊎_elim}
 use native.Mathlib.Omega.{arith}
 use lib.Dec.{ltb, eqb}
 use lib.IntN.{ℤ, pos, negsuc, ◌-ℤ◌}
 use lib.Signed.{lt_z, mag}
 use mir.Syntax.{w16, w32}
-use mir.Val.{SFits, to_z, of_z, hbits, bits}
+use mir.Val.{SFits, to_z, of_z, hbits}
 use mir.ValLaws.{to_z-of_z, to_z_pos}
 use borrow.Author.Tests.{lt-ltb, le-ltb, eq-eqb, ne_eqb}
 use Rattle.base.specs.Words.{biased}

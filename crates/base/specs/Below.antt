@@ -1,5 +1,5 @@
 -- Tests over the numbers below n, as a loop from the front makes them.
-use Rattle.std.specs.Prelude.{ℕ, zero, suc, ◌+◌, Bool, true, false, ◌||◌}
+use Rattle.std.specs.Prelude.{ℕ, zero, suc, ◌+◌, Bool, false, ◌||◌}
 use Rattle.base.specs.Lists.{one}
 
 -- some number below n passes

@@ -1,5 +1,5 @@
 -- The first place of 0 to n - 1 that passes a test.
-use Rattle.std.specs.Prelude.{ℕ, zero, suc, ◌≤◌, ◌<◌, Bool, true, false}
+use Rattle.std.specs.Prelude.{ℕ, zero, suc, Bool, true, false}
 use Rattle.std.proofs.Math.Option.{Option, some, none}
 
 -- i if the test passed

@@ -1,11 +1,10 @@
 -- What is written as bytes is read back. A record's fields are the words of its bytes, and the next record's stand 16 or 8 bytes on.
 use Prim.Native.Nat.{ℕ, zero, suc, ◌+◌, ◌*◌, ◌/◌, ◌%◌, ◌<◌}
-use mathlib.Core.Path.{◌≡◌, refl, sym, ap, ◌∙◌}
+use mathlib.Core.Path.{◌≡◌, refl, ap, ◌∙◌}
 use mathlib.Core.List.{List, [], ◌∷◌, ◌++◌}
 use mathlib.Core.List.{Memᴰ as Mem}
 use native.Mathlib.Omega.{arith}
 use lib.ListN.{length, get_or}
-use lib.Seq.{get_or-append-add}
 use Rattle.base.specs.Lists.{tabulate}
 use Rattle.base.specs.Words.{word, signed}
 use Rattle.base.proofs.Coding.{byte_behind, word_behind, all_have, coded_length, coded}

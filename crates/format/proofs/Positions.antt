@@ -26,7 +26,7 @@ use native.Mathlib.Omega.{arith}
 use lib.Dec.{eqb}
 use lib.ListN.{take}
 use borrow.Author.Tests.{eqb-true, eq-eqb}
-use Rattle.base.specs.Lists.{one, any, tally, find}
+use Rattle.base.specs.Lists.{any, tally, find}
 use Rattle.base.specs.Search.{first_bad}
 use Rattle.base.proofs.Tests.{bool_cases, never, and_left, and_right, and_make, or_false, is_false, less?}
 use Rattle.base.proofs.Below.{tally_below, any_before, any_found, any_none, any_at, find_first, find_at, count_grows}

@@ -10,7 +10,7 @@ use native.Mathlib.Omega.{arith}
 use lib.ListN.{length}
 use lib.Dec.{ltb}
 use borrow.Author.Tests.{eq-eqb, le-ltb}
-use Rattle.base.specs.Lists.{any, tally}
+use Rattle.base.specs.Lists.{tally}
 use Rattle.base.proofs.Tests.{and_make, or_right, is_false}
 use Rattle.lgs.specs.Market.{Market, Results, outscored}
 use Rattle.lgs.specs.Profiles.{Profile, StudentOptimal, Fits, flip}

@@ -10,7 +10,7 @@ use native.Mathlib.Nat.{add-zero}
 use lib.Dec.{eqb, ltb}
 use lib.ListN.{get_or, take}
 use borrow.Author.Tests.{eqb-true, ne_eqb, ltb-true, ltb-false, le-ltb, not-false}
-use Rattle.base.specs.Lists.{one, tally}
+use Rattle.base.specs.Lists.{tally}
 use Rattle.base.specs.Below.{count_below}
 use Rattle.base.proofs.Tests.{and_left, and_right, or_true, or_false, less?}
 use Rattle.base.proofs.Below.{tabulate_at, tally_before}

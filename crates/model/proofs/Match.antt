@@ -17,7 +17,7 @@ use Rattle.lgs.specs.Market.{Market, Results, student_outside, seats_of}
 use Rattle.lgs.specs.Profiles.{Profile, seated, flip}
 use Rattle.lgs.specs.Rule.{State, going, Interview, interviewed, unopened, open?, choices, due, best, advance, interview_all, close, hand_on, settle}
 use Rattle.lgs.specs.Rule.{apply, turn, step}
-use Rattle.model.specs.Model.{Card, held, told, holding, push, options}
+use Rattle.model.specs.Model.{Card, told, holding, push, options}
 use Rattle.base.proofs.Tests.{never, bool_cases, and_right, eq?}
 use Rattle.base.proofs.Counting.{count_same}
 use Rattle.base.proofs.Members.{in_upto, in_keep, in_rest, update_at, update_off}

@@ -1,6 +1,6 @@
 -- The next student by the links: she is the first, by stage and number, of those who come after the last (model: Stages).
-use Prim.Native.Nat.{ℕ, suc, ◌+◌, ◌≤◌, ◌<◌}
-use mathlib.Core.Path.{◌≡◌, refl, sym, ap, ◌∙◌}
+use Prim.Native.Nat.{ℕ, ◌+◌, ◌≤◌, ◌<◌}
+use mathlib.Core.Path.{◌≡◌, refl, sym, ◌∙◌}
 use mathlib.Core.Logic.{◌⊎◌, inl, inr, ⊎_elim}
 use mathlib.Core.Bool.{true}
 use mathlib.Core.List.{List}
@@ -8,7 +8,7 @@ use native.Mathlib.Omega.{arith}
 use Rattle.base.proofs.Tests.{eq?, less?}
 use Rattle.format.specs.Engine.{market_in}
 use Rattle.model.specs.Store.{comes_after, next_in}
-use Rattle.model.proofs.Stages.{Before, First, before_after, after_before, next_first, next_none}
+use Rattle.model.proofs.Stages.{Before, before_after, after_before, next_first, next_none}
 use Rattle.tables.specs.Table.{next_of, head_of, Following, Linked}
 use Rattle.lookup.specs.Clean.{Clean}
 use Rattle.turning.specs.Next.{Ordered, FirstAfter}

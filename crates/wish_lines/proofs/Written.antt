@@ -9,11 +9,10 @@ use mathlib.Core.List.Memᴰ.{head as here}
 use mathlib.Core.List.Memᴰ.{not-nil}
 use mathlib.Core.List.Memᴰ.{tail as later}
 use mathlib.Core.List.{Memᴰ as Mem}
-use mathlib.Core.Option.{none}
 use native.Mathlib.Omega.{arith}
 use borrow.Author.Tests.{eq-eqb, ne_eqb, lt-ltb}
 use lib.Dec.{eqb, ltb}
-use Rattle.base.specs.Lists.{one, any, tally, upto}
+use Rattle.base.specs.Lists.{any, tally, upto}
 use Rattle.base.proofs.Tests.{bool_cases}
 use Rattle.base.proofs.Members.{in_upto, upto_in, in_keep, keep_in}
 use Rattle.lgs.specs.Market.{Market}

@@ -1,7 +1,7 @@
 -- What is promised of the two parts for wish lines. An answer comes about in one of three ways: by the case's causes, by the room, or by the part's own work.
-use Prim.Native.Nat.{ℕ, ◌+◌, ◌≤◌, ◌<◌}
+use Prim.Native.Nat.{ℕ, ◌≤◌, ◌<◌}
 use mathlib.Core.Path.{◌≡◌, refl, sym, ap, ◌∙◌}
-use mathlib.Core.Logic.{◌⊎◌, inl, inr, ⊎_elim}
+use mathlib.Core.Logic.{inl, inr, ⊎_elim}
 use mathlib.Core.List.{List, [], ◌++◌}
 use mathlib.Core.List.Memᴰ.{append_left as in_left}
 use mathlib.Core.List.Memᴰ.{append_right as in_right}
@@ -16,7 +16,7 @@ use Rattle.base.proofs.Tests.{less?}
 use Rattle.base.proofs.Below.{tabulate_length, tally_le}
 use Rattle.lgs.specs.Market.{Market}
 use Rattle.format.specs.Layout.{row_at, rows, row_count, of_kind}
-use Rattle.format.specs.Causes.{Cause, whole, first_cause, NothingFound}
+use Rattle.format.specs.Causes.{Cause, first_cause, NothingFound}
 use Rattle.format.specs.Refusals.{case_causes}
 use Rattle.format.specs.Engine.{market_in}
 use Rattle.format.proofs.Causes.{table_none, none_table, table_some, first_left, first_right, other_number}

@@ -1,5 +1,4 @@
 -- `bits::without_lowest` meets its contract. `&` with the number before takes the lowest member out (`lowest_law`), and is no more than that number.
-use Prim.Native.Nat.{◌-◌}
 use native.Mathlib.Omega.{arith}
 use Rattle.bits.proofs.LowestDigit.{lowest_law}
 use Rattle.bits.proofs.without_lowest.Goals as goal

@@ -1,4 +1,4 @@
-use Rattle.std.proofs.Common.{◌≡◌, ◌-◌, ◌<◌, List, [], ◌∙◌, ap, sym, refl, arith, length, drop, set, drop-cons, add-one}
+use Rattle.std.proofs.Common.{◌≡◌, ◌<◌, List, ◌∙◌, ap, sym, arith, length, drop, set, drop-cons, add-one}
 use lib.Seq.{drop-length}
 use Rattle.api.specs.declared.StudentState.{StudentState}
 use Rattle.api.specs.Answered.{zero_state}

@@ -1,5 +1,5 @@
 -- `engine::place` meets its contract: a refusal at once, or what the run leaves.
-use Rattle.std.proofs.Common.{◌≡◌, ◌∙◌, sym, ap, subst, ℕ, List, length, replicate}
+use Rattle.std.proofs.Common.{◌∙◌, sym, ap, subst, ℕ, length, replicate}
 use Rattle.api.specs.Answered.{zero_state, lent, room_of}
 use Rattle.answering.specs.Call.{TestedInput, Runnable}
 use Rattle.answering.proofs.Composing.{answered_refused, runnable, answered_ran}

@@ -1,4 +1,4 @@
-use Rattle.std.proofs.Common.{◌≡◌, List, ℕ, ◌∙◌, ap, sym, refl, arith, set}
+use Rattle.std.proofs.Common.{List, ℕ, ◌∙◌, ap, refl, arith, set}
 use Rattle.format.proofs.Heads.{head_none, head_on}
 use Rattle.answering.specs.Finish.{held_at}
 use Rattle.engine.proofs.read_places.Goals as goal

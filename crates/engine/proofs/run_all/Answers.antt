@@ -1,8 +1,7 @@
-use Rattle.std.proofs.Common.{◌≡◌, ◌<◌, ◌∙◌, sym, refl, ap, arith}
+use Rattle.std.proofs.Common.{◌∙◌, sym, arith}
 use Rattle.lgs.specs.Rule.{fuel}
 use Rattle.format.specs.Engine.{market_in, results_in}
 use Rattle.model.specs.Turn.{run_of}
-use Rattle.engine.specs.Runs.{whole_run}
 use Rattle.engine.proofs.Runs.{run_here, left_less}
 use Rattle.engine.proofs.Going.{turned, same_end}
 use Rattle.engine.proofs.run_all.Goals as goal

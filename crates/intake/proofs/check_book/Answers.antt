@@ -11,7 +11,7 @@ use Rattle.base.proofs.Search.{some_by, none_by}
 use Rattle.format.specs.Layout.{rows, entries, entry_count}
 use Rattle.format.specs.Refusals.{bad_tie}
 use Rattle.case_tests.proofs.Cases.{few, sound, whole_none, whole_some, clean_as}
-use Rattle.book_tests.specs.Index.{Prepared, bad_any, lent_index, index_after}
+use Rattle.book_tests.specs.Index.{Prepared, bad_any, lent_index}
 use Rattle.book_tests.proofs.Books.{book_7, book_11, book_clean, refused_with}
 use Rattle.book_tests.proofs.Indexing.{all_paired, all_scored, all_fresh}
 use Rattle.ties.specs.Ties.{Indexed}

@@ -1,5 +1,5 @@
 -- `line_reader::digits` meets its contract. The invariant: what was read and what is left make the whole number.
-use Prim.Native.Nat.{◌+◌, ◌-◌, ◌*◌}
+use Prim.Native.Nat.{◌+◌, ◌*◌}
 use mathlib.Core.Path.{sym, ap, ◌∙◌}
 use Rattle.line_reader.specs.Items.{cap}
 use Rattle.line_reader.proofs.Taking.{counting_on, counting_stops, counting_ends}

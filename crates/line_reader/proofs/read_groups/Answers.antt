@@ -1,5 +1,4 @@
 -- `line_reader::read_groups` meets its contract. The invariant is `Going`: the whole groups and the items of the group in hand.
-use Prim.Native.Nat.{◌-◌}
 use mathlib.Core.Path.{refl}
 use Rattle.line_reader.proofs.Reading.{going_start, going_line, going_on, going_ends}
 use Rattle.line_reader.proofs.read_groups.Goals as goal

@@ -1,5 +1,4 @@
 -- `line_writer::put_lines` meets its contract. The invariant: the lines of the first s students are put.
-use Prim.Native.Nat.{◌-◌}
 use mathlib.Core.Path.{◌≡◌}
 use native.Mathlib.Omega.{arith}
 use Rattle.putting.proofs.Laws.{put_none}

@@ -1,5 +1,4 @@
 -- `seating::settle` meets its contract. The invariant: seat i is free for x, and whoever was behind has moved on (`Settling`).
-use Prim.Native.Nat.{◌-◌}
 use Rattle.format.specs.Engine.{market_in, results_in}
 use Rattle.seating.proofs.Laws.{Settling}
 use Rattle.seating.proofs.settle.Given as goal

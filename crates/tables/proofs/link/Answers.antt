@@ -1,5 +1,4 @@
 -- `tables::link` meets its contract. The invariant: the students after s are linked (`Linking`).
-use Prim.Native.Nat.{◌-◌}
 use native.Mathlib.Omega.{arith}
 use Rattle.tables.proofs.Links.{linking_more, stage_read}
 use Rattle.tables.proofs.link.Goals as goal

@@ -1,5 +1,5 @@
 -- `tables::link` meets its contract. The invariant: the students after s are linked (`Linking`).
-use Prim.Native.Nat.{◌-◌, ◌≤◌}
+use Prim.Native.Nat.{◌≤◌}
 use Rattle.format.specs.Engine.{market_in}
 use Rattle.tables.proofs.Links.{Linking}
 use Rattle.tables.proofs.link.Given as goal

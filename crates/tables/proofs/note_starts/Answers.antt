@@ -1,5 +1,4 @@
 -- `tables::note_starts` meets its contract. The invariant: the starts of the workshops before w, and the sum so far with a bound so that it does not wrap.
-use Prim.Native.Nat.{◌-◌}
 use mathlib.Core.Path.{sym}
 use native.Mathlib.Omega.{arith}
 use Rattle.format.specs.Engine.{market_in}

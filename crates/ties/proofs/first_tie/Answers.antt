@@ -1,5 +1,5 @@
 -- `ties::first_tie` meets its contract. The invariant: `low` is lowered by the first s students.
-use Prim.Native.Nat.{◌+◌, ◌-◌, ◌≤◌}
+use Prim.Native.Nat.{◌+◌, ◌≤◌}
 use mathlib.Core.Path.{◌≡◌}
 use native.Mathlib.Omega.{arith}
 use Rattle.format.specs.Layout.{entry_count}

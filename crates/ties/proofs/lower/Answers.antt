@@ -1,5 +1,4 @@
 -- `ties::lower` meets its contract. The invariant is `LoweredBy` for the first j.
-use Prim.Native.Nat.{◌-◌}
 use native.Mathlib.Omega.{arith}
 use Rattle.ties.proofs.Lowering.{by_on}
 use Rattle.ties.proofs.lower.Goals as goal

@@ -1,5 +1,5 @@
 -- `ties::tie_of` meets its contract. The invariant: her records of the first k pairs are gathered, their slots are met, and `after` is lowered by them.
-use Prim.Native.Nat.{ℕ, ◌+◌, ◌-◌, ◌≤◌, ◌<◌}
+use Prim.Native.Nat.{ℕ, ◌+◌, ◌≤◌, ◌<◌}
 use mathlib.Core.Path.{◌≡◌, refl, ◌∙◌}
 use native.Mathlib.Omega.{arith}
 use Rattle.format.specs.Layout.{entry_at, entry_count}

@@ -1,7 +1,6 @@
 -- `turning::apply_to` meets its contract. What `seat_at` and `after_seating` ensure, as the model has it.
 use Rattle.format.specs.Engine.{market_in, results_in}
 use Rattle.seating.proofs.Laws.{positive}
-use Rattle.turning.proofs.Next.{ordered}
 use Rattle.turning.proofs.Turns.{apply_none, apply_some, long_to}
 use Rattle.turning.proofs.apply_to.Goals as goal
 

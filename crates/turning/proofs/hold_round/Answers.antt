@@ -1,11 +1,11 @@
 -- `turning::hold_round` meets its contract. The invariant is `Going`: how far the list of the tier's workshops has been gone over, and what the round
 -- so far has given.
-use Prim.Native.Nat.{ℕ, ◌+◌, ◌-◌, ◌*◌, ◌≤◌, ◌<◌}
+use Prim.Native.Nat.{ℕ, ◌≤◌, ◌<◌}
 use mathlib.Core.Path.{◌≡◌, refl, sym, ◌∙◌}
 use mathlib.Core.Bool.{true, false}
 use mathlib.Core.List.{List}
 use native.Mathlib.Omega.{arith}
-use lib.ListN.{length, get_or}
+use lib.ListN.{get_or}
 use Rattle.format.specs.Layout.{row_count}
 use Rattle.records.specs.Records.{pair_place}
 use Rattle.format.specs.Engine.{market_in, results_in}

@@ -1,5 +1,5 @@
 -- `turning::list_tier` meets its contract. The invariant is `Listing`: which of her first k pairs have been listed.
-use Prim.Native.Nat.{◌+◌, ◌-◌}
+use Prim.Native.Nat.{◌+◌}
 use mathlib.Core.Path.{refl, sym, ap, ◌∙◌}
 use native.Mathlib.Omega.{arith}
 use Rattle.base.specs.Lists.{one}

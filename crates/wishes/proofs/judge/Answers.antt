@@ -2,11 +2,11 @@
 use Prim.Native.Nat.{suc, ◌+◌, ◌-◌, ◌*◌}
 use mathlib.Core.Path.{◌≡◌, refl, sym, ap, ◌∙◌, subst}
 use native.Mathlib.Omega.{arith}
-use lib.ListN.{length, drop, length-drop}
+use lib.ListN.{length-drop}
 use Rattle.format.specs.Engine.{market_in}
 use Rattle.wish_lines.specs.Reading.{refused}
 use Rattle.wish_lines.proofs.Ranged.{ranged}
-use Rattle.wishes.proofs.Working.{few, passed, part_within}
+use Rattle.wishes.proofs.Working.{passed, part_within}
 use Rattle.wishes.proofs.Judging.{Passed, passed_none, passed_on, passed_fault, passed_over, passed_all, narrow}
 use Rattle.wishes.proofs.Judging.{part_below, part_own, part_long}
 use Rattle.wishes.proofs.judge.Goals as goal

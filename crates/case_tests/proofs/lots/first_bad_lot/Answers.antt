@@ -1,5 +1,4 @@
 -- `case_tests::lots::first_bad_lot` meets its contract. The invariant: the lots so far pass, and are those in the set.
-use Prim.Native.Nat.{◌-◌}
 use mathlib.Core.Path.{◌≡◌, refl, ◌∙◌, sym}
 use native.Mathlib.Omega.{arith}
 use Rattle.base.proofs.Search.{scan_found}

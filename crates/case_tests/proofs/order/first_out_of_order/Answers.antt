@@ -1,5 +1,5 @@
 -- `case_tests::order::first_out_of_order` meets its contract. The invariant: the records so far are in order, and counted.
-use Prim.Native.Nat.{◌-◌, ◌<◌}
+use Prim.Native.Nat.{◌<◌}
 use mathlib.Core.Path.{◌∙◌, sym}
 use native.Mathlib.Omega.{arith}
 use Rattle.base.proofs.Search.{scan_found, none_fails}

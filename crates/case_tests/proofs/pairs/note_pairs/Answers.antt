@@ -1,5 +1,5 @@
 -- `case_tests::pairs::note_pairs` meets its contract. The invariant: the table has the pairs of students 1 to s, which stand before record i and pass.
-use Prim.Native.Nat.{suc, ◌+◌, ◌-◌}
+use Prim.Native.Nat.{suc, ◌+◌}
 use mathlib.Core.Path.{◌≡◌}
 use native.Mathlib.Omega.{arith}
 use Rattle.case_tests.proofs.Noting.{shelved_none, shelved_more}

@@ -1,5 +1,4 @@
 -- `case_tests::pairs::take_pile` meets its contract. The invariant: her pairs before record i, the last with workshop `last` (`Piling`, `Trail`).
-use Prim.Native.Nat.{◌-◌}
 use native.Mathlib.Omega.{arith}
 use Rattle.base.proofs.Tests.{never}
 use Rattle.case_tests.specs.Pairs.{NextPair}

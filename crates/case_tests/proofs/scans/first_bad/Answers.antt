@@ -1,5 +1,4 @@
 -- `case_tests::scans::first_bad` meets its contract. The invariant: none of the first i is bad. One proof for both causes.
-use Prim.Native.Nat.{◌-◌}
 use mathlib.Core.Path.{refl, ◌∙◌, sym}
 use native.Mathlib.Omega.{arith}
 use Rattle.base.specs.Search.{first_bad}

@@ -1,5 +1,4 @@
 -- `line_writer::groups::put_groups` meets its contract. The invariant: the groups of the tiers before t are put.
-use Prim.Native.Nat.{◌-◌}
 use native.Mathlib.Omega.{arith}
 use native.Mathlib.Numerals.{add-one}
 use Rattle.putting.proofs.Laws.{put_then}

@@ -1,5 +1,5 @@
 -- `line_writer::sets::gather` meets its contract. The invariant: the workshops of the first k of her records are in the sets (`Gathering`), none above `last`.
-use Prim.Native.Nat.{◌<◌, ◌-◌}
+use Prim.Native.Nat.{◌<◌}
 use mathlib.Core.Path.{◌≡◌}
 use native.Mathlib.Omega.{arith}
 use native.Mathlib.Nat.{max-le}

@@ -1,5 +1,4 @@
 -- `stages::raising::climb` meets its contract. The invariant: the tiers before g have climbed (`Climbing`).
-use Prim.Native.Nat.{◌-◌}
 use native.Mathlib.Omega.{arith}
 use Rattle.stages.proofs.Raises.{climbing_more, climbed}
 use Rattle.stages.proofs.raising.climb.Goals as goal

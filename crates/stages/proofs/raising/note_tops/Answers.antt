@@ -1,5 +1,5 @@
 -- `stages::raising::note_tops` meets its contract. The invariant: the tiers and tops of the first s students (`Noted`), and how many kinds they have.
-use Prim.Native.Nat.{ℕ, suc, ◌-◌}
+use Prim.Native.Nat.{ℕ, suc}
 use mathlib.Core.Path.{◌≡◌, refl, ◌∙◌, ap}
 use mathlib.Core.Bool.{◌||◌}
 use native.Mathlib.Omega.{arith}

@@ -1,5 +1,4 @@
 -- `stages::rounds::round` meets its contract. The invariant: the workshops before w have had their turn (`Rounding`).
-use Prim.Native.Nat.{◌-◌}
 use mathlib.Core.Path.{◌≡◌, ◌∙◌, sym, ap}
 use native.Mathlib.Omega.{arith}
 use Rattle.format.specs.Engine.{market_in}

@@ -1,5 +1,5 @@
 -- `wishes::copying::copy_bytes` meets its contract. The invariant: the first i bytes are written.
-use Prim.Native.Nat.{ℕ, ◌-◌}
+use Prim.Native.Nat.{ℕ}
 use mathlib.Core.Path.{◌≡◌, ◌∙◌, ap}
 use native.Mathlib.Omega.{arith}
 use lib.ListN.{length, get_or, set}

@@ -1,5 +1,5 @@
 -- `wishes::copying::put_student` meets its contract. The invariant: the student's record and the first k of her pairs' are written.
-use Prim.Native.Nat.{ℕ, ◌+◌, ◌-◌}
+use Prim.Native.Nat.{ℕ, ◌+◌}
 use mathlib.Core.Path.{refl, ◌∙◌, ap}
 use native.Mathlib.Omega.{arith}
 use lib.ListN.{length, get_or}
