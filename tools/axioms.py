@@ -13,7 +13,12 @@ ROOT = os.path.dirname(os.path.dirname(os.path.abspath(__file__)))
 sys.dont_write_bytecode = True
 from layers import read_crates
 
-PROGRAM_RESTS_ON = []
+# The C functions behind std's trait of files, all of them though the program only opens, reads and closes, and behind its writer.
+PROGRAM_RESTS_ON = {
+    "libc": "chmod chown close fchmod fdatasync flock fsync ftruncate futimens lchown link lseek mkdir net::bind pipe2 read readlink realpath rename rmdir "
+            "statx symlink unlink write",
+    "os::c": "__xpg_strerror_r fcntl getdents64 open rattle_errno rattle_open_dir_at rattle_set_errno unlinkat",
+}
 KIT = {"core", "io", "libc", "os", "std", "std_alloc", "std_collections", "std_heap", "std_io"}    # the standard library's, passed to every crate
 tally = {"passed": 0, "failed": 0}
 
@@ -63,7 +68,8 @@ def main():
     check("the library rests on no assumed contract", rests_on(library) == [], rests_on(library))
     loaded, expected = read(library)[1] - KIT, below("exports", crates)
     check("the library is made of the crates below exports, and of nothing else", loaded == expected, f"{sorted(loaded ^ expected)}")
-    check("the program rests on the assumed contracts that docs/PROMISES.md names", rests_on(program) == PROGRAM_RESTS_ON, rests_on(program))
+    known = sorted(f"{crate}::{name}" for crate, names in PROGRAM_RESTS_ON.items() for name in names.split())
+    check("the program rests on the assumed contracts that docs/PROMISES.md names", rests_on(program) == known, rests_on(program))
     print(f"{tally['passed']} passed, {tally['failed']} failed")
     return 1 if tally["failed"] else 0
 
