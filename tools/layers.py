@@ -22,7 +22,7 @@ def read_crates(path):
             note = line[1:].strip()
         elif ":" in line:
             name, deps = line.split(":", 1)
-            crates[name.strip()] = (deps.split(), note)
+            crates[name.split()[0]] = (deps.split(), note)
             note = ""
     return {name: ([d for d in deps if d in crates], note) for name, (deps, note) in crates.items()}
 

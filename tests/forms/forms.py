@@ -1,6 +1,7 @@
-"""Paper 5: the number of the book's records is found by a shift and never by a division."""
+"""The number of the book's records is found by a shift and never by a division."""
 
-import re
+import json
+import os
 import subprocess
 import sys
 
@@ -14,38 +15,45 @@ def check(name, good, seen):
 
 
 def mir(crate):
-    """The crate's operations, as one text; nothing where they cannot be had."""
-    run = subprocess.run(["rt", "mir", crate], capture_output=True, text=True, stdin=subprocess.DEVNULL)
-    check(f"rt mir {crate}", run.returncode == 0 and "(fn-def " in run.stdout, run.stdout + run.stderr)
-    return run.stdout
+    """The operations of each function of the crate, by its name; none where they cannot be had."""
+    folder = os.path.join("crates", crate)
+    run = subprocess.run(["rt", "lib"], cwd=folder, capture_output=True, text=True, stdin=subprocess.DEVNULL)
+    try:
+        with open(os.path.join(folder, "out", "rlib", crate + ".rlib", "toolchain", "mir.json"), encoding="utf-8") as file:
+            functions = {name: function["body"] for name, function in json.load(file)}
+    except OSError:
+        functions = {}
+    check(f"the operations of {crate}", run.returncode == 0 and len(functions) > 0, run.stdout + run.stderr)
+    return functions
 
 
-def body(text, function):
-    """The definition of a function, from its bracket to the one that closes it; nothing where there is not exactly one."""
-    starts = [found.start() for found in re.finditer(re.escape(f'(fn-def "{function}" '), text)]
-    if len(starts) != 1:
-        return ""
-    depth = 0
-    for place in range(starts[0], len(text)):
-        depth += {"(": 1, ")": -1}.get(text[place], 0)
-        if depth == 0:
-            return text[starts[0] : place + 1]
-    return ""
+def operations(body):
+    """The operations and the calls of a body, each as its name and what it is applied to."""
+    if isinstance(body, list):
+        return [found for part in body for found in operations(part)]
+    found = []
+    for word, inside in body.items() if isinstance(body, dict) else []:
+        if word in ("Op1", "Op2"):
+            # The name stands alone, or as the one key beside the signs of the operands.
+            found.append(("".join(inside[0]), inside[1:]))
+        elif word == "Call":
+            found.append((word, inside))
+        found += operations(inside)
+    return found
 
 
-def operations(text):
-    """The names of the operations with one and with two operands, and of the calls."""
-    return re.findall(r"\(op[12] \(?([a-z]+)", text) + re.findall(r"\((call) ", text)
+def names(found):
+    return [name for name, _ in found]
 
 
 def main():
     records = mir("records")
-    count = body(records, "records::entry_count")
-    check("entry_count is one shift, with no division and no call", operations(count) == ["shr"], count)
-    check("entry_count shifts by 3", re.search(r"\(op2 \(shr unsigned\) .*\(int 64 3\)\)", count) is not None, count)
+    count = operations(records.get("records::entry_count"))
+    check("entry_count is one shift, with no division and no call", names(count) == ["Shr"], str(count))
+    check("entry_count shifts by 3", [applied[-1] for _, applied in count] == [{"Int": {"width": 64, "value": 3}}], str(count))
     # A division would be seen: the case's count of records is found by one.
-    rows = body(records, "records::row_count")
-    check("row_count is one division", operations(rows) == ["div"], rows)
+    rows = operations(records.get("records::row_count"))
+    check("row_count is one division", names(rows) == ["Div"], str(rows))
     print(f"{sum(RESULTS)} passed, {len(RESULTS) - sum(RESULTS)} failed")
     return 0 if all(RESULTS) else 1
 
