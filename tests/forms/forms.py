@@ -34,8 +34,8 @@ def operations(body):
     found = []
     for word, inside in body.items() if isinstance(body, dict) else []:
         if word in ("Op1", "Op2"):
-            # The name stands alone, or as the one key beside the signs of the operands.
-            found.append(("".join(inside[0]), inside[1:]))
+            # The name stands alone, or as the one key beside the sign of the operands.
+            found.append((inside[0] if isinstance(inside[0], str) else " ".join([*inside[0], *map(str, inside[0].values())]), inside[1:]))
         elif word == "Call":
             found.append((word, inside))
         found += operations(inside)
@@ -49,11 +49,11 @@ def names(found):
 def main():
     records = mir("records")
     count = operations(records.get("records::entry_count"))
-    check("entry_count is one shift, with no division and no call", names(count) == ["Shr"], str(count))
+    check("entry_count is one shift, with no division and no call", names(count) == ["Shr Unsigned"], str(count))
     check("entry_count shifts by 3", [applied[-1] for _, applied in count] == [{"Int": {"width": 64, "value": 3}}], str(count))
     # A division would be seen: the case's count of records is found by one.
     rows = operations(records.get("records::row_count"))
-    check("row_count is one division", names(rows) == ["Div"], str(rows))
+    check("row_count is one division", names(rows) == ["Div Unsigned"], str(rows))
     print(f"{sum(RESULTS)} passed, {len(RESULTS) - sum(RESULTS)} failed")
     return 0 if all(RESULTS) else 1
 

@@ -112,7 +112,7 @@ module _ (f g : ℕ → ℕ) where
   total_less zero k l u le less = absurd (omega arith)
   total_less (suc n) k l u le less =
       ⊎_elim (λ (e : k ≡ suc n). let less' : f (suc n) < g (suc n) = rw e at less in omega (arith, total_le n le))
-      (λ (k-less : k < suc n). omega (arith, le (suc n), total_less n k l (omega arith) le less))
+      (λ (k_less : k < suc n). omega (arith, le (suc n), total_less n k l (omega arith) le less))
       (eq-or-lt_of_le u)
 
   pub total_apart : (n : ℕ) → ((s : ℕ) → suc (f s) ≤ g s) → total f n + n ≤ total g n

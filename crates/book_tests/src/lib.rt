@@ -106,7 +106,7 @@ fn step(
     moved(s)
 }
 
-// Reads record after record and tests it, until none is left to read. One reader goes over the book; the function that keeps it is walked by hand.
+// Reads record after record and tests it, until none is left to read. One reader goes over the book.
 fn scan_on(
     cause: u16,
     case: &[u8],

@@ -1,5 +1,5 @@
-// The engine: a case and a book are answered in lent memory. A slice of students' states is a slice of structs, which the borrow checker does not
-// cover: the functions here that have one are proved by a walk of their MIR, and what they call beside each other is covered.
+// The engine: a case and a book are answered in lent memory. The functions here go over the students' states: they take one state out of the lent slice,
+// call what works on values and plain slices, and put the result back.
 #![tactic(auto)]
 
 ghost use Rattle.std.specs.Prelude.{◌≡◌, length, replicate};
@@ -149,7 +149,7 @@ fn run(
     answering::finish(&mut *seats, r)
 }
 
-// The same with the states of 512 students made here: no slice of structs is lent, so its callers need no walk.
+// The same with the states of 512 students made here, for callers that lend none.
 pub fn run_alone(
     case: &[u8],
     book: &[u8],

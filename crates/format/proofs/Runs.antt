@@ -69,8 +69,8 @@ module _ (case book : List ℕ) (room : Room) where
       by_run : Valid case book room → (x : Step) → rule ≡ x → outcome_of (market_in case) x ≡ placed places vs fares → Finished places vs fares
       by_run valid (finished p us) run q =
           let same : us ≡ vs = cc in
-          let same-fares : fares_of (market_in case) us ≡ fares = cc in
-          record { valid = valid; matching = p; run = run ∙ ap (finished p) same; whole = cc; cost = sym same-fares ∙ ap (fares_of (market_in case)) same }
+          let same_fares : fares_of (market_in case) us ≡ fares = cc in
+          record { valid = valid; matching = p; run = run ∙ ap (finished p) same; whole = cc; cost = sym same_fares ∙ ap (fares_of (market_in case)) same }
       by_run valid (stopped s w us) run q = let z : ◌≡◌ {A = ℕ} 0 1 = cc in absurd (omega arith)
       by_run valid (going σ) run q = absurd (ends valid σ run)
 
@@ -84,11 +84,11 @@ module _ (case book : List ℕ) (room : Room) where
       by_run : (x : Step) → outcome_of (market_in case) x ≡ next s w vs fares → (x ≡ stopped s w vs) × (fares ≡ fares_of (market_in case) vs)
       by_run (finished p us) q = let z : ◌≡◌ {A = ℕ} 0 1 = cc in absurd (omega arith)
       by_run (stopped t d us) q =
-          let same-student : t ≡ s = cc in
-          let same-workshop : d ≡ w = cc in
-          let same-list : us ≡ vs = cc in
-          let same-fares : fares_of (market_in case) us ≡ fares = cc in
-          (rw (same-student, same-workshop, same-list), sym same-fares ∙ ap (fares_of (market_in case)) same-list)
+          let same_student : t ≡ s = cc in
+          let same_workshop : d ≡ w = cc in
+          let same_list : us ≡ vs = cc in
+          let same_fares : fares_of (market_in case) us ≡ fares = cc in
+          (rw (same_student, same_workshop, same_list), sym same_fares ∙ ap (fares_of (market_in case)) same_list)
       by_run (going σ) q = let z : ◌≡◌ {A = ℕ} 0 1 = cc in absurd (omega arith)
 
   -- what the rule's theorems say of the two

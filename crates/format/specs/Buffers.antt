@@ -24,9 +24,9 @@ visits_after (placed places vs fares) old = with_head (flat vs) old
 visits_after (next s w vs fares) old = with_head (flat vs) old
 visits_after (refused k i) old = old
 
--- "After each answer all scratch is zero, over its whole lent length", whatever it held; `zeroEntry` is the entry that is all zero
+-- "After each answer all scratch is zero, over its whole lent length", whatever it held; `zero_entry` is the entry that is all zero
 abbrev pub scratch_after : {A : Type 0} → A → List A → List A
-scratch_after zeroEntry old = replicate (length old) zeroEntry
+scratch_after zero_entry old = replicate (length old) zero_entry
 
 -- The values of an answer: of a placement "the visit count", of a next visit "the pair and the count of visits already done", of both what these visits
 -- cost (document 02, Paper 4); of a refusal its number and place.

@@ -92,7 +92,7 @@ module _ (M : Market) (B : Results) (O : Profile) (Vs : ℕ → ℕ → Bool) (E
     abbrev pub advanced : State
     advanced = with_interviews (advance M B σ s) (σ.interviews ++ interviews_with s (due M B σ s))
 
-    module _ (inVs : (w : ℕ) → Mem w (due M B σ s) → Vs s w ≡ true) where
+    module _ (in_vs : (w : ℕ) → Mem w (due M B σ s) → Vs s w ≡ true) where
       -- her own tier is one higher, and the others' are as they were
       mine : (t : ℕ) → t ≡ s → advanced.reached t ≡ suc (σ.reached s)
       mine t e = update_at σ.reached s (suc (σ.reached s)) t e
@@ -119,7 +119,7 @@ module _ (M : Market) (B : Results) (O : Profile) (Vs : ℕ → ℕ → Bool) (E
           subst (λ u. Seen M Vs advanced u w) (sym r.0)
           (record {
             pair = k.pair;
-            seen = inVs w (in_due w k);
+            seen = in_vs w (in_due w k);
             tier = omega (arith, k.tier, mine s refl);
             outside = not_beyond s w k.kept;
             seats = not_seatless s w k.kept;

@@ -69,7 +69,7 @@ module _ (M : Market) (B : Results) where
         why (taken f a) = omega (arith, a x e)
 
     -- a dropped student loses the workshop
-    module _ (c : ℕ) (pos : 0 < c) (k : Chosen M B O B.met σ s c) (open-c : open? M B σ s c ≡ true) (x : ℕ)
+    module _ (c : ℕ) (pos : 0 < c) (k : Chosen M B O B.met σ s c) (open_c : open? M B σ s c ≡ true) (x : ℕ)
         (low : Lowest M B O B.met E σ (joined_state M B σ s rest c) c (λ y v. I.seen y c v) x)
         (over : M.quota c < seated M (update σ.held s c) c) where
       abbrev after : State
@@ -83,7 +83,7 @@ module _ (M : Market) (B : Results) where
 
       pub before_kept : σ.deleted x c ≡ false
       before_kept =
-          ⊎_elim (λ (e : x ≡ s). rw e (open_parts M B σ s c open-c).kept)
+          ⊎_elim (λ (e : x ≡ s). rw e (open_parts M B σ s c open_c).kept)
           (λ off. holder_kept x c pos (sym (update_off σ.held s c x off) ∙ low.holder))
           (eq? x s)
 

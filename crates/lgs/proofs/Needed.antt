@@ -116,17 +116,17 @@ module _ (M : Market) (B : Results) (O : Profile) (Vs : ℕ → ℕ → Bool) (E
         better : (h : ℕ) → σ.held h ≡ c
             → (1 ≤ h → h ≤ M.students → (eqb (σ.held h) c && leb (M.workshop_tier c t) (M.workshop_tier c h)) ≡ false)
             → M.workshop_tier c h < M.workshop_tier c t
-        better h e no-h =
+        better h e no_h =
             let k : Chosen M B O Vs σ h (σ.held h) = I.chosen h (rw e (E.wf.workshop t c p).0) in
             let r : (1 ≤ h) × (h ≤ M.students) = E.wf.student h (σ.held h) (I.seen h (σ.held h) (k.real (rw e (E.wf.workshop t c p).0)).0).pair in
-            leb-false _ _ (rw (eq-eqb _ _ e) at (no-h r.0 r.1))
+            leb-false _ _ (rw (eq-eqb _ _ e) at (no_h r.0 r.1))
 
-    module _ (due-kept : (w : ℕ) → Mem w (due M B σ s) → (M.paired s w ≡ true) × (σ.deleted s w ≡ false)) where
+    module _ (due_kept : (w : ℕ) → Mem w (due M B σ s) → (M.paired s w ≡ true) × (σ.deleted s w ≡ false)) where
       interviews_needed : (σ' : State) → σ'.interviews ≡ σ.interviews ++ interviews_with s (due M B σ s) → σ'.held ≡ σ.held
           → σ'.deleted ≡ σ.deleted → σ'.waiting ≡ σ.waiting → Needed M σ'
       interviews_needed σ' ev eh ed ew =
           record {
-            room = λ t c v. rw eh (cases t c (rw ev at v) (λ o. N.room t c o) (λ e m. rw e (undeleted s c (due-kept c m).0 (due-kept c m).1)));
+            room = λ t c v. rw eh (cases t c (rw ev at v) (λ o. N.room t c o) (λ e m. rw e (undeleted s c (due_kept c m).0 (due_kept c m).1)));
             shut = λ t c p f a. rw ed (N.shut t c p (rw eh at f) (rw eh at a));
             early = λ t w u v m.
                 cases t w (rw ev at v) (λ o. N.early t w u o (rw ew at m))
@@ -200,8 +200,8 @@ module _ (M : Market) (B : Results) (O : Profile) (Vs : ℕ → ℕ → Bool) (E
 
       module _ (x : ℕ) (low : Lowest M B O Vs E σ (joined_state M B σ s rest c) c (λ y v. I.seen y c v) x)
           (over : M.quota c < seated M (update σ.held s c) c) where
-        x-seen : Seen M Vs σ x c
-        x-seen = I.seen x c ((choosers₁ M B O Vs E σ I s rest wait c pos k x low.holder).real pos).0
+        x_seen : Seen M Vs σ x c
+        x_seen = I.seen x c ((choosers₁ M B O Vs E σ I s rest wait c pos k x low.holder).real pos).0
 
         reach : (t : ℕ) → interviewed σ.interviews t c ≡ true → Reachable M (update (update σ.held s c) x 0) t c
         reach t v = ⊎_elim same (λ (ne : s ≡ x → ⊥). inr (s, update_off _ x 0 s ne ∙ update_at σ.held s c s refl, no_better t v)) (eq? s x)
@@ -217,8 +217,8 @@ module _ (M : Market) (B : Results) (O : Profile) (Vs : ℕ → ℕ → Bool) (E
 
         hand_before : M.stage s ≤ M.stage x
         hand_before =
-            worse_later M agree c s x (rivals M Vs σ c s x (I.seen s c (k.real pos).0) x-seen)
-            (workshop_no_worse M B O Vs E c s x (real (flip M.paired c) s (I.seen s c (k.real pos).0).pair) (real (flip M.paired c) x x-seen.pair)
+            worse_later M agree c s x (rivals M Vs σ c s x (I.seen s c (k.real pos).0) x_seen)
+            (workshop_no_worse M B O Vs E c s x (real (flip M.paired c) s (I.seen s c (k.real pos).0).pair) (real (flip M.paired c) x x_seen.pair)
             (low.low s (update_at σ.held s c s refl)))
 
         drops_needed : Needed M (close M B (hand_on M B σ (x ∷ rest) (update (update σ.held s c) x 0)) c)

@@ -71,8 +71,8 @@ module _ (M : Market) (O : Profile) (full : Refining M O) where
       → (x : ℕ) → ((h : ℕ) → held h ≡ c → O.workshop_rank c h < O.workshop_rank c x)
       → Unattainable M O x c
   below_holders wf held c pos fullc acc top x low ν st e =
-      let in-x : (1 ≤ x) × (x ≤ M.students) = wf.student x (ν x) (st.matching.acceptable x (rw e pos)).pair in
-      blocked (exchange (λ h. eqb (held h) c) (λ h. eqb (ν h) c) M.students x (omega (arith, st.matching.within c pos)) in-x.0 in-x.1
+      let in_x : (1 ≤ x) × (x ≤ M.students) = wf.student x (ν x) (st.matching.acceptable x (rw e pos)).pair in
+      blocked (exchange (λ h. eqb (held h) c) (λ h. eqb (ν h) c) M.students x (omega (arith, st.matching.within c pos)) in_x.0 in_x.1
       (eq-eqb _ _ e)
       (ne_eqb _ _ (λ (q : held x ≡ c). omega (arith, low x q))))
     where

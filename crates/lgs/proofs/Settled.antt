@@ -177,7 +177,7 @@ module _ (M : Market) where
     move_orderly σ' (interviews empty met e) =
         rw e (record {
           kept = I.kept;
-          came = λ t w v. cases t w v (I.came t w) (λ q m. rw q (due-matters w m));
+          came = λ t w v. cases t w v (I.came t w) (λ q m. rw q (due_matters w m));
           held = λ t l. interviewed_before σ.interviews _ t (σ.held t) (I.held t l);
           range = I.range;
           early = λ t w u v m. cases t w v (λ o. I.early t w u o m) (λ q n. rw q (hand_first u m));
@@ -190,8 +190,8 @@ module _ (M : Market) where
             ⊎_elim old (λ n. let r : (t ≡ s) × Mem w (due M B σ s) = interviewed_of s (due M B σ s) t w n in new r.0 r.1)
             (interviewed_or σ.interviews (interviews_with s (due M B σ s)) t w v)
 
-        due-matters : (w : ℕ) → Mem w (due M B σ s) → matters M w s ≡ true
-        due-matters w m =
+        due_matters : (w : ℕ) → Mem w (due M B σ s) → matters M w s ≡ true
+        due_matters w m =
             let e : (M.paired s w && (eqb (M.student_tier s w) (suc (σ.reached s)) && not (σ.deleted s w))) ≡ true =
             (keep_in _ (upto M.workshops) w m).0 in
             I.kept s w (and_left _ _ e) (not-true _ (and_right (eqb (M.student_tier s w) (suc (σ.reached s))) _ (and_right (M.paired s w) _ e)))

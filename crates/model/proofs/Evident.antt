@@ -37,7 +37,7 @@ pub record Evident (M : Market) (B : Results) (σ : State) : Type 0 where
 
 module _ (M : Market) (B : Results) (O : Profile) (Vs : ℕ → ℕ → Bool) (E : Setting M B O Vs) (σ : State) (I : Inv M B O Vs σ) (N : Evident M B σ) where
   module _ (c : ℕ) (pos : 0 < c) (held' : ℕ → ℕ) (waiting' : List ℕ) (S : Seating M B O Vs σ c held' waiting')
-      (tiers-stay : M.quota c ≤ seated M σ.held c → (u : ℕ) → ((h : ℕ) → σ.held h ≡ c → M.workshop_tier c h < M.workshop_tier c u)
+      (tiers_stay : M.quota c ≤ seated M σ.held c → (u : ℕ) → ((h : ℕ) → σ.held h ≡ c → M.workshop_tier c h < M.workshop_tier c u)
       → (h : ℕ) → held' h ≡ c → M.workshop_tier c h < M.workshop_tier c u) where
     abbrev τ : State
     τ = hand_on M B σ waiting' held'
@@ -74,7 +74,7 @@ module _ (M : Market) (B : Results) (O : Profile) (Vs : ℕ → ℕ → Bool) (E
         (λ (e : d ≡ c).
         let f' : M.quota c ≤ seated M σ.held c = rw e at f in
         let a' : (h : ℕ) → σ.held h ≡ c → M.workshop_tier c h < M.workshop_tier c t = rw e at a in
-        subst (λ v. Far M held' t v) (sym e) (above (S.still_full f') (tiers-stay f' t a')))
+        subst (λ v. Far M held' t v) (sym e) (above (S.still_full f') (tiers_stay f' t a')))
         (λ ne. above (omega (arith, same_seats d ne l)) (λ h q. a h (forth h d ne l q)))
         (eq? d c)
 

@@ -112,11 +112,11 @@ module _ (M : Market) (B : Results) (O : Profile) (E : Setting M B O B.met) wher
     turned x e k q = D.runs ∙ ap (λ j. turns M B j (on m)) q ∙ ap (turns M B k) e
 
     fuelled : {A : Type 0} → ((k : ℕ) → D.left ≡ suc k → A) → A
-    fuelled {A} use-it = by_left D.left refl
+    fuelled {A} use_it = by_left D.left refl
       where
         by_left : (j : ℕ) → D.left ≡ j → A
         by_left zero q = absurd (omega (arith, D.more))
-        by_left (suc k) q = use-it k q
+        by_left (suc k) q = use_it k q
 
     -- the turn leads on
     pub sound_on : (m' : Machine) → take_turn M B m m.waiting ≡ on m' → Sound m' × (weight_of M B O m' < weight_of M B O m)

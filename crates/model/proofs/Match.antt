@@ -261,7 +261,7 @@ module _ (M : Market) (B : Results) (O : Profile) (E : Setting M B O B.met) (σ 
 
     -- her card and those of the others, as she applies
     module _ (C₁ : ℕ → Card) (mine₁ : (t : ℕ) → t ≡ s → C₁ t ≡ holding (C s) c) (theirs₁ : (t : ℕ) → (t ≡ s → ⊥) → C₁ t ≡ C t)
-        (S' : ℕ → List ℕ) (here-zs : S' c ≡ zs) (off : (d : ℕ) → (d ≡ c → ⊥) → S' d ≡ S d) where
+        (S' : ℕ → List ℕ) (here_zs : S' c ≡ zs) (off : (d : ℕ) → (d ≡ c → ⊥) → S' d ≡ S d) where
       reached₁ : (t : ℕ) → (C₁ t).reached ≡ (C t).reached
       reached₁ t = ⊎_elim (λ (e : t ≡ s). ap (λ k. k.reached) (mine₁ t e) ∙ ap (λ u. (C u).reached) (sym e))
           (λ ne. ap (λ k. k.reached) (theirs₁ t ne)) (eq? t s)
@@ -284,10 +284,10 @@ module _ (M : Market) (B : Results) (O : Profile) (E : Setting M B O B.met) (σ 
           (λ t. ap (λ z. z.held) (e t) ∙ held₁ t)
           (λ t w o b. rw (e t) (rw (bits₁ t) b))
           (λ t w b. rw (bits₁ t) at (rw (e t) at b))
-          (rw here-zs P.ranked)
-          (λ h m. joins h (P.inside h (rw here-zs at m)))
-          (λ h q. rw here-zs (⊎_elim (λ m. m) (λ z. absurd (omega (arith, (P.room l).0, joiner_pos h q))) (P.kept h (joiner h q))))
-          (ap length here-zs ∙ omega (arith, (P.room l).1, R.size c c_pos))
+          (rw here_zs P.ranked)
+          (λ h m. joins h (P.inside h (rw here_zs at m)))
+          (λ h q. rw here_zs (⊎_elim (λ m. m) (λ z. absurd (omega (arith, (P.room l).0, joiner_pos h q))) (P.kept h (joiner h q))))
+          (ap length here_zs ∙ omega (arith, (P.room l).1, R.size c c_pos))
           off
 
       -- the workshop is full: out is its lowest
@@ -334,13 +334,13 @@ module _ (M : Market) (B : Results) (O : Profile) (E : Setting M B O B.met) (σ 
               (λ ne. ap (λ z. z.held) (other t ne) ∙ held₁ t ∙ sym (update_off joined out 0 t ne)) (eq? t out))
               (λ t w ow b. bits_kept t w (λ et ew. never gone (kept_open (rw (et, ew) at ow))) b)
               bits_were
-              (rw here-zs P.ranked)
-              (λ h m. let m' : Mem h zs = rw here-zs at m in update_off joined out 0 h (stays h m') ∙ joins h (P.inside h m'))
+              (rw here_zs P.ranked)
+              (λ h m. let m' : Mem h zs = rw here_zs at m in update_off joined out 0 h (stays h m') ∙ joins h (P.inside h m'))
               (λ h q.
               let ne : h ≡ out → ⊥ = λ e. omega (arith, update_at joined out 0 h e) in
               let j : joined h ≡ c = sym (update_off joined out 0 h ne) ∙ q in
-              rw here-zs (⊎_elim (λ m. m) (λ e. absurd (ne e)) (P.kept h (joiner h j))))
-              (ap length here-zs ∙ (P.full full).1 ∙ sym left_full)
+              rw here_zs (⊎_elim (λ m. m) (λ e. absurd (ne e)) (P.kept h (joiner h j))))
+              (ap length here_zs ∙ (P.full full).1 ∙ sym left_full)
               off
             where
               left_full : seated M (update joined out 0) c ≡ M.quota c
@@ -369,17 +369,17 @@ module _ (M : Market) (B : Results) (O : Profile) (E : Setting M B O B.met) (σ 
                       (λ ne. ap (λ z. z.held) (other t ne) ∙ held₁ t ∙ update_off σ.held s c t (λ e. ne (e ∙ sym out_hand))) (eq? t out);
                   has = λ t w o. bits_kept t w (λ et ew. never (rw (et ∙ out_hand, ew) at o) shut) (R.has t w o);
                   from = λ t w b. R.from t w (bits_were t w b);
-                  ranked = λ d l. ⊎_elim (λ (e : d ≡ c). rw e (rw here-zs P.ranked)) (λ ne. rw (off d ne) (R.ranked d l)) (eq? d c);
+                  ranked = λ d l. ⊎_elim (λ (e : d ≡ c). rw e (rw here_zs P.ranked)) (λ ne. rw (off d ne) (R.ranked d l)) (eq? d c);
                   sits = λ d h l m.
-                      ⊎_elim (λ (e : d ≡ c). in_zs h (rw here-zs at (rw e at m)) ∙ sym e) (λ ne. R.sits d h l (rw (off d ne) at m)) (eq? d c);
+                      ⊎_elim (λ (e : d ≡ c). in_zs h (rw here_zs at (rw e at m)) ∙ sym e) (λ ne. R.sits d h l (rw (off d ne) at m)) (eq? d c);
                   seat = λ d h l q.
-                      ⊎_elim (λ (e : d ≡ c). subst (λ z. Mem h (S' z)) (sym e) (rw here-zs (zs_in h (q ∙ e)))) (λ ne. rw (off d ne) (R.seat d h l q))
+                      ⊎_elim (λ (e : d ≡ c). subst (λ z. Mem h (S' z)) (sym e) (rw here_zs (zs_in h (q ∙ e)))) (λ ne. rw (off d ne) (R.seat d h l q))
                       (eq? d c);
                   size = λ d l.
                       ⊎_elim
                       (λ (e : d ≡ c).
                       subst (λ z. length (S' z) ≡ seated M σ.held z) (sym e)
-                      (ap length here-zs ∙ omega (arith, (P.full full).1, R.size c c_pos, I.within c c_pos)))
+                      (ap length here_zs ∙ omega (arith, (P.full full).1, R.size c c_pos, I.within c c_pos)))
                       (λ ne. ap length (off d ne) ∙ R.size d l) (eq? d c);
                 }
               where

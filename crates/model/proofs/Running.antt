@@ -76,7 +76,7 @@ module _ (M : Market) (wf : WellFormed M) (B : Results) (distinct : Distinct M B
   E = setting M wf B distinct
 
   -- nobody is in hand: the machine is done
-  module _ (old : List ℕ) (m : Machine) (D : Sound M B O E m) (x : Stand) (W : Shows M old m x) (over-now : x.run.hand ≡ 0) where
+  module _ (old : List ℕ) (m : Machine) (D : Sound M B O E m) (x : Stand) (W : Shows M old m x) (over_now : x.run.hand ≡ 0) where
     nobody : m.waiting ≡ []
     nobody = by_waits m.waiting W.waits
       where
@@ -101,7 +101,7 @@ module _ (M : Market) (wf : WellFormed M) (B : Results) (distinct : Distinct M B
     finished_shown : Finished M B old (λ s. (m.cards s).held) m.interviews x
     finished_shown =
         record {
-          hand = over-now;
+          hand = over_now;
           workshop = W.workshop;
           count = W.count;
           fares = W.fares;

@@ -290,7 +290,7 @@ module _ (M : Market) (B : Results) (old : List ℕ) (fits : M.workshops ≤ 64)
           let n : outside ≡ false = not-true _ (and_right (eqb state.openings 0) _ q) in
           let none : options M B (card_of state) hand ≡ [] =
           ap (λ b. cons_if b 0 (keep (member state.openings) (upto M.workshops))) n ∙ members_none state.openings M.workshops fits inside z in
-          let y-none : ◌≡◌ {A = List ℕ} (y ∷ ys) [] = sym e ∙ none in
+          let y_none : ◌≡◌ {A = List ℕ} (y ∷ ys) [] = sym e ∙ none in
           let bad : ◌≡◌ {A = ℕ} 0 1 = cc in
           omega arith
 

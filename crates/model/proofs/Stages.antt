@@ -239,8 +239,8 @@ module _ (stage : ℕ → ℕ) (n : ℕ) where
   taken last [] K = over (coming_none stage n last K)
   taken last (y ∷ ys) K =
       let r : (next_in stage last n ≡ y) × Coming stage n y ys = coming_next stage n last y ys K in
-      let y-in : (1 ≤ y) × (y ≤ n) = (K.member y (here refl)).0 in
-      subst (λ h. Waits h h (y ∷ ys)) (sym r.0) (holds y-in.0 y-in.1 r.1)
+      let y_in : (1 ≤ y) × (y ≤ n) = (K.member y (here refl)).0 in
+      subst (λ h. Waits h h (y ∷ ys)) (sym r.0) (holds y_in.0 y_in.1 r.1)
 
   pub waits_first : Waits (next_in stage 0 n) (next_in stage 0 n) (by_stage stage n)
   waits_first = taken 0 (by_stage stage n) (coming_first stage n)

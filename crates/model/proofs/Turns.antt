@@ -107,10 +107,10 @@ module _ (M : Market) (B : Results) (O : Profile) (E : Setting M B O B.met) (σ 
   theirs k t ne = update_off m.cards s k t ne ∙ sym (now_off s rest m.lost m.cards t ne)
 
   -- ---- the next tier
-  module _ (no-option : options M B (C s) s ≡ []) where
+  module _ (no_option : options M B (C s) s ≡ []) where
     no_choice : choices M B σ s ≡ []
     no_choice =
-        ⊎_elim (λ e. e) (λ r. absurd (not-nil (rw no-option at (choice_option M B O E σ I C S R s r.0 (rw r.2 (here refl))))))
+        ⊎_elim (λ e. e) (λ r. absurd (not-nil (rw no_option at (choice_option M B O E σ I C S R s r.0 (rw r.2 (here refl))))))
         (empty? (choices M B σ s))
 
     same_round : round M B s (due_now M B S (C s) s) m.interviews (C s).bits ≡ round M B s (due M B σ s) σ.interviews (C s).bits
@@ -149,7 +149,7 @@ module _ (M : Market) (B : Results) (O : Profile) (E : Setting M B O B.met) (σ 
         (interview_all_going M B s (due M B σ s) (advance M B σ s) _ r.0).0 in
         moved {m = after} (with_interviews (advance M B σ s) us) (stepped (step_interviews M B σ s rest no_choice ∙ r.0))
         (record {
-          tied = opens_tied M B O E σ I N C S R s rest wait no-option no_choice us b' r.1 eu (now_at (s ∷ rest) 0 (update m.cards s card)) mine others;
+          tied = opens_tied M B O E σ I N C S R s rest wait no_option no_choice us b' r.1 eu (now_at (s ∷ rest) 0 (update m.cards s card)) mine others;
           interviews = refl;
           waiting = sym wait;
         })

@@ -36,12 +36,13 @@ fn read_file<F: Files>(files: &F, path: &str, buf: &mut [u8]) -> FileRead
     }
 }
 
-fn main(rt: HostRuntime) -> io::Result<()> {
+// A text that cannot be written is not reported.
+fn main(rt: HostRuntime) {
     let mut case = [0u8; 65537];
     let mut book = [0u8; 65537];
     let mut out = [0u8; 131072];
     let casefile = read_file(&rt, "case.dat", &mut case);
     let bookfile = read_file(&rt, "book.dat", &mut book);
     let end = program::put_program(&case, casefile, &book, bookfile, &mut out);
-    io::writer(&rt).write_all(&out[..end])
+    let _ = io::writer(&rt).write_all(&out[..end]);
 }

@@ -16,8 +16,10 @@ fn put_word(out: &mut [u8], at: usize, word: &[u8]) -> usize
     ensures { Put word.now at out.old out.new result }
 {
     let mut end = at;
-    for byte in word {
-        end = put_byte(out, end, *byte);
+    let mut i = 0;
+    while i < word.len() {
+        end = put_byte(&mut *out, end, word[i]);
+        i += 1;
     }
     end
 }
@@ -27,8 +29,9 @@ fn put_decimal(out: &mut [u8], at: usize, n: usize) -> usize
     requires { at ≤ length out.old }
     ensures { Put (decimal n) at out.old out.new result }
 {
-    let mut digits = itoa::Buffer::new();
-    put_word(out, at, digits.format(n).as_bytes())
+    let mut digits = [0u8; 20];
+    let k = io::decimal(n as u64, &mut digits);
+    put_word(out, at, &digits[..k])
 }
 
 // A space and a number.
@@ -36,7 +39,7 @@ fn put_number(out: &mut [u8], at: usize, n: usize) -> usize
     requires { at ≤ length out.old }
     ensures { Put (ascii " " ++ decimal n) at out.old out.new result }
 {
-    let end = put_byte(out, at, b' ');
+    let end = put_byte(&mut *out, at, b' ');
     put_decimal(out, end, n)
 }
 
@@ -45,8 +48,8 @@ fn put_line1(out: &mut [u8], at: usize, word: &[u8], n: usize) -> usize
     requires { at ≤ length out.old }
     ensures { Put (line_of word.now (n ∷ [])) at out.old out.new result }
 {
-    let end = put_word(out, at, word);
-    let end = put_number(out, end, n);
+    let end = put_word(&mut *out, at, word);
+    let end = put_number(&mut *out, end, n);
     put_byte(out, end, b'\n')
 }
 
@@ -56,9 +59,9 @@ fn put_line2(out: &mut [u8], at: usize, word: &[u8], a: usize, b: usize) -> usiz
     ensures put { Put (line_of word.now (a ∷ b ∷ [])) at out.old out.new result }
     ensures b_in_bounds { length (line_of word.now (a ∷ b ∷ [])) ≤ length word.now + 43 }
 {
-    let end = put_word(out, at, word);
-    let end = put_number(out, end, a);
-    let end = put_number(out, end, b);
+    let end = put_word(&mut *out, at, word);
+    let end = put_number(&mut *out, end, a);
+    let end = put_number(&mut *out, end, b);
     put_byte(out, end, b'\n')
 }
 
@@ -68,8 +71,10 @@ fn put_places(out: &mut [u8], at: usize, places: &[u16], n: usize) -> usize
     ensures { Put (place_lines 1 (take n places.now)) at out.old out.new result }
 {
     let mut end = at;
-    for i in 0..n {
-        end = put_line2(out, end, b"place", i + 1, wide(places[i]));
+    let mut i = 0;
+    while i < n {
+        end = put_line2(&mut *out, end, b"place", i + 1, wide(places[i]));
+        i += 1;
     }
     end
 }
@@ -80,14 +85,16 @@ fn put_visit_lines(out: &mut [u8], at: usize, visits: &[u16], count: usize) -> u
     ensures { Put (visit_lines (interviews_at count visits.now)) at out.old out.new result }
 {
     let mut end = at;
-    for i in 0..count {
+    let mut i = 0;
+    while i < count {
         end = put_line2(
-            out,
+            &mut *out,
             end,
             b"visit",
             wide(visits[2 * i]),
             wide(visits[2 * i + 1]),
         );
+        i += 1;
     }
     end
 }
@@ -97,8 +104,8 @@ fn put_visits(out: &mut [u8], at: usize, visits: &[u16], count: usize, fares: u3
     requires { (at ≤ length out.old) × (2 * count ≤ length visits.now) }
     ensures { Put (visits_text (interviews_at count visits.now) fares) at out.old out.new result }
 {
-    let end = put_line1(out, at, b"visits", count);
-    let end = put_visit_lines(out, end, visits, count);
+    let end = put_line1(&mut *out, at, b"visits", count);
+    let end = put_visit_lines(&mut *out, end, visits, count);
     put_line1(out, end, b"fares", fares as usize)
 }
 
@@ -122,7 +129,7 @@ pub fn put_answer(answer: Answer, n: usize, places: &[u16], visits: &[u16], out:
             visits: count,
             fares,
         } => {
-            let end = put_places(out, 0, places, n);
+            let end = put_places(&mut *out, 0, places, n);
             put_visits(out, end, visits, count, fares)
         }
         Answer::Next {
@@ -131,7 +138,7 @@ pub fn put_answer(answer: Answer, n: usize, places: &[u16], visits: &[u16], out:
             visits: count,
             fares,
         } => {
-            let end = put_line2(out, 0, b"next", student, workshop);
+            let end = put_line2(&mut *out, 0, b"next", student, workshop);
             put_visits(out, end, visits, count, fares)
         }
         Answer::Refused { cause, record } => put_line2(out, 0, b"refused", cause, record),
@@ -143,6 +150,6 @@ pub fn put_unread(out: &mut [u8]) -> usize
     ensures put { Put unread 0 out.old out.new result }
     ensures whole { 7 ≤ length out.old → Whole unread out.new result }
 {
-    let end = put_word(out, 0, b"unread");
+    let end = put_word(&mut *out, 0, b"unread");
     put_byte(out, end, b'\n')
 }

@@ -1,5 +1,4 @@
-// A book reader: the lent bytes together with the number of the next record. `take` is walked by hand, and so is a function that keeps a reader
-// (`book_tests::scan_on`); what a record is stands in `records::entry_at`.
+// A book reader: the lent bytes together with the number of the next record. What a record is stands in `records::entry_at`.
 #![tactic(auto)]
 
 ghost use Rattle.std.specs.Prelude.{◌≡◌, ◌+◌, ◌<◌};

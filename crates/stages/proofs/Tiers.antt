@@ -12,38 +12,38 @@ use Rattle.lgs.specs.Market.{Market, matters, workshop_outside}
 use Rattle.lgs.proofs.Valid.{WellFormed}
 use Rattle.lgs.proofs.Matters.{matters_true, matters_is}
 use Rattle.format.specs.Engine.{market_in}
-use Rattle.stages.specs.Raising.{Ready, reachOf, tier_for}
+use Rattle.stages.specs.Raising.{Ready, reach_of, tier_for}
 
 module _ (M : Market) (w : ℕ) where
   -- a workshop without seats reaches nowhere
-  pub reach-none : M.quota w ≡ 0 → 0 ≡ reachOf M w
-  reach-none e = rw (eq-eqb (M.quota w) 0 e)
+  pub reach_none : M.quota w ≡ 0 → 0 ≡ reach_of M w
+  reach_none e = rw (eq-eqb (M.quota w) 0 e)
 
-  pub reach-outside : (M.quota w ≡ 0 → ⊥) → workshop_outside M w ≡ reachOf M w
-  reach-outside n = rw (ne_eqb (M.quota w) 0 n)
+  pub reach_outside : (M.quota w ≡ 0 → ⊥) → workshop_outside M w ≡ reach_of M w
+  reach_outside n = rw (ne_eqb (M.quota w) 0 n)
 
   module _ (s : ℕ) where
-    tier-zero : (matters M w s ≡ true → ⊥) → 0 ≡ tier_for M w s
-    tier-zero n = rw (is_false (matters M w s) n)
+    tier_zero : (matters M w s ≡ true → ⊥) → 0 ≡ tier_for M w s
+    tier_zero n = rw (is_false (matters M w s) n)
 
     pub unpaired_tier : M.paired s w ≡ false → 0 ≡ tier_for M w s
-    unpaired_tier e = tier-zero (λ t. never (matters_true M w s t).1 e)
+    unpaired_tier e = tier_zero (λ t. never (matters_true M w s t).1 e)
 
     -- a pair's tier, or 0 where it is beyond the reach
     pub tier_known : M.paired s w ≡ true → 1 ≤ M.workshop_tier w s
-        → cond (ltb (reachOf M w) (M.workshop_tier w s)) 0 (M.workshop_tier w s) ≡ tier_for M w s
-    tier_known p l = ⊎_elim beyond within (less? (reachOf M w) (M.workshop_tier w s))
+        → cond (ltb (reach_of M w) (M.workshop_tier w s)) 0 (M.workshop_tier w s) ≡ tier_for M w s
+    tier_known p l = ⊎_elim beyond within (less? (reach_of M w) (M.workshop_tier w s))
       where
-        beyond : reachOf M w < M.workshop_tier w s → cond (ltb (reachOf M w) (M.workshop_tier w s)) 0 (M.workshop_tier w s) ≡ tier_for M w s
+        beyond : reach_of M w < M.workshop_tier w s → cond (ltb (reach_of M w) (M.workshop_tier w s)) 0 (M.workshop_tier w s) ≡ tier_for M w s
         beyond b =
-            rw (lt-ltb (reachOf M w) (M.workshop_tier w s) b)
-            (tier-zero (λ t. let m = matters_true M w s t in omega (arith, b, m.2, reach-outside (λ z. omega (arith, m.0, z)))))
+            rw (lt-ltb (reach_of M w) (M.workshop_tier w s) b)
+            (tier_zero (λ t. let m = matters_true M w s t in omega (arith, b, m.2, reach_outside (λ z. omega (arith, m.0, z)))))
 
-        within : M.workshop_tier w s ≤ reachOf M w → cond (ltb (reachOf M w) (M.workshop_tier w s)) 0 (M.workshop_tier w s) ≡ tier_for M w s
+        within : M.workshop_tier w s ≤ reach_of M w → cond (ltb (reach_of M w) (M.workshop_tier w s)) 0 (M.workshop_tier w s) ≡ tier_for M w s
         within u =
-            ⊎_elim (λ (z : M.quota w ≡ 0). absurd (omega (arith, reach-none z, l, u)))
+            ⊎_elim (λ (z : M.quota w ≡ 0). absurd (omega (arith, reach_none z, l, u)))
             (λ (n : M.quota w ≡ 0 → ⊥).
-            rw (le-ltb (reachOf M w) (M.workshop_tier w s) u, matters_is M w s (omega (arith, n)) p (omega (arith, reach-outside n, u))))
+            rw (le-ltb (reach_of M w) (M.workshop_tier w s) u, matters_is M w s (omega (arith, n)) p (omega (arith, reach_outside n, u))))
             (eq? (M.quota w) 0)
 
     pub tier_most : (M.paired s w ≡ true → M.workshop_tier w s ≤ 513) → tier_for M w s ≤ 513

@@ -24,8 +24,8 @@ pub record Ready (case table : List ℕ) (n m : ℕ) : Type 0 where
 
 module _ (M : Market) where
   -- how far the workshop's tiers reach: to its outside tier, and nowhere where it has no seats
-  abbrev pub reachOf : ℕ → ℕ
-  reachOf w = cond (eqb (M.quota w) 0) 0 (workshop_outside M w)
+  abbrev pub reach_of : ℕ → ℕ
+  reach_of w = cond (eqb (M.quota w) 0) 0 (workshop_outside M w)
 
   -- the tier in which the student matters to the workshop, or 0
   abbrev pub tier_for : ℕ → ℕ → ℕ

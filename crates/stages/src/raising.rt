@@ -4,7 +4,7 @@ ghost use Rattle.base.specs.Lists.{count};
 ghost use Rattle.lgs.specs.Stages.{stage_of};
 ghost use Rattle.format.specs.Engine.{market_in};
 ghost use Rattle.lookup.specs.Clean.{WorkshopAt};
-ghost use Rattle.stages.specs.Raising.{Ready, tier_for, reachOf, stands_for, Enough, Capped, Noted, Climbed, Lifted, Fit, Raised, climbed_of};
+ghost use Rattle.stages.specs.Raising.{Ready, tier_for, reach_of, stands_for, Enough, Capped, Noted, Climbed, Lifted, Fit, Raised, climbed_of};
 
 // The larger of two stages.
 fn larger(a: u16, b: u16) -> u16
@@ -16,7 +16,7 @@ fn larger(a: u16, b: u16) -> u16
 // How far the workshop's tiers reach: to its outside tier, and nowhere where it has no seats.
 fn reach_of(case: &[u8], students: usize, w: usize) -> usize
     requires { WorkshopAt case.now students w }
-    ensures { result ≡ reachOf (market_in case.now) w }
+    ensures { result ≡ reach_of (market_in case.now) w }
 {
     if lookup::quota_of(case, students, w) == 0 {
         return 0;
@@ -43,7 +43,7 @@ fn tier_of(
 ) -> usize
     requires ready { Ready case.now table.now students workshops }
     requires le_w { ((1 ≤ w) × (w ≤ workshops)) × ((1 ≤ s) × (s ≤ students)) }
-    requires reach_value { reach ≡ reachOf (market_in case.now) w }
+    requires reach_value { reach ≡ reach_of (market_in case.now) w }
     ensures { (result ≡ tier_for (market_in case.now) w s) × (result ≤ 513) }
 {
     if tables::has_pair(case, table, s, w) {

@@ -61,7 +61,7 @@ best_same M B s start set x rest rest' top b l e =
     }
 
 module _ (case table : List ℕ) (T : Tabled case table) (B : Results) (s first many : ℕ) (S : Stretch case s first many) (start set : ℕ)
-    (few : set < 2 ^ 64) (open-pairs : (w : ℕ) → member set w ≡ true → Booked (market_in case) B s w) where
+    (few : set < 2 ^ 64) (open_pairs : (w : ℕ) → member set w ≡ true → Booked (market_in case) B s w) where
   abbrev M : Market
   M = market_in case
 
@@ -75,8 +75,8 @@ module _ (case table : List ℕ) (T : Tabled case table) (B : Results) (s first 
         left = λ w m. (S.all w (sym (e w) ∙ m)).0;
         done = λ w p h. e w ∙ p;
         so =
-            best_same M B s start set start set (bit_and set mine) top (best_start M B s start set top few t open-pairs) (and_lt 64 set mine few l)
-            (λ y. member_both set mine y ∙ and_yes (member set y) (member mine y) (λ m. e y ∙ (open-pairs y m).pair));
+            best_same M B s start set start set (bit_and set mine) top (best_start M B s start set top few t open_pairs) (and_lt 64 set mine few l)
+            (λ y. member_both set mine y ∙ and_yes (member set y) (member mine y) (λ m. e y ∙ (open_pairs y m).pair));
       }
 
   module _ (mine pair x : ℕ) (top : ℤ) (I : Along case B s first start set mine pair x top) where

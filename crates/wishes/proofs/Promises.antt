@@ -186,10 +186,10 @@ room_copied case ls nothing same =
 
 pub read_into_another : ReadIntoAnother
 unfolding write_causes read_causes copy_for
-read_into_another case case' text room copyRoom again e nothing' students pairs enough =
+read_into_another case case' text room copy_room again e nothing' students pairs enough =
     let w = written case text room e in
     let N : NothingFound (case_causes case) = write_case case room w.0 in
-    let N' : NothingFound (case_causes case') = read_case case' copyRoom nothing' in
+    let N' : NothingFound (case_causes case') = read_case case' copy_room nothing' in
     let M : Market = market_in case in
     let ls : List Line = lines_of M in
     let copy : List ℕ = wished ls case' in
@@ -201,7 +201,7 @@ read_into_another case case' text room copyRoom again e nothing' students pairs 
     first_none copy (text_room copy) again (none_table (case_causes copy) kept.valid) (omega (arith, room_copied case' ls N' kept.rest.students)) in
     let lines : wish_text M ≡ wish_text (market_in copy) = (equal_lines M (market_in copy) (ranged case N) (ranged copy kept.valid)).1 same in (
       copy,
-      read_worked case' copyRoom text (none_table (read_causes case' copyRoom) nothing') ∙ ap (copy_for case') back,
+      read_worked case' copy_room text (none_table (read_causes case' copy_room) nothing') ∙ ap (copy_for case') back,
       kept,
       same,
       write_given copy again first ∙ ap given (sym lines ∙ sym w.1),
@@ -209,11 +209,11 @@ read_into_another case case' text room copyRoom again e nothing' students pairs 
 
 pub write_then_read : WriteThenRead
 unfolding write_causes read_causes
-write_then_read case text room copyRoom e enough =
+write_then_read case text room copy_room e enough =
     let w = written case text room e in
-    let first : first_cause (read_causes case copyRoom) ≡ none =
-    first_none case (length case) copyRoom (none_table (case_causes case) (write_case case room w.0)) enough in
-    read_into_another case case text room copyRoom room e (table_none (read_causes case copyRoom) first) refl (λ s v. refl)
+    let first : first_cause (read_causes case copy_room) ≡ none =
+    first_none case (length case) copy_room (none_table (case_causes case) (write_case case room w.0)) enough in
+    read_into_another case case text room copy_room room e (table_none (read_causes case copy_room) first) refl (λ s v. refl)
     (room_enough case (text_room case) room w.0)
 
 pub written_rising : WrittenRising

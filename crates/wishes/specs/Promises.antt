@@ -76,11 +76,11 @@ ReadPromised case text room (ungiven k i) =
 -- included, have the same order, gaps aside"; a second write gives the same bytes
 abbrev pub WriteThenRead : Type 0
 WriteThenRead =
-    (case text : List ℕ) (room copyRoom : ℕ)
+    (case text : List ℕ) (room copy_room : ℕ)
     → write_wishes case room ≡ given text
-    → length case ≤ copyRoom
+    → length case ≤ copy_room
     → (copy : List ℕ)
-    × (read_wishes case text copyRoom ≡ given copy)
+    × (read_wishes case text copy_room ≡ given copy)
     × CopyOf case copy (lines_of (market_in case))
     × SameWishes (market_in case) (market_in copy)
     × (write_wishes copy room ≡ given text)
@@ -88,14 +88,14 @@ WriteThenRead =
 -- the same where another case is read into that has the same students and pairs
 abbrev pub ReadIntoAnother : Type 0
 ReadIntoAnother =
-    (case case' text : List ℕ) (room copyRoom again : ℕ)
+    (case case' text : List ℕ) (room copy_room again : ℕ)
     → write_wishes case room ≡ given text
-    → NothingFound (read_causes case' copyRoom)
+    → NothingFound (read_causes case' copy_room)
     → (market_in case).students ≡ (market_in case').students
     → ((s w : ℕ) → (market_in case).paired s w ≡ (market_in case').paired s w)
     → text_room case' ≤ again
     → (copy : List ℕ)
-    × (read_wishes case' text copyRoom ≡ given copy)
+    × (read_wishes case' text copy_room ≡ given copy)
     × CopyOf case' copy (lines_of (market_in case))
     × SameWishes (market_in case) (market_in copy)
     × (write_wishes copy again ≡ given text)

@@ -58,11 +58,11 @@ located k book o =
     located-by a.case.now book a.s.next (comes o.0 d.requires.more) a.e o.1 a.cause d.fails.result d.fails.ensures
     d.requires.prepared.clean c.if-fails.false c.if-cause.false k.pair_at-p.result k.pair_at-p.ensures
 
-first-pair : (k : After-pair_at-p) → k.args.from ≡ pairs_from k.args.case.now
-first-pair k = k.requires.prepared.from
+first_pair : (k : After-pair_at-p) → k.args.from ≡ pairs_from k.args.case.now
+first_pair k = k.requires.prepared.from
 
-few-here : (k : After-pair_at-p) → k.args.s.next ≤ 32768
-few-here k =
+few_here : (k : After-pair_at-p) → k.args.s.next ≤ 32768
+few_here k =
     let o = k.requires in
     number_few o.scanned o.prepared.clean o.room o.more k.if-cause.false k.pair_at-p.result (located k o.book (o.scanned, o.read))
 
@@ -72,7 +72,7 @@ spot : (k : After-pair_at-p)
 spot k =
     let o = k.requires in
     spot_inside o.scanned o.prepared.clean o.room o.more k.if-cause.false k.pair_at-p.result
-    (located k o.book (o.scanned, o.read)) _ (first-pair k)
+    (located k o.book (o.scanned, o.read)) _ (first_pair k)
 
 pub returns-then-fails : goal.returns-then-fails
 returns-then-fails c =
@@ -106,11 +106,11 @@ returns-then-index-k-ne0 c =
       rw c.stopped-then-index-k-ne0.ensures (stopped_on start.requires.more),
       λ book h q. rw c.stopped-then-index-k-ne0.ensures
           (step_stop h start.requires.prepared.clean start.requires.room start.requires.more k.if-cause.false k.pair_at-p.result (located (goal.at.returns-then-index-k-ne0 c).After-pair_at-p book (h, q)) _
-          (first-pair (goal.at.returns-then-index-k-ne0 c).After-pair_at-p) c.if-index-k-ne0.true),
+          (first_pair (goal.at.returns-then-index-k-ne0 c).After-pair_at-p) c.if-index-k-ne0.true),
     )
 
 pub overflow_cast-index : goal.overflow_cast-index
-overflow_cast-index c = omega (arith, few-here (goal.at.overflow_cast-index c).After-pair_at-p)
+overflow_cast-index c = omega (arith, few_here (goal.at.overflow_cast-index c).After-pair_at-p)
 
 pub offset_bounds-index-k-2 : goal.offset_bounds-index-k-2
 offset_bounds-index-k-2 c = omega (arith, (spot (goal.at.offset_bounds-index-k-2 c).After-pair_at-p).1)
@@ -125,5 +125,5 @@ returns c =
       rw c.moved-2.ensures (moved_on_lem start.requires.more),
       λ book h q. rw c.moved-2.ensures
           (step_fill h start.requires.prepared.clean start.requires.room start.requires.more k.if-cause.false k.pair_at-p.result (located (goal.at.returns c).After-pair_at-p book (h, q)) _
-          (first-pair (goal.at.returns c).After-pair_at-p) (parts (goal.at.returns c).Else-cause book (h, q)) c.if-index-k-ne0.false),
+          (first_pair (goal.at.returns c).After-pair_at-p) (parts (goal.at.returns c).Else-cause book (h, q)) c.if-index-k-ne0.false),
     )

@@ -30,8 +30,8 @@ tidy e =
     record { form = s.form; order = s.order; counts = s.counts; range = s.range; students = (answer e).1; workshops = (answer e).2 }
 
 -- the index has the length that the room says
-lent-as : (start : Start) → replicate {A = ℕ} (length start.args.index.now) 0 ≡ replicate start.args.room.index 0
-lent-as start = ap (λ k. replicate k 0) (sym start.requires.index_value)
+lent_as : (start : Start) → replicate {A = ℕ} (length start.args.index.now) 0 ≡ replicate start.args.room.index 0
+lent_as start = ap (λ k. replicate k 0) (sym start.requires.index_value)
 
 -- what the test of the lengths says
 tested : (c : After-lacks)
@@ -56,7 +56,7 @@ returns-then-lacks c =
     let room = lengths_of a.room in
     refused_tested a.case.now a.book.now room
     (refusal_room a.case.now a.book.now room (answer (goal.at.returns-then-lacks c).In-Counts).0 (tested (goal.at.returns-then-lacks c).After-lacks (answer (goal.at.returns-then-lacks c).In-Counts).1 (answer (goal.at.returns-then-lacks c).In-Counts).3 ∙ c.if-lacks.true)) c.refused.ensures
-    (c.clear.ensures ∙ lent-as (goal.at.returns-then-lacks c).Start)
+    (c.clear.ensures ∙ lent_as (goal.at.returns-then-lacks c).Start)
 
 pub check_book-requires : goal.check_book-requires
 check_book-requires c =
@@ -83,7 +83,7 @@ returns-in-Refused c =
     let r = as_refused a.case.now (case_refusal a.case.now) x.cause x.record
     (sym x.is ∙ c.check_case.ensures.value) in
     refused_tested a.case.now a.book.now room (refusal_case a.case.now a.book.now room _ r) refl
-    (c.clear.ensures ∙ lent-as (goal.at.returns-in-Refused c).Start)
+    (c.clear.ensures ∙ lent_as (goal.at.returns-in-Refused c).Start)
 
 pub returns-else-lacks : goal.returns-else-lacks
 returns-else-lacks c =

@@ -18,8 +18,8 @@ use Rattle.ties.specs.Ties.{Indexed}
 use Rattle.intake.proofs.check_book.Goals as goal
 use Rattle.intake.proofs.check_book.Goals.{Else-stopped-n, Start}
 
-low-three : (n : ℕ) → bit_and n 7 ≡ n % 8
-low-three n = and_mask n 3
+low_three : (n : ℕ) → bit_and n 7 ≡ n % 8
+low_three n = and_mask n 3
 
 -- what the tests of the book need
 prepared : (start : Start) → Prepared start.args.case.now start.args.table.now (start.args.students + start.args.workshops)
@@ -33,7 +33,7 @@ prepared start =
 
 -- the book has whole records
 whole : (d : Else-stopped-n) → length d.args.book.now % 8 ≡ 0
-whole d = sym (low-three _) ∙ d.if-book-ne0.false
+whole d = sym (low_three _) ∙ d.if-book-ne0.false
 
 -- causes 8 to 10 find nothing when the fill goes through
 fine : (d : Else-stopped-n) → first_bad (bad_any (rows d.args.case.now) (entries d.args.book.now)) (entry_count d.args.book.now) ≡
@@ -76,14 +76,14 @@ pub returns-then-book-ne0-clause-value : goal.returns-then-book-ne0-clause-value
 returns-then-book-ne0-clause-value c =
     let start = c in
     let a = start.args in
-    let part : length a.book.now % 8 ≡ 0 → ⊥ = λ q. c.if-book-ne0.true (low-three _ ∙ q) in (refused_with a.case.now a.book.now _ 7 0 _ _ _
+    let part : length a.book.now % 8 ≡ 0 → ⊥ = λ q. c.if-book-ne0.true (low_three _ ∙ q) in (refused_with a.case.now a.book.now _ 7 0 _ _ _
     (book_7 a.case.now a.book.now (whole_some (length a.book.now % 8) part)) c.refused.ensures start.requires.blank).0
 
 pub returns-then-book-ne0-clause-index_after : goal.returns-then-book-ne0-clause-index_after
 returns-then-book-ne0-clause-index_after c =
     let start = c in
     let a = start.args in
-    let part : length a.book.now % 8 ≡ 0 → ⊥ = λ q. c.if-book-ne0.true (low-three _ ∙ q) in (refused_with a.case.now a.book.now _ 7 0 _ _ _
+    let part : length a.book.now % 8 ≡ 0 → ⊥ = λ q. c.if-book-ne0.true (low_three _ ∙ q) in (refused_with a.case.now a.book.now _ 7 0 _ _ _
     (book_7 a.case.now a.book.now (whole_some (length a.book.now % 8) part)) c.refused.ensures start.requires.blank).1
 
 pub overflow_add-from : goal.overflow_add-from
@@ -127,11 +127,11 @@ returns-clause-value c =
     let start = d in
     let a = start.args in
     let tie = c.first_tie-tie in
-    let none-tie = none_by (bad_tie (rows a.case.now) (entries a.book.now)) (entry_count a.book.now) tie.result tie.ensures
+    let none_tie = none_by (bad_tie (rows a.case.now) (entries a.book.now)) (entry_count a.book.now) tie.result tie.ensures
     (omega (arith, c.if-tie-n.false, d.entry_count-n.ensures.1)) in
     let o = book_clean a.case.now a.book.now (whole_none _ (whole (goal.at.returns-clause-value c).Else-stopped-n))
     (all_paired a.case.now a.book.now (fine (goal.at.returns-clause-value c).Else-stopped-n)) (all_scored a.case.now a.book.now (fine (goal.at.returns-clause-value c).Else-stopped-n))
-    (all_fresh a.case.now a.book.now (fine (goal.at.returns-clause-value c).Else-stopped-n)) none-tie in sym (clean_as a.case.now _ a.students a.workshops a.pairs o start.requires.clean.students start.requires.clean.workshops
+    (all_fresh a.case.now a.book.now (fine (goal.at.returns-clause-value c).Else-stopped-n)) none_tie in sym (clean_as a.case.now _ a.students a.workshops a.pairs o start.requires.clean.students start.requires.clean.workshops
     start.requires.pairs)
 
 pub returns-clause-index_after : goal.returns-clause-index_after
@@ -140,8 +140,8 @@ returns-clause-index_after c =
     let start = d in
     let a = start.args in
     let tie = c.first_tie-tie in
-    let none-tie = none_by (bad_tie (rows a.case.now) (entries a.book.now)) (entry_count a.book.now) tie.result tie.ensures
+    let none_tie = none_by (bad_tie (rows a.case.now) (entries a.book.now)) (entry_count a.book.now) tie.result tie.ensures
     (omega (arith, c.if-tie-n.false, d.entry_count-n.ensures.1)) in
     let o = book_clean a.case.now a.book.now (whole_none _ (whole (goal.at.returns-clause-index_after c).Else-stopped-n))
     (all_paired a.case.now a.book.now (fine (goal.at.returns-clause-index_after c).Else-stopped-n)) (all_scored a.case.now a.book.now (fine (goal.at.returns-clause-index_after c).Else-stopped-n))
-    (all_fresh a.case.now a.book.now (fine (goal.at.returns-clause-index_after c).Else-stopped-n)) none-tie in rw o (made (goal.at.returns-clause-index_after c).Else-stopped-n)
+    (all_fresh a.case.now a.book.now (fine (goal.at.returns-clause-index_after c).Else-stopped-n)) none_tie in rw o (made (goal.at.returns-clause-index_after c).Else-stopped-n)

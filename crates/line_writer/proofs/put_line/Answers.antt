@@ -22,26 +22,26 @@ put_number-end-requires c =
 pub put_groups-end-requires-clause-outside_le_last : goal.put_groups-end-requires-clause-outside_le_last
 put_groups-end-requires-clause-outside_le_last c =
     let after_last = c in
-    let after-sets = after_last in
-    let start = after-sets in
+    let after_sets = after_last in
+    let start = after_sets in
     let larger = after_last.larger-last.ensures in
-    let sets = after-sets.gather-last.ensures in
+    let sets = after_sets.gather-last.ensures in
     let few = outside_small _ start.requires.case_value _ start.requires.le_s.0.0 start.requires.le_s.0.1 _ after_last.third_at-outside.ensures in ((rw larger (le-max_right _ _), rw larger (max-le sets.upper_bound.0 few)), rw larger (above_larger _ _ _ sets.upper_bound.1))
 
 pub returns : goal.returns
 returns c =
-    let after-groups = c in
-    let after-blank = after-groups in
-    let after-colon = after-blank in
-    let after-number = after-colon in
-    let after-sets = after-number in
-    let start = after-sets in
+    let after_groups = c in
+    let after_blank = after_groups in
+    let after_colon = after_blank in
+    let after_number = after_colon in
+    let after_sets = after_number in
+    let start = after_sets in
     let a = start.args in
     let fits = start.requires.le_s.1 in
-    let numbered = put_then fits after-number.put_number-end.ensures after-colon.put_byte-end.ensures in
-    let headed = put_then fits numbered after-blank.put_byte-end-2.ensures in
-    let listed = put_then fits headed after-groups.put_groups-end.ensures in
+    let numbered = put_then fits after_number.put_number-end.ensures after_colon.put_byte-end.ensures in
+    let headed = put_then fits numbered after_blank.put_byte-end-2.ensures in
+    let listed = put_then fits headed after_groups.put_groups-end.ensures in
     let whole = put_then fits listed c.put_byte.ensures in
-    let outside = after-number.third_at-outside.ensures in
-    let line = line_text_lem a.case.now start.requires.case_value a.s start.requires.le_s.0.0 start.requires.le_s.0.1 _ _ after-sets.gather-last.ensures.gathered outside in
+    let outside = after_number.third_at-outside.ensures in
+    let line = line_text_lem a.case.now start.requires.case_value a.s start.requires.le_s.0.0 start.requires.le_s.0.1 _ _ after_sets.gather-last.ensures.gathered outside in
     rw line at whole

@@ -13,15 +13,15 @@ use Rattle.turning.proofs.best_along.Goals.{After-has_bit}
 
 -- the pair that comes next is that of the lowest workshop that is left
 comes : (c : After-has_bit)
-    → (let at-loop = c in
-    pair_place at-loop.args.case.now at-loop.args.s c.lowest-w.result
-    ≡ at-loop.loop-mine.pair)
+    → (let at_loop = c in
+    pair_place at_loop.args.case.now at_loop.args.s c.lowest-w.result
+    ≡ at_loop.loop-mine.pair)
 comes c =
-    let at-loop = c in
-    let start = at-loop in
+    let at_loop = c in
+    let start = at_loop in
     let a = start.args in
-    let here = at-loop.loop-mine in
-    let own = at-loop.pairs_of-own in
+    let here = at_loop.loop-mine in
+    let own = at_loop.pairs_of-own in
     let low = c.lowest-w in
     let less = c.without_lowest-mine in
     place_now a.case.now a.table.now start.requires.clean.tabled (results_in a.book.now) a.s _ _ own.ensures a.start a.set
@@ -48,11 +48,11 @@ student_score_by-given-requires-clause-booked c =
 
 pub loop-mine-preserved-then-above : goal.loop-mine-preserved-then-above
 loop-mine-preserved-then-above c =
-    let at-loop = c in
-    let start = at-loop in
+    let at_loop = c in
+    let start = at_loop in
     let a = start.args in
-    let here = at-loop.loop-mine in
-    let own = at-loop.pairs_of-own in
+    let here = at_loop.loop-mine in
+    let own = at_loop.pairs_of-own in
     let low = c.lowest-w in
     let less = c.without_lowest-mine in
     let x = c.student_score_by-given in
@@ -67,11 +67,11 @@ loop-mine-preserved-then-above c =
 
 pub loop-mine-preserved-else-above : goal.loop-mine-preserved-else-above
 loop-mine-preserved-else-above c =
-    let at-loop = c in
-    let start = at-loop in
+    let at_loop = c in
+    let start = at_loop in
     let a = start.args in
-    let here = at-loop.loop-mine in
-    let own = at-loop.pairs_of-own in
+    let here = at_loop.loop-mine in
+    let own = at_loop.pairs_of-own in
     let low = c.lowest-w in
     let less = c.without_lowest-mine in
     let x = c.student_score_by-given in
@@ -86,11 +86,11 @@ loop-mine-preserved-else-above c =
 
 pub loop-mine-preserved : goal.loop-mine-preserved
 loop-mine-preserved c =
-    let at-loop = c in
-    let start = at-loop in
+    let at_loop = c in
+    let start = at_loop in
     let a = start.args in
-    let here = at-loop.loop-mine in
-    let own = at-loop.pairs_of-own in
+    let here = at_loop.loop-mine in
+    let own = at_loop.pairs_of-own in
     let low = c.lowest-w in
     let less = c.without_lowest-mine in
     along_passed a.case.now a.table.now start.requires.clean.tabled (results_in a.book.now) a.s _ _ own.ensures a.start a.set
@@ -101,11 +101,11 @@ loop-mine-preserved c =
 
 pub returns : goal.returns
 returns c =
-    let at-loop = c in
-    let start = at-loop in
+    let at_loop = c in
+    let start = at_loop in
     let a = start.args in
-    let here = at-loop.loop-mine in
-    let own = at-loop.pairs_of-own in
+    let here = at_loop.loop-mine in
+    let own = at_loop.pairs_of-own in
     along_end a.case.now a.table.now start.requires.clean.tabled (results_in a.book.now) a.s _ _ own.ensures a.start a.set
     (omega arith) start.requires.by_index
     here.mine here.pair here.best _ here.invariant (omega arith)

@@ -7,8 +7,8 @@ use Rattle.line_writer.proofs.groups.put_group.Goals as goal
 pub returns : goal.returns
 returns c =
     let after_items = c in
-    let after-brace = after_items in
-    let start = after-brace in
-    let opened = put_then start.requires after-brace.put_if-end.ensures after_items.put_items-end.ensures in
+    let after_brace = after_items in
+    let start = after_brace in
+    let opened = put_then start.requires after_brace.put_if-end.ensures after_items.put_items-end.ensures in
     let whole = put_then start.requires opened c.put_if.ensures in
-    rw (← braced (items_of start.args.outside start.args.set)) (rw after-brace.size_of-braces.ensures at whole)
+    rw (← braced (items_of start.args.outside start.args.set)) (rw after_brace.size_of-braces.ensures at whole)

@@ -8,11 +8,11 @@ use Rattle.line_writer.proofs.groups.put_groups.Goals as goal
 
 pub loop-t-preserved : goal.loop-t-preserved
 loop-t-preserved c =
-    let after-comma = c in
-    let here = after-comma.loop-t in
-    let start = after-comma in
-    let put = put_then (upto_within here.invariant.2) after-comma.put_if-end.ensures c.put_group-end.ensures in
-    let some = after-comma.size_of-some.ensures in
+    let after_comma = c in
+    let here = after_comma.loop-t in
+    let start = after_comma in
+    let put = put_then (upto_within here.invariant.2) after_comma.put_if-end.ensures c.put_group-end.ensures in
+    let some = after_comma.size_of-some.ensures in
     let next = next_groups here.comma start.args.sets.now start.args.outside here.t (omega (arith, start.requires.outside_le_last.0)) in
     (omega arith, omega arith, rw (some, add-one here.t) (upto_on start.requires.at_in_bounds.0 next here.invariant.2 (rw some at put)))
 

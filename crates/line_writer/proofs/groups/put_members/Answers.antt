@@ -7,11 +7,11 @@ use Rattle.line_writer.proofs.groups.put_members.Goals as goal
 
 pub loop-rest-preserved : goal.loop-rest-preserved
 loop-rest-preserved c =
-    let after-comma = c in
-    let here = after-comma.loop-rest in
-    let start = after-comma in
+    let after_comma = c in
+    let here = after_comma.loop-rest in
+    let start = after_comma in
     let low = c.lowest.ensures in
-    let put = put_then (upto_within here.invariant) after-comma.put_if-end.ensures c.put_number-end.ensures in
+    let put = put_then (upto_within here.invariant) after_comma.put_if-end.ensures c.put_number-end.ensures in
     upto_on start.requires (items_on here.comma here.rest c.without_lowest-rest.result _ low (c.without_lowest-rest.ensures.by_index _ low)) here.invariant put
 
 pub returns : goal.returns

@@ -17,9 +17,9 @@ returns-then-n-lt100 c =
 
 pub returns : goal.returns
 returns c =
-    let after-second = c in
-    let after_first = after-second in
+    let after_second = c in
+    let after_first = after_second in
     let start = after_first in
-    let two = put_then start.requires.0 after_first.put_digit-end-2.ensures after-second.put_digit-end-3.ensures in
+    let two = put_then start.requires.0 after_first.put_digit-end-2.ensures after_second.put_digit-end-3.ensures in
     let three = put_then start.requires.0 two c.put_digit-2.ensures in
     rw (three_digits start.args.n (omega arith) (omega arith)) three
