@@ -36,13 +36,12 @@ fn read_file<F: Files>(files: &F, path: &str, buf: &mut [u8]) -> FileRead
     }
 }
 
-// A text that cannot be written is not reported.
-fn main(rt: HostRuntime) {
+fn main(rt: HostRuntime) -> io::Result<()> {
     let mut case = [0u8; 65537];
     let mut book = [0u8; 65537];
     let mut out = [0u8; 131072];
     let casefile = read_file(&rt, "case.dat", &mut case);
     let bookfile = read_file(&rt, "book.dat", &mut book);
     let end = program::put_program(&case, casefile, &book, bookfile, &mut out);
-    let _ = io::writer(&rt).write_all(&out[..end]);
+    io::writer(&rt).write_all(&out[..end])
 }

@@ -1,8 +1,6 @@
 -- `printing::put_word` meets its contract. The invariant: the first i bytes of the word are put.
-use Prim.Native.Nat.{◌-◌}
 use native.Mathlib.Omega.{arith}
 use native.Mathlib.Numerals.{add-one}
-use lib.ListN.{take}
 use lib.Seq.{take-suc}
 use Rattle.putting.proofs.Laws.{put_then}
 use Rattle.printing.proofs.put_word.Goals as goal
