@@ -16,7 +16,8 @@ pub use Rattle.base.proofs.Members.{update_at, update_off}
 use Rattle.lgs.specs.Market.{Market, Results, student_outside, workshop_outside}
 use Rattle.lgs.specs.Profiles.{Profile}
 use Rattle.lgs.specs.Rule.{State, start, interviewed, unopened, open?, choices, due, advance}
-use Rattle.lgs.proofs.Invariant.{Setting, Open, open_parts, open_make, Seen, Chosen, Gone, seatless, beyond, taken, Inv, closed_why}
+use Rattle.lgs.proofs.Setting.{Setting}
+use Rattle.lgs.proofs.Invariant.{Open, open_parts, open_make, Seen, Chosen, Gone, seatless, beyond, taken, Inv, closed_why}
 use Rattle.lgs.proofs.Interviews.{interviews_with, with_interviews, interviewed_or, interviewed_before, interviewed_after, interviewed_of}
 use Rattle.lgs.proofs.Interviews.{interviewed_in}
 

@@ -18,7 +18,8 @@ use Rattle.base.proofs.Members.{NoDup, in_first, update_at, update_off}
 use Rattle.lgs.specs.Market.{Market, Results}
 use Rattle.lgs.specs.Profiles.{Profile, seated}
 use Rattle.lgs.specs.Rule.{State, holders, lowest_of, hand_on}
-use Rattle.lgs.proofs.Invariant.{Setting, Chosen, Inv}
+use Rattle.lgs.proofs.Setting.{Setting}
+use Rattle.lgs.proofs.Invariant.{Chosen, Inv}
 use Rattle.lgs.proofs.Lowest.{Lowest, lowest}
 use Rattle.lgs.proofs.Close.{Seating}
 

@@ -19,7 +19,8 @@ use Rattle.lgs.specs.Profiles.{Profile}
 use Rattle.lgs.specs.Rule.{State, open?, choices, best}
 use Rattle.lgs.proofs.Sides.{Known}
 use Rattle.lgs.proofs.Valid.{Possible}
-use Rattle.lgs.proofs.Invariant.{Setting, Open, open_parts, unopened_possible, Seen, Chosen, Inv, student_by_score, knows}
+use Rattle.lgs.proofs.Setting.{Setting}
+use Rattle.lgs.proofs.Invariant.{Open, open_parts, unopened_possible, Seen, Chosen, Inv, student_by_score, knows}
 
 module _ (M : Market) (B : Results) (O : Profile) (Vs : ℕ → ℕ → Bool) (E : Setting M B O Vs) (σ : State) (I : Inv M B O Vs σ) (s : ℕ) where
   record Choice (y : ℕ) : Type 0 where

@@ -15,7 +15,8 @@ use Rattle.lgs.specs.Market.{Market, Results}
 use Rattle.lgs.specs.Profiles.{Profile, seated}
 use Rattle.lgs.specs.Rule.{State, interviewed, unopened, open?, below, holders, lowest_of, close, hand_on}
 use Rattle.lgs.proofs.Optimal.{Unattainable, below_holders}
-use Rattle.lgs.proofs.Invariant.{Setting, Open, open_parts, open_make, Seen, Chosen, Gone, seatless, beyond, taken, Inv, chosen_acceptable}
+use Rattle.lgs.proofs.Setting.{Setting}
+use Rattle.lgs.proofs.Invariant.{Open, open_parts, open_make, Seen, Chosen, Gone, seatless, beyond, taken, Inv, chosen_acceptable}
 use Rattle.lgs.proofs.Invariant.{better_lost}
 use Rattle.lgs.proofs.Advance.{chosen_stays}
 use Rattle.lgs.proofs.Lowest.{below_rank, Lowest, lowest}

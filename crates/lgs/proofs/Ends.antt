@@ -20,7 +20,8 @@ use Rattle.lgs.specs.Rule.{State, Step, going, stopped, finished, Interview, int
 use Rattle.lgs.specs.Rule.{lowest_of, insert, by_stage, start, close, hand_on, step, run, fuel, lazy_gale_shapley}
 use Rattle.lgs.proofs.Interviews.{interviews_with, with_interviews}
 use Rattle.lgs.proofs.Sides.{real}
-use Rattle.lgs.proofs.Invariant.{Setting, open_parts, unopened_possible, Seen, Chosen, Gone, seatless, beyond, taken, Inv}
+use Rattle.lgs.proofs.Setting.{Setting}
+use Rattle.lgs.proofs.Invariant.{open_parts, unopened_possible, Seen, Chosen, Gone, seatless, beyond, taken, Inv}
 use Rattle.lgs.proofs.Advance.{before_outside}
 use Rattle.lgs.proofs.Choose.{best_chosen, best_open}
 use Rattle.lgs.proofs.Lowest.{Lowest, not_below_rank}

@@ -15,7 +15,8 @@ use Rattle.lgs.specs.Market.{Market, Results}
 use Rattle.lgs.specs.Profiles.{Profile, Acceptable, Blocks, Stable, StudentOptimal, flip, seated}
 use Rattle.lgs.specs.Rule.{State, start, finished, Interview, interviewed, open?, lazy_gale_shapley}
 use Rattle.lgs.proofs.Sides.{real}
-use Rattle.lgs.proofs.Invariant.{Setting, Chosen, Gone, seatless, beyond, taken, Inv, unopened_out, chosen_acceptable, closed_why}
+use Rattle.lgs.proofs.Setting.{Setting}
+use Rattle.lgs.proofs.Invariant.{Chosen, Gone, seatless, beyond, taken, Inv, unopened_out, chosen_acceptable, closed_why}
 use Rattle.lgs.proofs.Invariant.{better_lost, student_no_worse}
 use Rattle.lgs.proofs.Moves.{finished_not_going}
 use Rattle.lgs.proofs.Trace.{Reaches, Last, lgs_last, last_met, Finishes, step_finished}

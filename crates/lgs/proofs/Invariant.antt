@@ -12,25 +12,12 @@ use borrow.Author.Tests.{eqb-true, eqb-false, eq-eqb, ltb-true, ltb-false, not-t
 use Rattle.base.proofs.Tests.{bool_cases, never, is_false, and_left, and_right, and_false, or_true, or_false, less?}
 use Rattle.base.proofs.Members.{NoDup}
 use Rattle.lgs.specs.Market.{Market, Results, student_outside, workshop_outside, scored_lower, outscored}
-use Rattle.lgs.specs.Profiles.{Profile, Fits, RespectsScores, SameNever, Acceptable, Stable, outside_or, flip, seated}
+use Rattle.lgs.specs.Profiles.{Profile, Acceptable, Stable, outside_or, flip, seated}
 use Rattle.lgs.specs.Rule.{State, start, interviewed, unopened, declined, open?}
-use Rattle.lgs.proofs.Valid.{WellFormed, Refining, Possible, Distinct, refining, by_lower_score, outscored_by}
+use Rattle.lgs.proofs.Valid.{Possible, by_lower_score, outscored_by}
 use Rattle.lgs.proofs.Sides.{Known, real, by_score, no_worse}
 use Rattle.lgs.proofs.Optimal.{Unattainable}
-
--- the profile fits the tiers, and the results of the interviews Vs, which are all in the book
-pub record Setting (M : Market) (B : Results) (O : Profile) (Vs : ℕ → ℕ → Bool) : Type 0 where
-  pub wf : WellFormed M
-  pub distinct : Distinct M B
-  pub full : Refining M O
-  pub results : RespectsScores M B Vs O
-  pub never : SameNever M.paired Vs B.never O.never
-  pub known : (s w : ℕ) → Vs s w ≡ true → B.met s w ≡ true
-
-pub fits_setting : (M : Market) (B : Results) (O : Profile) (Vs : ℕ → ℕ → Bool) → WellFormed M → Distinct M B
-    → ((s w : ℕ) → Vs s w ≡ true → B.met s w ≡ true) → Fits M B Vs O → Setting M B O Vs
-fits_setting M B O Vs wf distinct known F =
-    record { wf = wf; distinct = distinct; full = refining M O F.strict F.tiers; results = F.scores; never = F.never; known = known }
+use Rattle.lgs.proofs.Setting.{Setting}
 
 module _ (M : Market) (B : Results) where
   -- what it is to be open, in its parts

@@ -12,7 +12,8 @@ use Rattle.base.proofs.Members.{NoDup}
 use Rattle.lgs.specs.Market.{Market, Results}
 use Rattle.lgs.specs.Profiles.{Profile}
 use Rattle.lgs.specs.Rule.{State, interviewed, open?, due, hand_on, start}
-use Rattle.lgs.proofs.Invariant.{Setting, Seen, Chosen, Gone, seatless, beyond, taken, Inv}
+use Rattle.lgs.proofs.Setting.{Setting}
+use Rattle.lgs.proofs.Invariant.{Seen, Chosen, Gone, seatless, beyond, taken, Inv}
 use Rattle.lgs.proofs.Interviews.{interviewed_after, interviewed_in}
 use Rattle.lgs.proofs.Advance.{advance_keeps}
 use Rattle.lgs.proofs.Choose.{best_chosen}

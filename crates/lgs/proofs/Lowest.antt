@@ -20,7 +20,8 @@ use Rattle.lgs.specs.Market.{Market, Results, outscored}
 use Rattle.lgs.specs.Profiles.{Profile, flip, seated}
 use Rattle.lgs.specs.Rule.{State, interviewed, unopened, below, holders, lowest_of}
 use Rattle.lgs.proofs.Sides.{Known, real}
-use Rattle.lgs.proofs.Invariant.{Setting, Seen, unopened_possible, workshop_by_score, known_by}
+use Rattle.lgs.proofs.Setting.{Setting}
+use Rattle.lgs.proofs.Invariant.{Seen, unopened_possible, workshop_by_score, known_by}
 
 module _ (M : Market) (B : Results) (O : Profile) (Vs : ℕ → ℕ → Bool) (E : Setting M B O Vs) (σ τ : State) (c : ℕ)
     (seen : (x : ℕ) → interviewed τ.interviews x c ≡ true → Seen M Vs σ x c) where

@@ -13,7 +13,8 @@ use Rattle.lgs.specs.Rule.{finished, Interview, interviewed, lazy_gale_shapley}
 use Rattle.lgs.proofs.Valid.{WellFormed, Distinct}
 use Rattle.lgs.proofs.Undetermined.{Reachable, undetermined}
 use Rattle.lgs.proofs.Sides.{wider}
-use Rattle.lgs.proofs.Invariant.{Setting, fits_setting, Seen}
+use Rattle.lgs.proofs.Setting.{Setting, fits_setting}
+use Rattle.lgs.proofs.Invariant.{Seen}
 use Rattle.lgs.proofs.Finished.{End, lgs_end, lgs_optimal, lgs_met}
 use Rattle.lgs.proofs.Needed.{Needed, last_needed}
 

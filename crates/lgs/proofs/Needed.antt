@@ -20,7 +20,8 @@ use Rattle.lgs.specs.Market.{Market, Results, Rivals, ConsistentStages}
 use Rattle.lgs.specs.Profiles.{Profile, seated, flip}
 use Rattle.lgs.specs.Rule.{State, interviewed, below, holders, lowest_of, close, due, hand_on, insert, by_stage, start}
 use Rattle.lgs.proofs.Sides.{real}
-use Rattle.lgs.proofs.Invariant.{Setting, Seen, Chosen, Inv, workshop_no_worse}
+use Rattle.lgs.proofs.Setting.{Setting}
+use Rattle.lgs.proofs.Invariant.{Seen, Chosen, Inv, workshop_no_worse}
 use Rattle.lgs.proofs.Interviews.{interviews_with, interviewed_or, interviewed_of}
 use Rattle.lgs.proofs.Advance.{Due, due_in}
 use Rattle.lgs.proofs.Close.{Seating, same_seats, held_after, close_keeps, close_deletes, lowest_holder}

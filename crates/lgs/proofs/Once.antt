@@ -19,7 +19,8 @@ use Rattle.lgs.specs.Rule.{State, Interview, interviewed, choices, due, start, c
 use Rattle.lgs.specs.Fares.{fares_of, fares_in}
 use Rattle.lgs.specs.Promises.{NoRepeats, pairs_in}
 use Rattle.lgs.proofs.Valid.{WellFormed}
-use Rattle.lgs.proofs.Invariant.{Setting, Seen, Inv}
+use Rattle.lgs.proofs.Setting.{Setting}
+use Rattle.lgs.proofs.Invariant.{Seen, Inv}
 use Rattle.lgs.proofs.Interviews.{interviews_with, interviewed_or, interviewed_of, interviewed_before, interviewed_after}
 use Rattle.lgs.proofs.Advance.{Due, due_in}
 use Rattle.lgs.proofs.Moves.{Move, interviews, leaves, sits, drops}

@@ -12,7 +12,7 @@ use Rattle.lgs.specs.Profiles.{Profile, StrictProfile, RespectsTiers, StudentOpt
 use Rattle.lgs.specs.Rule.{Step, going, stopped, finished, lazy_gale_shapley}
 use Rattle.lgs.proofs.Valid.{WellFormed, Refining, Refines, refining, outscored_by, unparted}
 use Rattle.lgs.proofs.Sides.{real}
-use Rattle.lgs.proofs.Invariant.{Setting}
+use Rattle.lgs.proofs.Setting.{Setting}
 use Rattle.lgs.proofs.Finished.{lgs_optimal}
 use Rattle.lgs.proofs.Stopped.{lgs_stopped}
 use Rattle.lgs.proofs.Ends.{run_answers}

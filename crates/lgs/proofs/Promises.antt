@@ -16,7 +16,7 @@ use Rattle.lgs.specs.Rule.{State, going, stopped, finished, Interview, interview
 use Rattle.lgs.specs.Fares.{fares_of}
 use Rattle.lgs.specs.Promises.{matching_of, pairs_in, SureSet, Listed, MinimalInterviews, Placed, Extends, NextInterview}
 use Rattle.lgs.proofs.Valid.{WellFormed, Distinct}
-use Rattle.lgs.proofs.Invariant.{Setting, fits_setting}
+use Rattle.lgs.proofs.Setting.{Setting, fits_setting}
 use Rattle.lgs.proofs.Sides.{wider}
 use Rattle.lgs.proofs.Optimal.{optimal_unique}
 use Rattle.lgs.proofs.Undetermined.{reveals_itself}

@@ -28,6 +28,7 @@ use Rattle.lgs.proofs.Moves.{stopped_not_going, finished_not_going, Move, interv
 use Rattle.lgs.proofs.Trace.{along, Last, run_last, lgs_last, last_met, Finishes, step_finished, Stops, step_stopped}
 use Rattle.lgs.proofs.Needed.{Sorted, staged_sorted, worse_later}
 use Rattle.lgs.proofs.Agreement.{AgreeOn, lgs_same}
+use Rattle.lgs.proofs.Onward.{From}
 
 -- ---- who applies, and who is dropped
 
@@ -116,11 +117,6 @@ module _ (M : Market) where
     range : (s : ℕ) → Mem s σ.waiting → (1 ≤ s) × (s ≤ M.students)
     early : (s w t : ℕ) → interviewed σ.interviews s w ≡ true → Mem t σ.waiting → M.stage s ≤ M.stage t
     sorted : Sorted M σ.waiting
-
-  -- from stage k on: who waits is of no earlier stage, and who is of an earlier one has what `places` says
-  record From (k : ℕ) (places : ℕ → ℕ) (σ : State) : Type 0 where
-    waits : (t : ℕ) → Mem t σ.waiting → k ≤ M.stage t
-    stays : (t : ℕ) → M.stage t < k → σ.held t ≡ places t
 
   start_orderly : (B : Results) → Orderly (start M B)
   unfolding start
@@ -233,7 +229,7 @@ module _ (M : Market) where
         out : ℕ
         out = dropped M B σ s rest (suc c)
 
-    move_from : (k : ℕ) (places : ℕ → ℕ) (σ' : State) → Move M B σ s rest σ' → From k places σ → From k places σ'
+    move_from : (k : ℕ) (places : ℕ → ℕ) (σ' : State) → Move M B σ s rest σ' → From M k places σ → From M k places σ'
     unfolding close
     move_from k places σ' (interviews empty met e) F = rw e (record { waits = F.waits; stays = F.stays })
     move_from k places σ' (leaves x xs some z e) F = rw e (record { waits = λ t m. F.waits t (in_wait t m); stays = F.stays })
@@ -267,10 +263,10 @@ module _ (M : Market) where
     stop_orderly =
         along M B stop.state Orderly (λ σ σ' t rest q m r I. move_orderly agree B σ I t rest q σ' m) (start M B) stop.reached (start_orderly B)
 
-    stop_from : From (M.stage s) stop.state.held stop.state
+    stop_from : From M (M.stage s) stop.state.held stop.state
     stop_from = from (step_stopped M B stop.state s w vs stop.answer)
       where
-        from : Stops M B stop.state s w vs → From (M.stage s) stop.state.held stop.state
+        from : Stops M B stop.state s w vs → From M (M.stage s) stop.state.held stop.state
         from h = record { waits = hand_first agree B stop.state stop_orderly s h.rest h.waiting; stays = λ t l. refl }
 
     -- whoever is of an earlier stage has what she had there
@@ -298,8 +294,8 @@ module _ (M : Market) where
         by_end : Last M B' stop.state (finished p' vs') → p' t ≡ stop.state.held t
         by_end L =
             let f : Finishes M B' L.state p' vs' = step_finished M B' L.state p' vs' L.answer in
-            let r : Orderly L.state × From (M.stage s) stop.state.held L.state =
-            along M B' L.state (λ σ. Orderly σ × From (M.stage s) stop.state.held σ)
+            let r : Orderly L.state × From M (M.stage s) stop.state.held L.state =
+            along M B' L.state (λ σ. Orderly σ × From M (M.stage s) stop.state.held σ)
             (λ σ σ' u rest q m r k. (
               move_orderly agree B' σ k.0 u rest q σ' m,
               move_from agree B' σ k.0 u rest q (M.stage s) stop.state.held σ' m k.1,

@@ -22,7 +22,8 @@ use Rattle.lgs.specs.Rule.{start, insert, by_stage}
 use Rattle.lgs.proofs.Interviews.{none_interviewed}
 use Rattle.lgs.proofs.Sides.{real}
 use Rattle.lgs.proofs.Optimal.{Unattainable}
-use Rattle.lgs.proofs.Invariant.{Setting, Gone, seatless, beyond, Inv}
+use Rattle.lgs.proofs.Setting.{Setting}
+use Rattle.lgs.proofs.Invariant.{Gone, seatless, beyond, Inv}
 
 module _ (stage : ℕ → ℕ) where
   pub insert_in : (s : ℕ) (ts : List ℕ) (x : ℕ) → Mem x (insert stage s ts) → (x ≡ s) ⊎ Mem x ts

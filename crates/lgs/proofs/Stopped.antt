@@ -13,7 +13,8 @@ use Rattle.lgs.specs.Market.{Market, Results}
 use Rattle.lgs.specs.Profiles.{Profile}
 use Rattle.lgs.specs.Rule.{State, stopped, Interview, interviewed, due, start, lazy_gale_shapley}
 use Rattle.lgs.specs.Promises.{NoRepeats, Listed}
-use Rattle.lgs.proofs.Invariant.{Setting, Inv}
+use Rattle.lgs.proofs.Setting.{Setting}
+use Rattle.lgs.proofs.Invariant.{Inv}
 use Rattle.lgs.proofs.Interviews.{interviews_with, interviewed_or, interviewed_of}
 use Rattle.lgs.proofs.Advance.{due_in}
 use Rattle.lgs.proofs.Moves.{stopped_not_going}

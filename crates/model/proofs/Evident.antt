@@ -15,7 +15,8 @@ use Rattle.lgs.specs.Rule.{State, interviewed, below, holders, lowest_of, close,
 use Rattle.base.proofs.Tests.{never, bool_cases, and_left, and_right, or_left, or_true, eq?}
 use Rattle.base.proofs.Counting.{count_same, count_none}
 use Rattle.lgs.proofs.Sides.{real}
-use Rattle.lgs.proofs.Invariant.{Setting, Chosen, Inv, workshop_no_worse}
+use Rattle.lgs.proofs.Setting.{Setting}
+use Rattle.lgs.proofs.Invariant.{Chosen, Inv, workshop_no_worse}
 use Rattle.lgs.proofs.Interviews.{interviews_with, interviewed_before}
 use Rattle.lgs.proofs.Advance.{update_at, update_off}
 use Rattle.lgs.proofs.Choose.{best_chosen}

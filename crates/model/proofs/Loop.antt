@@ -21,7 +21,8 @@ use Rattle.model.specs.Ready.{Booked, InOrder}
 use Rattle.base.proofs.Tests.{bool_cases, and_left, and_right}
 use Rattle.base.proofs.Members.{keep_in, keep_distinct, upto_distinct}
 use Rattle.lgs.proofs.Sides.{Known}
-use Rattle.lgs.proofs.Invariant.{Setting, Seen, Inv, known_by}
+use Rattle.lgs.proofs.Setting.{Setting}
+use Rattle.lgs.proofs.Invariant.{Seen, Inv, known_by}
 use Rattle.lgs.proofs.Interviews.{interviews_with, interviewed_or, interviewed_of}
 use Rattle.lgs.proofs.Moves.{Move, interviews, leaves, sits, drops, moves}
 use Rattle.lgs.proofs.Start.{start_inv}

@@ -22,7 +22,8 @@ use Rattle.base.proofs.Tests.{never, bool_cases, and_right, eq?}
 use Rattle.base.proofs.Counting.{count_same}
 use Rattle.base.proofs.Members.{in_upto, in_keep, in_rest, update_at, update_off}
 use Rattle.lgs.proofs.Sides.{Known}
-use Rattle.lgs.proofs.Invariant.{Setting, Seen, Chosen, Inv, Open, open_parts, open_make, known_by}
+use Rattle.lgs.proofs.Setting.{Setting}
+use Rattle.lgs.proofs.Invariant.{Seen, Chosen, Inv, Open, open_parts, open_make, known_by}
 use Rattle.lgs.proofs.Interviews.{interviews_with, with_interviews, interviewed_or, interviewed_before, interviewed_after, interviewed_of, interviewed_in}
 use Rattle.lgs.proofs.Advance.{Due, due_in}
 use Rattle.lgs.proofs.Lowest.{Lowest}

@@ -16,7 +16,8 @@ use Rattle.model.specs.Model.{Card, Machine, Turn, on, lacks, done, begin, take_
 use Rattle.base.proofs.Tests.{never}
 use Rattle.base.proofs.Counting.{count_le, count_none, total_apart}
 use Rattle.lgs.proofs.Valid.{WellFormed, Distinct}
-use Rattle.lgs.proofs.Invariant.{Setting, Inv, fits_setting}
+use Rattle.lgs.proofs.Setting.{Setting, fits_setting}
+use Rattle.lgs.proofs.Invariant.{Inv}
 use Rattle.lgs.proofs.Moves.{Move, moves, move_met}
 use Rattle.lgs.proofs.Start.{start_inv}
 use Rattle.lgs.proofs.Keeps.{move_keeps}

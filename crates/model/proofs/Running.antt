@@ -19,7 +19,7 @@ use Rattle.model.specs.Turn.{run_of}
 use Rattle.model.specs.Ready.{Ready}
 use Rattle.base.proofs.Tests.{eq?, less?}
 use Rattle.lgs.proofs.Valid.{WellFormed, Distinct}
-use Rattle.lgs.proofs.Invariant.{Setting}
+use Rattle.lgs.proofs.Setting.{Setting}
 use Rattle.lgs.proofs.Exists.{score_profile}
 use Rattle.model.proofs.Tied.{Tied}
 use Rattle.model.proofs.Match.{now_at}

@@ -20,7 +20,8 @@ use Rattle.lgs.specs.Profiles.{Profile, flip}
 use Rattle.model.specs.Model.{before, push}
 use Rattle.base.proofs.Tests.{bool_cases, and_left, and_right, or_true, or_false, less?}
 use Rattle.lgs.proofs.Sides.{Known}
-use Rattle.lgs.proofs.Invariant.{Setting, workshop_by_score}
+use Rattle.lgs.proofs.Setting.{Setting}
+use Rattle.lgs.proofs.Invariant.{workshop_by_score}
 
 -- strictly rising ranks
 abbrev pub Ranked : (ℕ → ℕ) → List ℕ → Type 0

@@ -24,7 +24,8 @@ use Rattle.base.proofs.Members.{in_keep, keep_in, in_rest, in_front, cons_if_in,
 use Rattle.base.proofs.Digits.{keep_same}
 use Rattle.lgs.proofs.Valid.{Possible}
 use Rattle.lgs.proofs.Sides.{real}
-use Rattle.lgs.proofs.Invariant.{Setting, Seen, Inv, unopened_possible, workshop_no_worse}
+use Rattle.lgs.proofs.Setting.{Setting}
+use Rattle.lgs.proofs.Invariant.{Seen, Inv, unopened_possible, workshop_no_worse}
 use Rattle.lgs.proofs.Interviews.{with_interviews}
 use Rattle.model.proofs.Storage.{seats_of_lem}
 use Rattle.model.proofs.Seats.{Ranked, last_in}

@@ -24,7 +24,8 @@ use Rattle.base.proofs.Tests.{never, bool_cases, and_right, or_true, or_left, or
 use Rattle.base.proofs.Members.{update_at, update_off}
 use Rattle.base.proofs.Counting.{count_mono, count_less, total_le, total_less}
 use Rattle.lgs.proofs.Sides.{real}
-use Rattle.lgs.proofs.Invariant.{Setting, Seen, Chosen, Gone, seatless, beyond, taken, Inv, open_make}
+use Rattle.lgs.proofs.Setting.{Setting}
+use Rattle.lgs.proofs.Invariant.{Seen, Chosen, Gone, seatless, beyond, taken, Inv, open_make}
 use Rattle.lgs.proofs.Interviews.{interviews_with, with_interviews}
 use Rattle.lgs.proofs.Advance.{before_outside, Due, due_in}
 use Rattle.lgs.proofs.Choose.{best_chosen, best_open}

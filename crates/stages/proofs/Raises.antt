@@ -287,10 +287,11 @@ module _ (tops : List ℕ) where
             (w.0, w.1, omega (arith, w.2), w.3, off_g w.0 (λ r. omega (arith, w.2)) ∙ w.4 ∙ sym b))
             (less? 0 (get_or tops g 0))
 
-  pub climbed : Capped tops → (now : List ℕ) (best g : ℕ) → Climbing now best g → 514 ≤ g → Climbed tops (set now 0 0) best
-  climbed S now best g I u =
+  -- nothing is asked of who is in no tier here
+  pub climbed : Capped tops → (now : List ℕ) (best g : ℕ) {none : ℕ} → Climbing now best g → 514 ≤ g → none ≡ 0 → Climbed tops (set now 0 none) best
+  climbed S now best g {none = none} I u nothing =
       record {
-        sized = length-set now 0 0 ∙ I.sized;
+        sized = length-set now 0 none ∙ I.sized;
         zero = first;
         all = record {
           over = λ h l p. rw (other h l) (I.over h l (inside h p) p);
@@ -301,11 +302,11 @@ module _ (tops : List ℕ) where
         some = λ p. let w = I.some p in (w.0, w.1, w.3, other w.0 w.1 ∙ w.4);
       }
     where
-      first : get_or (set now 0 0) 0 0 ≡ 0
-      first = get_or-set_same now 0 0 0 (omega (arith, I.sized))
+      first : get_or (set now 0 none) 0 0 ≡ 0
+      first = get_or-set_same now 0 none 0 (omega (arith, I.sized)) ∙ nothing
 
-      other : (h : ℕ) → 1 ≤ h → get_or (set now 0 0) h 0 ≡ get_or now h 0
-      other h l = get_or-set_other now 0 h 0 0 (λ r. omega arith)
+      other : (h : ℕ) → 1 ≤ h → get_or (set now 0 none) h 0 ≡ get_or now h 0
+      other h l = get_or-set_other now 0 h none 0 (λ r. omega arith)
 
       -- a tier with students is one of the list
       inside : (h : ℕ) → 0 < get_or tops h 0 → h < g
@@ -313,7 +314,7 @@ module _ (tops : List ℕ) where
           ⊎_elim (λ (q : h < g). q) (λ (q : g ≤ h). absurd (omega (arith, p, get_or-eq_default tops 0 {n = h} (omega (arith, S.sized)))))
           (less? h g)
 
-      most : (h : ℕ) → get_or (set now 0 0) h 0 ≤ best
+      most : (h : ℕ) → get_or (set now 0 none) h 0 ≤ best
       most zero = omega (arith, first)
       most (suc h) =
           rw (other (suc h) (omega arith))

@@ -17,4 +17,4 @@ pub returns : goal.returns
 returns c =
     let start = c in
     let here = c.loop-g in
-    climbed start.args.tops.now start.requires here.tops here.best here.g here.invariant.2 (omega arith)
+    climbed start.args.tops.now start.requires here.tops here.best here.g here.invariant.2 (omega arith) (omega arith)
