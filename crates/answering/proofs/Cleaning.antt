@@ -4,7 +4,7 @@ use Prim.Native.Nat.{ℕ, zero, suc, ◌+◌, ◌*◌, ◌-◌, ◌≤◌, ◌<�
 use mathlib.Core.Path.{◌≡◌, refl, sym, ap, ◌∙◌}
 use mathlib.Core.Bool.{true, false, not}
 use mathlib.Core.List.{List}
-use mathlib.Core.Option.{Option, some, none}
+use Rattle.std.specs.Prelude.{Option, Some, None}
 use native.Mathlib.Omega.{arith}
 use lib.Dec.{eqb, ltb}
 use lib.ListN.{length, get_or}
@@ -61,7 +61,8 @@ module _ (case book : List ℕ) (c : CleanCase case (market_in case).students (m
   unfolding market_of bad_pair
   entry_pair s w i l e =
       let says : ((entry_at book i).student ≡ s) × ((entry_at book i).workshop ≡ w) = interview_says s w (entry_at book i) e in
-      let good : not (any (is_pair (entry_at book i).student (entry_at book i).workshop) (rows case)) ≡ false = rw (entry_at_lem book i l) at (passed.pair i l) in
+      let good : not (any (is_pair (entry_at book i).student (entry_at book i).workshop) (rows case)) ≡ false =
+      rw (entry_at_lem book i l) at (passed.pair i l) in
       rw (says.0, says.1) at (not-false (any (is_pair (entry_at book i).student (entry_at book i).workshop) (rows case)) good)
 
   abbrev number : ℕ → ℕ → Option ℕ
@@ -84,8 +85,8 @@ module _ (case book : List ℕ) (c : CleanCase case (market_in case).students (m
 
   -- the record that the index names is the interview's
   entry_named : (s w : ℕ) (o : Option ℕ) → number s w ≡ o → (results_in book).met s w ≡ true → EntryAt book s w (from_one o)
-  entry_named s w none e met = never met (met_number s w ∙ rw e)
-  entry_named s w (some i) e met =
+  entry_named s w None e met = never met (met_number s w ∙ rw e)
+  entry_named s w (Some i) e met =
       let l : i < entry_count book = first_below (λ k. is_interview s w (entry_at book k)) (entry_count book) i e in
       let scores = scores_at s w i l (first_passes (λ k. is_interview s w (entry_at book k)) (entry_count book) i e) in
       let same : i ≡ suc i - 1 = omega arith in
@@ -101,8 +102,8 @@ module _ (case book : List ℕ) (c : CleanCase case (market_in case).students (m
   met_paired s w met = by_number (number s w) refl
     where
       by_number : (o : Option ℕ) → number s w ≡ o → (market_in case).paired s w ≡ true
-      by_number none e = never met (met_number s w ∙ rw e)
-      by_number (some i) e =
+      by_number None e = never met (met_number s w ∙ rw e)
+      by_number (Some i) e =
           entry_pair s w i (first_below (λ k. is_interview s w (entry_at book k)) (entry_count book) i e)
           (first_passes (λ k. is_interview s w (entry_at book k)) (entry_count book) i e)
 

@@ -5,7 +5,7 @@ use Prim.Native.Nat.{ℕ, suc, ◌*◌, ◌-◌, ◌≤◌, ◌<◌}
 use mathlib.Core.Path.{◌≡◌, refl, sym, ap, ◌∙◌, subst}
 use mathlib.Core.Bool.{true, false}
 use mathlib.Core.List.{List, map}
-use mathlib.Core.Option.{some, none}
+use Rattle.std.specs.Prelude.{Some, None, Result, Ok, Err}
 use native.Mathlib.Omega.{arith}
 use lib.Dec.{eqb}
 use lib.ListN.{length, get_or, replicate}
@@ -28,17 +28,20 @@ use Rattle.format.proofs.Promises.{promised}
 use Rattle.api.specs.declared.StudentState.{StudentState}
 use Rattle.api.specs.Answered.{zero_state, room_of, lent, Answered}
 use Rattle.api.specs.declared.Answer.{Answer}
-use Rattle.api.specs.declared.Answer.TheVariants.{Refused}
+use Rattle.api.specs.declared.Refusal.{Refusal}
+use Rattle.api.proofs.Causes.{engine_tabled}
 use Rattle.api.specs.Answers.{answer_for, values_of}
+use Rattle.api.specs.Causes.{refusal_for}
 use Rattle.api.proofs.Text.{values_same}
 use Rattle.model.specs.declared.Run.{Run}
 use Rattle.model.specs.Turn.{begin_run, run_of}
 use Rattle.model.specs.Ready.{Ready}
 use Rattle.model.proofs.Shows.{Lacking, Stand, Payable}
 use Rattle.model.proofs.Running.{stands, Ends, stops, finishes, Finished, ends_hand, run_ready, run_is_rule}
-use Rattle.case_tests.specs.declared.Checked.{Checked}
-use Rattle.case_tests.specs.declared.Checked.TheVariants.{Refused as Halts, Counts as Passes}
+use Rattle.case_tests.specs.declared.Counts.{Counts}
+use Rattle.lookup.specs.Clean.{Clean}
 use Rattle.case_tests.proofs.Cases.{as_refused, as_clean}
+use Rattle.book_tests.specs.Index.{index_after}
 use Rattle.answering.specs.Finish.{to_place, held_at, places_held, CanRead, answer_end}
 use Rattle.answering.specs.Call.{TestedInput, Runnable, Ran}
 use Rattle.answering.proofs.Places.{head_same}
@@ -48,7 +51,8 @@ abbrev pub Kept : Type 0
 Kept = List ℕ × (List ℕ × (List StudentState × Run))
 
 -- ---- the run
-module _ (case book index table places visits seats : List ℕ) (states n m : ℕ) (go : Runnable case book index table places visits seats states n m) where
+module _ (case book index table places visits seats : List ℕ) (states n m : ℕ) (clean : Clean case book index table n m)
+    (go : Runnable case book index places visits seats states) where
   abbrev M : Market
   M = market_in case
 
@@ -72,7 +76,7 @@ module _ (case book index table places visits seats : List ℕ) (states n m : �
   long = enough case book room go.valid
 
   few : M.workshops ≤ 64
-  few = omega (arith, go.clean.many_workshops, go.clean.workshops)
+  few = omega (arith, clean.many_workshops, clean.workshops)
 
   fits : 2 * pairs_in M M.paired ≤ length visits
   unfolding market_of
@@ -81,8 +85,8 @@ module _ (case book index table places visits seats : List ℕ) (states n m : �
   payable : Payable M
   payable =
       record {
-        few = pairs_few M (omega (arith, go.clean.many_students, go.clean.students)) few;
-        small = go.clean.fare;
+        few = pairs_few M (omega (arith, clean.many_students, clean.students)) few;
+        small = clean.fare;
       }
 
   begins : (j : ℕ) → after j ≡ run_of M B j visits (replicate (length seats) 0) zeros (begin_run M B)
@@ -126,7 +130,7 @@ module _ (case book index table places visits seats : List ℕ) (states n m : �
 
     -- the answer, the places and the visits are those of a
     record Left (a : Outcome) : Type 0 where
-      answer : answer_end r ≡ answer_for a
+      answer : Ok (answer_end r) ≡ answer_for a
       can_read : CanRead states₂ places (to_place r n)
       in_places : places_held (to_place r n) states₂ places ≡ places_after a places
       in_visits : visits₂ ≡ visits_after a visits
@@ -151,11 +155,11 @@ module _ (case book index table places visits seats : List ℕ) (states n m : �
         record {
           answer = rw (y, f.count, f.fares);
           can_read = rw y (record {
-            many_states = omega (arith, f.states, go.clean.students);
-            many_places = omega (arith, long.places, go.clean.students);
-            small = λ i l. omega (arith, place i (omega (arith, l, go.clean.students)), f.within (suc i), few);
+            many_states = omega (arith, f.states, clean.students);
+            many_places = omega (arith, long.places, clean.students);
+            small = λ i l. omega (arith, place i (omega (arith, l, clean.students)), f.within (suc i), few);
           });
-          in_places = rw (y, ← go.clean.students) (ap (λ (l : List ℕ). with_head l places) (head_same (held_at states₂) q M.students place));
+          in_places = rw (y, ← clean.students) (ap (λ (l : List ℕ). with_head l places) (head_same (held_at states₂) q M.students place));
           in_visits = f.visits;
         }
       where
@@ -180,28 +184,28 @@ module _ (case book index table places visits seats : List ℕ) (states n m : �
         seats) 0
         → Ran case book places visits seats a places₃ visits₂ seats₃
     ran a seats₃ places₃ ea ep es =
-        record { answer = ea ∙ outcome.answer; in_places = ep ∙ outcome.in_places; in_visits = outcome.in_visits; in_seats = es }
+        record { answer = ap Ok ea ∙ outcome.answer; in_places = ep ∙ outcome.in_places; in_visits = outcome.in_visits; in_seats = es }
 
 -- ---- the call
-module _ (case book places visits seats index : List ℕ) (states : List StudentState) (c : Checked) (seats₁ index₁ table₁ : List ℕ)
+module _ (case book places visits seats index : List ℕ) (states : List StudentState) (c : Result Counts Refusal) (seats₁ index₁ table₁ : List ℕ)
     (tested : TestedInput case book (lent case book places visits seats index states) c seats₁ index₁ table₁) where
   -- the room of the call
   abbrev lengths : Room
   lengths = lent case book places visits seats index states
 
   -- what is left is that of the outcome
-  record Leaves (a : Answer) (places₃ visits₃ : List ℕ) : Type 0 where
+  record Leaves (a : Result Answer Refusal) (places₃ visits₃ : List ℕ) : Type 0 where
     answer : a ≡ answer_for (engine case book lengths)
     in_places : places₃ ≡ places_after (engine case book lengths) places
     in_visits : visits₃ ≡ visits_after (engine case book lengths) visits
 
-  whole : (a : Answer) (places₃ visits₃ seats₃ index₃ : List ℕ) → Leaves a places₃ visits₃ → seats₃ ≡ replicate (length seats) 0
+  whole : (a : Result Answer Refusal) (places₃ visits₃ seats₃ index₃ : List ℕ) → Leaves a places₃ visits₃ → seats₃ ≡ replicate (length seats) 0
       → index₃ ≡ replicate (length index) 0
       → Answered case book places visits seats index states a places₃ visits₃ seats₃ index₃ (replicate (length states) zero_state)
   whole a places₃ visits₃ seats₃ index₃ l es ei =
       record {
         answer = l.answer;
-        values = ap values_of l.answer ∙ values_same (engine case book lengths);
+        values = ap values_of l.answer ∙ values_same (engine case book lengths) (engine_tabled case book lengths);
         in_places = l.in_places;
         in_visits = l.in_visits;
         in_seats = es;
@@ -211,40 +215,46 @@ module _ (case book places visits seats index : List ℕ) (states : List Student
       }
 
   -- a refusal
-  pub answered_refused : (k i : ℕ) → c ≡ Halts k i
-      → Answered case book places visits seats index states (Refused k i) places visits seats₁ index₁ (replicate (length states) zero_state)
+  by_refusal : (q : ℕ × ℕ) → refusal case book lengths ≡ Some q
+      → (Err (refusal_for q.0 q.1) ≡ answer_for (engine case book lengths)) × (places ≡ places_after (engine case book lengths) places)
+      × (visits ≡ visits_after (engine case book lengths) visits)
+      × (index_after (refusal case book lengths) case book (length index) ≡ replicate (length index) 0)
   unfolding engine outcome_unless answer_for places_after visits_after
-  answered_refused k i e = whole (Refused k i) places visits seats₁ index₁ stays tested.free (tested.left ∙ rw o)
-    where
-      o : refusal case book lengths ≡ some (k, i)
-      o = as_refused case (refusal case book lengths) k i (sym e ∙ tested.answer)
+  by_refusal q o = rw o (refl, refl, refl, refl)
 
-      stays : Leaves (Refused k i) places visits
-      stays = record { answer = rw o; in_places = rw o; in_visits = rw o }
+  pub answered_refused : (r : Refusal) → c ≡ Err r
+      → Answered case book places visits seats index states (Err r) places visits seats₁ index₁ (replicate (length states) zero_state)
+  answered_refused r e =
+      let o = as_refused case (refusal case book lengths) r (sym e ∙ tested.answer) in
+      let left = by_refusal o.0 o.1 in
+      whole (Err r) places visits seats₁ index₁ (record { answer = ap Err o.2 ∙ left.0; in_places = left.1; in_visits = left.2 }) tested.free
+      (tested.left ∙ left.3)
 
   -- the input passes
-  module _ (n m k : ℕ) (e : c ≡ Passes n m k) where
-    passed : (refusal case book lengths ≡ none) × (n ≡ (market_in case).students) × (m ≡ (market_in case).workshops)
-    passed = let p = as_clean case (refusal case book lengths) n m k (sym e ∙ tested.answer) in (p.0, p.1, p.2)
+  module _ (k : Counts) (e : c ≡ Ok k) where
+    passed : (refusal case book lengths ≡ None) × (k.students ≡ (market_in case).students) × (k.workshops ≡ (market_in case).workshops)
+    passed = let p = as_clean case (refusal case book lengths) k (sym e ∙ tested.answer) in (p.0, p.1, p.2)
 
-    pub runnable : length seats₁ ≡ length seats → length index₁ ≡ length index → Runnable case book index₁ table₁ places visits seats₁ (length states) n m
+    pub cleaned : Clean case book index₁ table₁ k.students k.workshops
+    cleaned = rw (passed.1, passed.2) (tested.clean passed.0)
+
+    pub runnable : length seats₁ ≡ length seats → length index₁ ≡ length index → Runnable case book index₁ places visits seats₁ (length states)
     runnable es ei =
         record {
           valid = rw (es, ei) (refusal_none case book lengths passed.0);
-          clean = rw (passed.1, passed.2) (tested.clean passed.0);
           free = tested.free ∙ ap (λ (j : ℕ). replicate {A = ℕ} j 0) (sym es);
         }
 
     -- and the run's answer is the call's
     pub answered_ran : (a : Answer) (places₃ visits₃ seats₃ index₃ : List ℕ) → length seats₁ ≡ length seats
         → Ran case book places visits seats₁ a places₃ visits₃ seats₃ → index₃ ≡ replicate (length index) 0
-        → Answered case book places visits seats index states a places₃ visits₃ seats₃ index₃ (replicate (length states) zero_state)
+        → Answered case book places visits seats index states (Ok a) places₃ visits₃ seats₃ index₃ (replicate (length states) zero_state)
     unfolding engine outcome_unless
     answered_ran a places₃ visits₃ seats₃ index₃ es r ei =
-        whole a places₃ visits₃ seats₃ index₃ left' (r.in_seats ∙ ap (λ (j : ℕ). replicate {A = ℕ} j 0) es) ei
+        whole (Ok a) places₃ visits₃ seats₃ index₃ left' (r.in_seats ∙ ap (λ (j : ℕ). replicate {A = ℕ} j 0) es) ei
       where
         by_rule : engine case book lengths ≡ rule_outcome (market_in case) (results_in book)
         by_rule = rw passed.0
 
-        left' : Leaves a places₃ visits₃
+        left' : Leaves (Ok a) places₃ visits₃
         left' = record { answer = rw by_rule r.answer; in_places = rw by_rule r.in_places; in_visits = rw by_rule r.in_visits }

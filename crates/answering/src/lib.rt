@@ -5,11 +5,10 @@ ghost use Rattle.std.specs.Prelude.{◌≡◌, ◌<◌, length, set, replicate};
 ghost use Rattle.answering.specs.Finish.{to_place, answer_end};
 ghost use Rattle.answering.specs.Call.{TestedInput};
 ghost use Rattle.api.specs.Answered.{room_of};
-ghost use Rattle.api.specs.Answers.{report_of};
 ghost use Rattle.tables.specs.Table.{Blank};
 
-use api::{Answer, Report, StudentState};
-use case_tests::Checked;
+use api::{Answer, Refusal, StudentState};
+use case_tests::Counts;
 use intake::Room;
 use model::Run;
 
@@ -24,7 +23,7 @@ pub fn test(
     index: &mut [u16],
     states: usize,
     table: &mut [u64],
-) -> Checked
+) -> Result<Counts, Refusal>
     requires { Blank table.old }
     ensures { TestedInput case.now book.now
         (room_of places visits (length seats.old) (length index.old) states) result
@@ -37,12 +36,10 @@ pub fn test(
         index: index.len(),
         states,
     };
-    records::clear(&mut *seats);
-    let checked = intake::check(case, book, room, &mut *index, &mut *table);
-    if let Checked::Counts { students, .. } = checked {
-        tables::link(case, students, &mut *table);
-    }
-    checked
+    seats.fill(0);
+    let counts = intake::check(case, book, room, index, &mut *table)?;
+    tables::link(case, counts.students, table);
+    Ok(counts)
 }
 
 // How many of the students have a place to be read: all where the run has placed everybody, and else none.
@@ -86,40 +83,6 @@ pub fn finish(seats: &mut [u16], r: Run) -> Answer
     ensures value { result ≡ answer_end r }
     ensures seats_after { seats.new ≡ replicate (length seats.old) 0 }
 {
-    records::clear(&mut *seats);
+    seats.fill(0);
     answer_of(r)
-}
-
-// The answer in five numbers.
-pub fn numbers(answer: Answer) -> Report
-    ensures { result ≡ report_of answer }
-{
-    match answer {
-        Answer::Placed { visits, fares } => Report {
-            kind: 0,
-            first: 0,
-            second: 0,
-            visits: visits as u64,
-            fares: fares as u64,
-        },
-        Answer::Next {
-            student,
-            workshop,
-            visits,
-            fares,
-        } => Report {
-            kind: 1,
-            first: student as u64,
-            second: workshop as u64,
-            visits: visits as u64,
-            fares: fares as u64,
-        },
-        Answer::Refused { cause, record } => Report {
-            kind: 2,
-            first: cause as u64,
-            second: record as u64,
-            visits: 0,
-            fares: 0,
-        },
-    }
 }

@@ -6,14 +6,21 @@ use mathlib.Core.List.{List, [], ◌∷◌, ◌++◌}
 use native.Mathlib.Omega.{arith}
 use lib.ListN.{length, get_or, drop}
 use lib.Seq.{take-append_seam, ext_get_or}
-use Rattle.base.specs.Lists.{tabulate}
+use Rattle.base.specs.Lists.{any, tabulate}
 use Rattle.base.proofs.Below.{tabulate_length, tabulate_at}
 use Rattle.lgs.specs.Rule.{Interview}
 use Rattle.format.specs.Engine.{placed, next, refused, Outcome}
 use Rattle.format.specs.Buffers.{flat, places_after, visits_after, values}
 use Rattle.format.specs.Printed.{printed}
-use Rattle.api.specs.declared.Answer.TheVariants.{Placed, Next, Refused}
-use Rattle.api.specs.Answers.{answer_for, values_of, report_of, read_back, Reported}
+use Rattle.std.specs.Prelude.{Ok, Err, leb, ◌&&◌, true}
+use Rattle.api.specs.declared.Cause.{Cause}
+use Rattle.api.specs.declared.Cause.TheVariants.{CaseLength, RecordForm, RecordOrder, Counts, Range, Room, BookLength, NoPair, Mark, Twice, EqualMarks}
+use Rattle.api.specs.declared.Cause.TheVariants.{NoStages, Lot, LineForm, LineNames}
+use Rattle.api.specs.declared.Answer.TheVariants.{Placed, Next}
+use Rattle.api.specs.Causes.{number_of}
+use Rattle.api.specs.Answers.{answer_for, values_of, read_back, Reported}
+use Rattle.api.specs.Parts.{part_values_of, part_kind_of, read_part, PartReported}
+use Rattle.api.proofs.Causes.{Tabled, cause_back}
 use Rattle.api.specs.Text.{interviews_at, text_of}
 
 flat_first : (vs : List Interview) (rest : List ℕ) (i : ℕ) → i < length vs → get_or (flat vs ++ rest) (2 * i) 0 ≡ (get_or vs i (0, 0)).0
@@ -51,23 +58,46 @@ PlacesOf n (refused k i) = Unit {0}
 
 -- the text from the buffers is the answer's text
 pub text_printed : (a : Outcome) (n : ℕ) (places visits : List ℕ) → PlacesOf n a
+    → Tabled a
     → text_of (answer_for a) n (places_after a places) (visits_after a visits) ≡ printed a
 unfolding text_of answer_for places_after visits_after printed
-text_printed (placed ps vs fares) n places visits e =
+text_printed (placed ps vs fares) n places visits e t =
     rw (interviews_back vs (drop (length (flat vs)) visits), ← e, take-append_seam ps (drop (length ps) places))
-text_printed (next s w vs fares) n places visits e = rw (interviews_back vs (drop (length (flat vs)) visits))
-text_printed (refused k i) n places visits e = refl
+text_printed (next s w vs fares) n places visits e t = rw (interviews_back vs (drop (length (flat vs)) visits))
+text_printed (refused k i) n places visits e t = rw t
 
 -- the enum's values are those of the answer
-pub values_same : (a : Outcome) → values_of (answer_for a) ≡ values a
+pub values_same : (a : Outcome) → Tabled a → values_of (answer_for a) ≡ values a
 unfolding values_of answer_for values
-values_same (placed ps vs fares) = refl
-values_same (next s w vs fares) = refl
-values_same (refused k i) = refl
+values_same (placed ps vs fares) t = refl
+values_same (next s w vs fares) t = refl
+values_same (refused k i) t = rw t
 
 -- and a host reads the answer back
+known : (c : Cause) → (leb 1 (number_of c) && leb (number_of c) 15) ≡ true
+known CaseLength = refl
+known RecordForm = refl
+known RecordOrder = refl
+known Counts = refl
+known Range = refl
+known Room = refl
+known BookLength = refl
+known NoPair = refl
+known Mark = refl
+known Twice = refl
+known EqualMarks = refl
+known NoStages = refl
+known Lot = refl
+known LineForm = refl
+known LineNames = refl
+
 pub reported : Reported
-unfolding read_back report_of
-reported (Placed count fares) = refl
-reported (Next s w count fares) = refl
-reported (Refused k i) = refl
+unfolding read_back
+reported (Ok (Placed count fares)) = refl
+reported (Ok (Next s w count fares)) = refl
+reported (Err r) = rw (known r.cause, cause_back r.cause)
+
+pub part_reported : PartReported
+unfolding read_part part_kind_of part_values_of any
+part_reported (Ok given) = refl
+part_reported (Err r) = refl

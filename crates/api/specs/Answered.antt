@@ -1,12 +1,13 @@
 -- What a call of the engine leaves, for any bytes, any lengths and any contents of the lent buffers: the answer, the buffers, and what is promised
 -- of that answer.
-use Rattle.std.specs.Prelude.{ℕ, ◌≡◌, List, length}
+use Rattle.std.specs.Prelude.{ℕ, ◌≡◌, List, length, Result}
 use Rattle.format.specs.Refusals.{Room}
 use Rattle.format.specs.Engine.{engine}
 use Rattle.format.specs.Buffers.{places_after, visits_after, scratch_after, values}
 use Rattle.format.specs.Promises.{Promised}
 use Rattle.api.specs.declared.StudentState.{StudentState}
 use Rattle.api.specs.declared.Answer.{Answer}
+use Rattle.api.specs.declared.Refusal.{Refusal}
 use Rattle.api.specs.Answers.{answer_for, values_of}
 
 abbrev pub zero_state : StudentState
@@ -23,11 +24,11 @@ module _ (case book places visits seats index : List ℕ) (states : List Student
   lent = room_of (length places) (length visits) (length seats) (length index) (length states)
 
   -- the answer to the case and the book in these buffers
-  abbrev pub answer_in : Answer
+  abbrev pub answer_in : Result Answer Refusal
   answer_in = answer_for (engine case book lent)
 
   -- the buffers at entry are places to states, and those with a prime stand at exit
-  pub record Answered (a : Answer) (places' visits' seats' index' : List ℕ) (states' : List StudentState) : Type 0 where
+  pub record Answered (a : Result Answer Refusal) (places' visits' seats' index' : List ℕ) (states' : List StudentState) : Type 0 where
     pub answer : a ≡ answer_in
     -- the number and values of documents 01 and 02
     pub values : values_of a ≡ values (engine case book lent)

@@ -1,3 +1,4 @@
+pub mod Causes
 pub mod Answers
 pub mod Answered
 pub mod Text

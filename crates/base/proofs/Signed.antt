@@ -4,11 +4,11 @@ use mathlib.Core.Path.{◌≡◌, sym, ap, ◌∙◌}
 use mathlib.Core.Logic.{⊎_elim}
 use native.Mathlib.Omega.{arith}
 use lib.Dec.{ltb, eqb}
-use lib.IntN.{ℤ, pos, negsuc, ◌-ℤ◌}
+use lib.IntN.{ℤ, pos, negsuc}
 use lib.Signed.{lt_z, mag}
-use mir.Syntax.{w16, w32}
+use mir.Syntax.{w16}
 use mir.Val.{SFits, to_z, of_z, hbits}
-use mir.ValLaws.{to_z-of_z, to_z_pos}
+use mir.ValLaws.{to_z-of_z, to_z_pos, to_z-neg}
 use borrow.Author.Tests.{lt-ltb, le-ltb, eq-eqb, ne_eqb}
 use Rattle.base.specs.Words.{biased}
 use Rattle.base.proofs.Tests.{less?, eq?}
@@ -54,24 +54,23 @@ code_zero (negsuc n) f =
     let l : n < 32768 = f.sfits in
     ne_eqb (2 ^ 16 - suc n) 0 (λ q. omega arith) ∙ sym (ne_eqb (32767 - n) 32768 (λ q. omega arith))
 
--- what `v as i32 - 65536` is, for the upper half of 16 bits
-pub lowered : (v : ℕ) → v < 65536 → to_z w32 v -ℤ pos 65536 ≡ negsuc (65536 - suc v)
-lowered v h = let l : v < 2 ^ hbits w32 = omega arith in rw (to_z_pos w32 v l, lt-ltb v 65536 h)
-
-pub lowered_32 : (v : ℕ) → v < 65536 → SFits w32 (to_z w32 v -ℤ pos 65536)
-lowered_32 v h = rw (lowered v h) (record { sfits = omega arith })
-
--- read back from its 32 bits
-pub lowered_back : (v : ℕ) → v < 65536 → to_z w32 (of_z w32 (to_z w32 v -ℤ pos 65536)) ≡ negsuc (65536 - suc v)
-lowered_back v h = to_z-of_z w32 (to_z w32 v -ℤ pos 65536) (lowered_32 v h) ∙ lowered v h
-
-pub lowered_16 : (v : ℕ) → 32768 ≤ v → v < 65536 → SFits w16 (negsuc (65536 - suc v))
-lowered_16 v l h = record { sfits = omega arith }
-
-pub low_half : (v : ℕ) → v < 32768 → biased (to_z w16 v) ≡ (v + 32768) % 65536
+-- 16 bits read as a signed number
+pub signed_16 : (v : ℕ) → v < 65536 → biased (to_z w16 v) ≡ (v + 32768) % 65536
 unfolding biased
-low_half v l = let m : v < 2 ^ hbits w16 = omega arith in rw (to_z_pos w16 v m) (omega arith)
+signed_16 v l = ⊎_elim low high (less? v 32768)
+  where
+    low : v < 32768 → biased (to_z w16 v) ≡ (v + 32768) % 65536
+    low h = let m : v < 2 ^ hbits w16 = omega arith in rw (to_z_pos w16 v m) (omega arith)
 
-pub high_half : (v : ℕ) → 32768 ≤ v → v < 65536 → biased (to_z w16 (of_z w16 (to_z w32 (of_z w32 (to_z w32 v -ℤ pos 65536))))) ≡ (v + 32768) % 65536
+    high : 32768 ≤ v → biased (to_z w16 v) ≡ (v + 32768) % 65536
+    high h =
+        let k : ℕ = 65536 - suc v in
+        let m : k < 2 ^ hbits w16 = omega arith in
+        let e : 2 ^ 16 - suc k ≡ v = omega arith in
+        ap (λ (x : ℕ). biased (to_z w16 x)) (sym e) ∙ (rw (to_z-neg w16 k m) (omega arith))
+
+-- and a signed number of 16 bits, raised in them
+pub raised_16 : (a : ℤ) → SFits w16 a → (of_z w16 a + 32768) % 65536 ≡ biased a
 unfolding biased
-high_half v l h = rw (lowered_back v h, to_z-of_z w16 (negsuc (65536 - suc v)) (lowered_16 v l h)) (omega arith)
+raised_16 (pos n) f = let l : n < 32768 = f.sfits in omega arith
+raised_16 (negsuc n) f = let l : n < 32768 = f.sfits in omega arith

@@ -1,10 +1,12 @@
-// The open workshops as the 64 bits of one number: workshop w, from 1 to 64, is bit w - 1. Larger sets as the bits of a slice.
+// The open workshops as the 64 bits of one number: workshop w, from 1 to 64, is bit w - 1. Functions of the number and no type of its own, because C lends
+// the sets as numbers (`StudentState::openings`). Larger sets as the bits of a slice.
 #![tactic(auto)]
 
 ghost use Rattle.std.specs.Prelude.{◌≡◌, true, not, ◌&&◌, ◌||◌, ℕ, ◌-◌, ◌*◌, ◌^◌, ◌≤◌, ◌<◌, eqb, length};
 ghost use Rattle.std.specs.Int.Bits.{bit_or, bit_and};
 ghost use Rattle.base.specs.Lists.{count};
-ghost use Rattle.base.specs.Bits.{member, Low, Met};
+ghost use Rattle.std.specs.Iterator.{YieldsFirst, item_count};
+ghost use Rattle.base.specs.Bits.{member, members, Low, Met};
 
 // Workshop w is in the set.
 pub fn has_bit(bits: u64, w: usize) -> bool
@@ -52,7 +54,7 @@ pub fn minus(a: u64, b: u64) -> u64
 pub fn count(bits: u64) -> u32
     ensures { result ≡ count (member bits) 64 }
 {
-    u64::count_ones(bits)
+    bits.count_ones()
 }
 
 // The lowest-numbered open workshop.
@@ -70,6 +72,27 @@ pub fn without_lowest(bits: u64) -> u64
     ensures upper_bound { result < bits }
 {
     bits & (bits - 1)
+}
+
+// The workshops of a set, in rising number.
+#[derive(Clone, Copy)]
+pub struct Members(pub u64);
+
+impl Iterator for Members {
+    type Item = usize;
+
+    ghost next_gives = { YieldsFirst (λ s. members s.0) };
+
+    ghost remaining = { item_count (λ s. members s.0) };
+
+    fn next(&mut self) -> Option<usize> {
+        if self.0 == 0 {
+            return None;
+        }
+        let w = lowest(self.0);
+        self.0 = without_lowest(self.0);
+        Some(w)
+    }
 }
 
 // Whether the slot was met before. It is from now on.

@@ -4,7 +4,7 @@ use mathlib.Core.Path.{◌≡◌, refl, sym, ap, ◌∙◌}
 use mathlib.Core.Logic.{⊎_elim}
 use mathlib.Core.Bool.{Bool, true, false, not}
 use mathlib.Core.List.{List, ◌++◌}
-use mathlib.Core.Option.{Option, some, none}
+use Rattle.std.specs.Prelude.{Option, Some, None}
 use native.Mathlib.Omega.{arith}
 use native.Mathlib.Numerals.{add-one}
 use lib.ListN.{length, get_or, set, replicate, length-append, length-replicate, get_or-replicate, replicate-append-replicate, get_or-append}
@@ -40,30 +40,32 @@ pub any_number : (p : ℕ → Bool) (n : ℕ) → any_below p n ≡ not (eqb (fr
 any_number p n = end_any p n ∙ go (first_bad p n) refl
   where
     go : (o : Option ℕ) → first_bad p n ≡ o → ltb (or_end n o) n ≡ not (eqb (from_one o) 0)
-    go none e = le-ltb n n (omega arith)
-    go (some i) e = lt-ltb i n (first_below p n i e) ∙ sym (rw (ne_eqb (suc i) 0 (λ q. omega arith)))
+    go None e = le-ltb n n (omega arith)
+    go (Some i) e = lt-ltb i n (first_below p n i e) ∙ sym (rw (ne_eqb (suc i) 0 (λ q. omega arith)))
 
-pub number_none : (p : ℕ → Bool) (n : ℕ) → from_one (first_bad p n) ≡ 0 → first_bad p n ≡ none
+pub number_none : (p : ℕ → Bool) (n : ℕ) → from_one (first_bad p n) ≡ 0 → first_bad p n ≡ None
 number_none p n e = go (first_bad p n) e
   where
-    go : (o : Option ℕ) → from_one o ≡ 0 → o ≡ none
-    go none e = refl
-    go (some i) e = absurd (omega arith)
+    go : (o : Option ℕ) → from_one o ≡ 0 → o ≡ None
+    go None e = refl
+    go (Some i) e = absurd (omega arith)
 
 -- what causes 8 to 10 find by themselves where they find nothing together
-module _ (case book : List ℕ) (e : first_bad (bad_any (rows case) (entries book)) (entry_count book) ≡ none) where
-  pub all_paired : first_bad (bad_pair (rows case) (entries book)) (entry_count book) ≡ none
+module _ (case book : List ℕ) (e : first_bad (bad_any (rows case) (entries book)) (entry_count book) ≡ None) where
+  pub all_paired : first_bad (bad_pair (rows case) (entries book)) (entry_count book) ≡ None
   unfolding bad_any
-  all_paired = none_first (bad_pair (rows case) (entries book)) (bad_scores (rows case) (entries book)) (bad_repeat (rows case) (entries book)) (entry_count book) e
+  all_paired = none_first (bad_pair (rows case) (entries book)) (bad_scores (rows case) (entries book)) (bad_repeat (rows case) (entries book))
+      (entry_count book) e
 
-  pub all_scored : first_bad (bad_scores (rows case) (entries book)) (entry_count book) ≡ none
+  pub all_scored : first_bad (bad_scores (rows case) (entries book)) (entry_count book) ≡ None
   unfolding bad_any
   all_scored = none_second (bad_pair (rows case) (entries book)) (bad_scores (rows case) (entries book)) (bad_repeat (rows case) (entries book))
       (entry_count book) e
 
-  pub all_fresh : first_bad (bad_repeat (rows case) (entries book)) (entry_count book) ≡ none
+  pub all_fresh : first_bad (bad_repeat (rows case) (entries book)) (entry_count book) ≡ None
   unfolding bad_any
-  all_fresh = none_third (bad_pair (rows case) (entries book)) (bad_scores (rows case) (entries book)) (bad_repeat (rows case) (entries book)) (entry_count book) e
+  all_fresh = none_third (bad_pair (rows case) (entries book)) (bad_scores (rows case) (entries book)) (bad_repeat (rows case) (entries book))
+      (entry_count book) e
 
 tabulate_zero : (n : ℕ) → tabulate {A = ℕ} (λ k. 0) n ≡ replicate {A = ℕ} n 0
 tabulate_zero n =
@@ -195,7 +197,7 @@ module _ (case : List ℕ) (n m : ℕ) (c : CleanCase case n m) where
 
           module _ (paired : bad_pair (rows case) (entries book) i ≡ false) (scored : bad_scores (rows case) (entries book) i ≡ false)
               (z : get_or index (p - pairs_from case) 0 ≡ 0) where
-            none_yet : first_bad (λ k. is_interview (entry_at book i).student (entry_at book i).workshop (entry_at book k)) i ≡ none
+            none_yet : first_bad (λ k. is_interview (entry_at book i).student (entry_at book i).workshop (entry_at book k)) i ≡ None
             none_yet = number_none (λ k. is_interview (entry_at book i).student (entry_at book i).workshop (entry_at book k)) i (sym numbered ∙ z)
 
             own : is_interview (entry_at book i).student (entry_at book i).workshop (entry_at book i) ≡ true

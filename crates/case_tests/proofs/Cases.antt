@@ -3,7 +3,7 @@ use Prim.Native.Nat.{ℕ, ◌+◌, ◌-◌, ◌%◌, ◌≤◌}
 use mathlib.Core.Path.{◌≡◌, refl, ap, ◌∙◌}
 use mathlib.Core.Bool.{Bool, true, false, not, ◌||◌}
 use mathlib.Core.List.{List, [], ◌∷◌}
-use mathlib.Core.Option.{Option, some, none}
+use Rattle.std.specs.Prelude.{Option, Some, None, Result, Ok, Err}
 use native.Mathlib.Omega.{arith}
 use lib.ListN.{length}
 use lib.Dec.{eqb}
@@ -20,47 +20,49 @@ use Rattle.format.proofs.Positions.{clean_all, within, Sorted, places}
 use Rattle.format.proofs.Positions.{Clean as CleanTo}
 use Rattle.case_tests.specs.Order.{Counted}
 use Rattle.case_tests.specs.Checked.{CleanCase, checked_of, pair_count, case_refusal}
-use Rattle.case_tests.specs.declared.Checked.TheVariants.{Refused, Counts}
+use Rattle.api.specs.declared.Refusal.{Refusal}
+use Rattle.api.specs.Causes.{refusal_for}
+use Rattle.case_tests.specs.declared.Counts.{Counts}
 
-pub whole_none : (n : ℕ) → n ≡ 0 → some_if (not (eqb n 0)) 0 ≡ none
+pub whole_none : (n : ℕ) → n ≡ 0 → some_if (not (eqb n 0)) 0 ≡ None
 whole_none n e = rw (eq-eqb n 0 e)
 
-pub whole_some : (n : ℕ) → (n ≡ 0 → ⊥) → some_if (not (eqb n 0)) 0 ≡ some 0
+pub whole_some : (n : ℕ) → (n ≡ 0 → ⊥) → some_if (not (eqb n 0)) 0 ≡ Some 0
 whole_some n f = rw (ne_eqb n 0 f)
 
 -- ---- where a cause finds something, and those before it nothing
 module _ (case : List ℕ) where
-  pub case_1 : some_if (not (eqb (length case % 16) 0)) 0 ≡ some 0 → case_refusal case ≡ some (1, 0)
+  pub case_1 : some_if (not (eqb (length case % 16) 0)) 0 ≡ Some 0 → case_refusal case ≡ Some (1, 0)
   unfolding case_causes
   case_1 e = rw (e, first_cause)
 
-  module _ (whole : some_if (not (eqb (length case % 16) 0)) 0 ≡ none) where
-    pub case_2 : (i : ℕ) → first_bad (bad_form (rows case)) (row_count case) ≡ some i → case_refusal case ≡ some (2, i)
+  module _ (whole : some_if (not (eqb (length case % 16) 0)) 0 ≡ None) where
+    pub case_2 : (i : ℕ) → first_bad (bad_form (rows case)) (row_count case) ≡ Some i → case_refusal case ≡ Some (2, i)
     unfolding case_causes
     case_2 i e = rw (whole, e, first_cause)
 
-    module _ (form : first_bad (bad_form (rows case)) (row_count case) ≡ none) where
-      pub case_3 : (i : ℕ) → first_bad (bad_order (rows case)) (row_count case) ≡ some i → case_refusal case ≡ some (3, i)
+    module _ (form : first_bad (bad_form (rows case)) (row_count case) ≡ None) where
+      pub case_3 : (i : ℕ) → first_bad (bad_order (rows case)) (row_count case) ≡ Some i → case_refusal case ≡ Some (3, i)
       unfolding case_causes
       case_3 i e = rw (whole, form, e, first_cause)
 
-      module _ (order : first_bad (bad_order (rows case)) (row_count case) ≡ none) where
-        pub case_4 : bad_counts (rows case) ≡ true → case_refusal case ≡ some (4, 0)
+      module _ (order : first_bad (bad_order (rows case)) (row_count case) ≡ None) where
+        pub case_4 : bad_counts (rows case) ≡ true → case_refusal case ≡ Some (4, 0)
         unfolding case_causes
         case_4 e = rw (whole, form, order, e, first_cause)
 
         module _ (counts : bad_counts (rows case) ≡ false) where
-          pub case_5 : (i : ℕ) → first_bad (bad_range (rows case)) (row_count case) ≡ some i → case_refusal case ≡ some (5, i)
+          pub case_5 : (i : ℕ) → first_bad (bad_range (rows case)) (row_count case) ≡ Some i → case_refusal case ≡ Some (5, i)
           unfolding case_causes
           case_5 i e = rw (whole, form, order, counts, e, first_cause)
 
     -- after 5
     module _ {n m : ℕ} (c : CleanCase case n m) where
-      pub case_13 : (i : ℕ) → first_bad (bad_lot (rows case)) (row_count case) ≡ some i → case_refusal case ≡ some (13, i)
+      pub case_13 : (i : ℕ) → first_bad (bad_lot (rows case)) (row_count case) ≡ Some i → case_refusal case ≡ Some (13, i)
       unfolding case_causes
       case_13 i e = rw (whole, c.form, c.order, c.counts, c.range, e, first_cause)
 
-      pub case_clean : first_bad (bad_lot (rows case)) (row_count case) ≡ none → case_refusal case ≡ none
+      pub case_clean : first_bad (bad_lot (rows case)) (row_count case) ≡ None → case_refusal case ≡ None
       unfolding case_causes
       case_clean e = rw (whole, c.form, c.order, c.counts, c.range, e, first_cause)
 
@@ -88,12 +90,12 @@ module _ (case : List ℕ) (n m : ℕ) (c : CleanCase case n m) where
       (omega (arith, s.whole, c.students, c.workshops), omega (arith, s.whole, c.students, c.workshops))
 
 -- ---- answers
-pub refused_as : (case : List ℕ) (o : Option (ℕ × ℕ)) (k i : ℕ) → o ≡ some (k, i) → checked_of o case ≡ Refused k i
+pub refused_as : (case : List ℕ) (o : Option (ℕ × ℕ)) (k i : ℕ) (r : Refusal) → r ≡ refusal_for k i → o ≡ Some (k, i) → Err r ≡ checked_of o case
 unfolding checked_of
-refused_as case o k i e = rw e
+refused_as case o k i r q e = rw (e, q)
 
-pub clean_as : (case : List ℕ) (o : Option (ℕ × ℕ)) (n m p : ℕ) → o ≡ none → n ≡ (market_in case).students → m ≡ (market_in case).workshops
-    → p ≡ pair_count case → checked_of o case ≡ Counts n m p
+pub clean_as : (case : List ℕ) (o : Option (ℕ × ℕ)) (n m p : ℕ) → o ≡ None → n ≡ (market_in case).students → m ≡ (market_in case).workshops
+    → p ≡ pair_count case → checked_of o case ≡ Ok (record { students = n; workshops = m; pairs = p })
 unfolding checked_of
 clean_as case o n m p e a b d = rw (e, a, b, d)
 
@@ -112,7 +114,7 @@ module _ (case : List ℕ) (n m : ℕ) (c : Counted case (row_count case) n m) w
   counts_same = rw (all_students, all_workshops)
 
 -- what is refused is not clean
-pub refused_none : {A : Type 0} (o : Option (ℕ × ℕ)) (k i : ℕ) → o ≡ some (k, i) → o ≡ none → A
+pub refused_none : {A : Type 0} (o : Option (ℕ × ℕ)) (k i : ℕ) → o ≡ Some (k, i) → o ≡ None → A
 refused_none o k i e n = let z : ◌≡◌ {A = ℕ} 0 1 = cc in absurd (omega arith)
 
 -- ---- what an answer says
@@ -120,30 +122,35 @@ refused_none o k i e n = let z : ◌≡◌ {A = ℕ} 0 1 = cc in absurd (omega a
 -- none of the causes finds anything
 abbrev AllNone : List Cause → Type 0
 AllNone [] = Unit {0}
-AllNone (c ∷ cs) = (finds c.1 ≡ none) × AllNone cs
+AllNone (c ∷ cs) = (finds c.1 ≡ None) × AllNone cs
 
-all_none : (cs : List Cause) → first_cause cs ≡ none → AllNone cs
+all_none : (cs : List Cause) → first_cause cs ≡ None → AllNone cs
 all_none [] e = tt
 all_none ((k, t) ∷ cs) e = go (finds t) refl (all_none cs)
   where
-    go : (o : Option ℕ) → finds t ≡ o → (first_cause cs ≡ none → AllNone cs) → (finds t ≡ none) × AllNone cs
-    go none f rest = (f, rest (rw (f, first_cause) at e))
-    go (some i) f rest = let g : ◌≡◌ {A = Option (ℕ × ℕ)} (some (k, i)) none = rw (f, first_cause) at e in let z : ◌≡◌ {A = ℕ} 0 1 = cc in absurd (omega arith)
+    go : (o : Option ℕ) → finds t ≡ o → (first_cause cs ≡ None → AllNone cs) → (finds t ≡ None) × AllNone cs
+    go None f rest = (f, rest (rw (f, first_cause) at e))
+    go (Some i) f rest = let g : ◌≡◌ {A = Option (ℕ × ℕ)} (Some (k, i)) None = rw (f, first_cause) at e in let z : ◌≡◌ {A = ℕ} 0 1 = cc in absurd (omega arith)
 
 -- ---- what the answer for the case says
 module _ (case : List ℕ) where
-  pub as_refused : (o : Option (ℕ × ℕ)) (k i : ℕ) → Refused k i ≡ checked_of o case → o ≡ some (k, i)
+  pub as_refused : (o : Option (ℕ × ℕ)) (r : Refusal) → Err r ≡ checked_of o case → (q : ℕ × ℕ) × (o ≡ Some q) × (r ≡ refusal_for q.0 q.1)
   unfolding checked_of
-  as_refused none k i e = let z : ◌≡◌ {A = ℕ} 0 1 = cc in absurd (omega arith)
-  as_refused (some r) k i e = let a : r.0 ≡ k = cc in let b : r.1 ≡ i = cc in rw (← a, ← b)
+  as_refused None r e = absurd (apart r _ e)
+    where
+      apart : (r : Refusal) (c : Counts) → ◌≡◌ {A = Result Counts Refusal} (Err r) (Ok c) → ⊥
+      apart r c e = cc
+  as_refused (Some q) r e = (q, refl, cc)
 
-  pub as_clean : (o : Option (ℕ × ℕ)) (n m p : ℕ) → Counts n m p ≡ checked_of o case → (o ≡ none) × (n ≡ (market_in case).students) ×
-      (m ≡ (market_in case).workshops) × (p ≡ pair_count case)
+  pub as_clean : (o : Option (ℕ × ℕ)) (c : Counts) → Ok c ≡ checked_of o case → (o ≡ None) × (c.students ≡ (market_in case).students) ×
+      (c.workshops ≡ (market_in case).workshops) × (c.pairs ≡ pair_count case)
   unfolding checked_of
-  as_clean none n m p e = (refl, cc, cc, cc)
-  as_clean (some r) n m p e = let z : ◌≡◌ {A = ℕ} 0 1 = cc in absurd (omega arith)
+  as_clean None c e =
+      let f : c ≡ record { students = (market_in case).students; workshops = (market_in case).workshops; pairs = pair_count case } = cc in
+      rw f (refl, refl, refl, refl)
+  as_clean (Some r) c e = let z : ◌≡◌ {A = ℕ} 0 1 = cc in absurd (omega arith)
 
-  pub none_clean : case_refusal case ≡ none → CleanCase case (market_in case).students (market_in case).workshops
+  pub none_clean : case_refusal case ≡ None → CleanCase case (market_in case).students (market_in case).workshops
   unfolding case_causes
   none_clean e =
       let r : AllNone (case_causes case) = all_none (case_causes case) e in
@@ -157,6 +164,6 @@ module _ (case : List ℕ) where
         workshops = refl;
       }
     where
-      flag : (b : Bool) → some_if b 0 ≡ none → b ≡ false
+      flag : (b : Bool) → some_if b 0 ≡ None → b ≡ false
       flag true e = let z : ◌≡◌ {A = ℕ} 0 1 = cc in absurd (omega arith)
       flag false e = refl

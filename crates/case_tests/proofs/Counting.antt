@@ -5,6 +5,7 @@ use mathlib.Core.Logic.{⊎_elim}
 use mathlib.Core.Bool.{Bool, true, false, not, ◌&&◌, ◌||◌, or-false}
 use mathlib.Core.List.{List}
 use native.Mathlib.Omega.{arith}
+use borrow.Author.Tests.{le-ltb}
 use native.Mathlib.Numerals.{add-one}
 use lib.ListN.{take}
 use lib.Dec.{eqb, ltb}
@@ -48,7 +49,8 @@ module _ (case : List ℕ) where
     kinds : (kind : ℕ) → tally (of_kind kind) (take i (rows case)) ≡ kinds_before case kind i
     kinds kind = kinds_before_lem case kind i c.inside
 
-    more : (kind a : ℕ) → a ≡ tally (of_kind kind) (take i (rows case)) → a + one (of_kind kind (row_at case i)) ≡ tally (of_kind kind) (take (i + 1) (rows case))
+    more : (kind a : ℕ) → a ≡ tally (of_kind kind) (take i (rows case))
+        → a + one (of_kind kind (row_at case i)) ≡ tally (of_kind kind) (take (i + 1) (rows case))
     more kind a e = rw (kinds_before_lem case kind (i + 1) (omega arith), count_on (λ k. of_kind kind (row_at case k)) i, e, kinds kind)
 
     pub counted_on : bad_order (rows case) i ≡ false → Counted case (i + 1) (n + one (eqb (row_at case i).kind 1)) (m + one (eqb (row_at case i).kind 2))
@@ -84,3 +86,30 @@ module _ (case : List ℕ) where
     pub order_test_lem : bad_order (rows case) i ≡ order_test n m (row_at case i) (row_at case (i - 1))
     unfolding bad_order
     order_test_lem = rw (falls_at case i l, number, rising_at case i l, nobody)
+
+    -- by its kind
+    low : (row_at case (i - 1)).kind ≤ 3
+    low =
+        ⊎_elim (λ (a : 0 < i). (kind_within case (i - 1) (omega arith) (clean.form (i - 1) (omega arith))).1)
+        (λ (a : i ≤ 0). let e : i - 1 ≡ i = omega arith in rw e (kind_within case i l f).1) (less? 0 i)
+
+    -- r is record i, and p the one before it
+    module _ (r p : Row) (er : r ≡ row_at case i) (ep : p ≡ row_at case (i - 1)) where
+      test : bad_order (rows case) i ≡ order_test n m r p
+      test = order_test_lem ∙ rw (er, ep)
+
+      pub student_order : r.kind ≡ 1 → bad_order (rows case) i ≡ (ltb 1 p.kind || not (eqb r.first (n + 1)))
+      student_order e = test ∙ rw (e, or-false (not (eqb r.first (n + 1)))) (or-false _)
+
+      pub workshop_order : r.kind ≡ 2 → bad_order (rows case) i ≡ (ltb 2 p.kind || not (eqb r.first (m + 1)))
+      workshop_order e = test ∙ rw e (or-false _)
+
+      pub pair_order : (r.kind ≡ 1 → ⊥) → (r.kind ≡ 2 → ⊥)
+          → bad_order (rows case) i
+          ≡ ((eqb p.kind 3 && not (ltb p.first r.first || (eqb p.first r.first && ltb p.second r.second)))
+          || (not_within 1 n r.first || not_within 1 m r.second))
+      pair_order a b =
+          let k : (1 ≤ r.kind) × (r.kind ≤ 3) = rw er (kind_within case i l f) in
+          let e : r.kind ≡ 3 = omega arith in
+          let u : p.kind ≤ 3 = rw ep low in
+          test ∙ rw (e, le-ltb 3 p.kind u)

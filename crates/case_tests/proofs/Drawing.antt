@@ -3,7 +3,7 @@ use Prim.Native.Nat.{ℕ, suc, ◌+◌, ◌-◌, ◌/◌, ◌%◌, ◌≤◌, �
 use mathlib.Core.Path.{◌≡◌, refl, sym, ap, ◌∙◌}
 use mathlib.Core.Logic.{⊎_elim}
 use mathlib.Core.Bool.{Bool, true, false, ◌||◌}
-use mathlib.Core.Option.{none}
+use Rattle.std.specs.Prelude.{None}
 use mathlib.Core.List.{List}
 use native.Mathlib.Omega.{arith}
 use lib.Dec.{eqb}
@@ -41,7 +41,7 @@ drawn case lot i = any_below (λ k. has_lot lot (row_at case k)) i
 
 -- the lots of the first i students pass, and are those in the set
 pub record Drawn (case used : List ℕ) (i : ℕ) : Type 0 where
-  pub passed : first_bad (bad_lot (rows case)) i ≡ none
+  pub passed : first_bad (bad_lot (rows case)) i ≡ None
   pub slots : (x : ℕ) → met_in used x ≡ drawn case (suc x) i
 
 pub drawn_none : (case : List ℕ) → Drawn case (replicate 8 0) 0
@@ -64,7 +64,7 @@ module _ (case : List ℕ) (n : ℕ) (f : StudentsFirst case n) where
   unfolding bad_lot
   passes i l u = rw (row_at_lem case i u, ne_eqb (row_at case i).kind 1 (f.other i l u))
 
-  pub lots_pass : (used : List ℕ) → Drawn case used n → first_bad (bad_lot (rows case)) (row_count case) ≡ none
+  pub lots_pass : (used : List ℕ) → Drawn case used n → first_bad (bad_lot (rows case)) (row_count case) ≡ None
   lots_pass used d =
       scan_none (bad_lot (rows case)) (row_count case)
       (λ k u. ⊎_elim (λ (l : k < n). none_fails (bad_lot (rows case)) n d.passed k l) (λ (l : n ≤ k). passes k l u) (less? k n))

@@ -1,3 +1,4 @@
+pub mod Ranging
 pub mod Counting
 pub mod Sounding
 pub mod Cases
@@ -5,3 +6,4 @@ pub mod Drawing
 pub mod Noting
 pub mod Trails
 pub mod Tabling
+pub mod Finding

@@ -1,22 +1,25 @@
 -- Where the one pass finds nothing the case is clean and has its table; where it stops, the case is not clean.
-use Prim.Native.Nat.{ℕ, ◌+◌, ◌-◌, ◌≤◌, ◌<◌}
-use mathlib.Core.Path.{◌≡◌, sym, ◌∙◌}
+use Prim.Native.Nat.{ℕ, ◌+◌, ◌≤◌, ◌<◌}
+use mathlib.Core.Path.{◌≡◌, refl, sym, ◌∙◌}
+use Rattle.std.specs.Prelude.{Option, Some, None, true}
+use Rattle.std.specs.Option.{is_some}
 use mathlib.Core.Logic.{⊎_elim}
 use mathlib.Core.Bool.{false, ◌||◌}
 use mathlib.Core.List.{List}
 use native.Mathlib.Omega.{arith}
-use Rattle.base.proofs.Tests.{less?}
+use Rattle.base.proofs.Tests.{less?, never}
 use Rattle.base.proofs.Below.{count_grows}
 use Rattle.base.proofs.Search.{none_fails}
 use Rattle.format.specs.Layout.{row_at, rows, row_count, of_kind}
 use Rattle.format.specs.Refusals.{not_within, bad_form, bad_order, bad_range}
-use Rattle.format.proofs.Positions.{Sorted, sorted, is_within, kinds_before, kinds_before_lem, kind_within, students_count, workshops_count}
+use Rattle.format.proofs.Positions.{is_within, kinds_before, kinds_before_lem, kind_within, students_count, workshops_count}
 use Rattle.tables.specs.Table.{student_in, workshop_in, Standing, Noted, Started, Made}
 use Rattle.tables.proofs.Standing.{standing}
 use Rattle.tables.proofs.Reading.{made}
-use Rattle.case_tests.specs.declared.order.Order.{Order}
-use Rattle.case_tests.specs.Order.{Passes, Counted, Sound, Heads}
+use Rattle.case_tests.specs.declared.order.Tally.{Tally}
+use Rattle.case_tests.specs.Order.{Passes, Counted, Sound, Heads, heads_end}
 use Rattle.case_tests.specs.Checked.{CleanCase}
+use Rattle.case_tests.specs.Pairs.{Sifted}
 use Rattle.case_tests.proofs.Cases.{clean, few, all_students, all_workshops, counts_same}
 use Rattle.case_tests.proofs.Trails.{Named, names}
 
@@ -48,51 +51,33 @@ module _ (case : List ℕ) (n m : ℕ) where
       rw (c.students, c.workshops) (standing case (clean case n m c) (omega (arith, c.students, f.0.1)) (omega (arith, c.workshops, f.1.1)))
 
 -- ---- what the students and the workshops at the front say
-module _ (case : List ℕ) (o : Order) (h : Heads case o) where
-  inside : o.at ≤ row_count case
+module _ (case : List ℕ) (o : Tally) (h : Heads case o) where
+  inside : (heads_end o) ≤ row_count case
   inside = h.sound.counted.inside
 
-  students : o.students ≡ kinds_before case 1 o.at
-  students = h.sound.counted.students ∙ kinds_before_lem case 1 o.at inside
+  students : o.students ≡ kinds_before case 1 (heads_end o)
+  students = h.sound.counted.students ∙ kinds_before_lem case 1 (heads_end o) inside
 
-  workshops : o.workshops ≡ kinds_before case 2 o.at
-  workshops = h.sound.counted.workshops ∙ kinds_before_lem case 2 o.at inside
-
-  -- no pair is among them
-  pub heads_end : o.at ≡ o.students + o.workshops
-  heads_end =
-      ⊎_elim (λ (q : 0 < kinds_before case 3 o.at).
-      let k : (row_at case (o.at - 1)).kind ≡ 3 = s.pair (o.at - 1) (omega (arith, s.whole)) (omega (arith, s.whole)) in
-      absurd (omega (arith, h.no_pair (omega (arith, s.whole)))))
-      (λ (q : kinds_before case 3 o.at ≤ 0). omega (arith, s.whole, students, workshops))
-      (less? 0 (kinds_before case 3 o.at))
-    where
-      s : Sorted case o.at (kinds_before case 1 o.at) (kinds_before case 2 o.at) (kinds_before case 3 o.at)
-      s =
-          sorted case o.at
-          (record {
-            inside = inside;
-            form = none_fails (bad_form (rows case)) o.at h.sound.counted.form;
-            order = none_fails (bad_order (rows case)) o.at h.sound.counted.order;
-          })
+  workshops : o.workshops ≡ kinds_before case 2 (heads_end o)
+  workshops = h.sound.counted.workshops ∙ kinds_before_lem case 2 (heads_end o) inside
 
   -- of a clean case their counts are in range: no more than in all, and the first pair names one of each
   pub heads_few : (n m : ℕ) → CleanCase case n m → (not_within 1 512 o.students || not_within 1 64 o.workshops) ≡ false
   heads_few n m c =
       ⊎_elim
-      (λ (l : o.at < row_count case).
-      let p : Passes case o.at = clean_passes case n m c o.at l in
-      let k : (row_at case o.at).kind ≡ 3 = omega (arith, h.stop l p, kind_within case o.at l p.0) in
-      let r : Named case o.students o.workshops o.at = names case o.students o.workshops o.at h.sound l p k in
+      (λ (l : (heads_end o) < row_count case).
+      let p : Passes case (heads_end o) = clean_passes case n m c (heads_end o) l in
+      let k : (row_at case (heads_end o)).kind ≡ 3 = omega (arith, h.stop l p, kind_within case (heads_end o) l p.0) in
+      let r : Named case o.students o.workshops (heads_end o) = names case o.students o.workshops (heads_end o) h.sound l p k in
       rw (is_within 1 512 o.students (omega arith) (omega (arith, more.0)), is_within 1 64 o.workshops (omega arith) (omega (arith, more.1))))
-      (λ (l : row_count case ≤ o.at).
-      let e : o.at ≡ row_count case = omega (arith, inside) in
+      (λ (l : row_count case ≤ (heads_end o)).
+      let e : (heads_end o) ≡ row_count case = omega (arith, inside) in
       let d : Counted case (row_count case) o.students o.workshops = rw e at h.sound.counted in
       sym (counts_same case o.students o.workshops d) ∙ c.counts)
-      (less? o.at (row_count case))
+      (less? (heads_end o) (row_count case))
     where
-      grows : (kind : ℕ) → kinds_before case kind o.at ≤ kinds_before case kind (row_count case)
-      grows kind = count_grows (λ k. of_kind kind (row_at case k)) o.at (row_count case) inside
+      grows : (kind : ℕ) → kinds_before case kind (heads_end o) ≤ kinds_before case kind (row_count case)
+      grows kind = count_grows (λ k. of_kind kind (row_at case k)) (heads_end o) (row_count case) inside
 
       more : (o.students ≤ 512) × (o.workshops ≤ 64)
       more = (
@@ -101,7 +86,21 @@ module _ (case : List ℕ) (o : Order) (h : Heads case o) where
       )
 
   -- the table of the pairs and of the seats' starts
-  pub heads_tabled : CleanCase case o.students o.workshops → (pairs new : List ℕ) → Noted (student_in case) (workshop_in case) o.at (row_count case) pairs
-      → Started case pairs new (o.workshops + 1)
+  pub heads_tabled : CleanCase case o.students o.workshops → (pairs new : List ℕ)
+      → Noted (student_in case) (workshop_in case) (heads_end o) (row_count case) pairs → Started case pairs new (o.workshops + 1)
       → Made case new
-  heads_tabled c pairs new I S = made case o.students o.workshops (clean_stands case o.students o.workshops c) pairs (rw heads_end at I) new S
+  heads_tabled c pairs new I S = made case o.students o.workshops (clean_stands case o.students o.workshops c) pairs I new S
+
+-- what the pass over the pairs says where no record stops it, and where one does
+pub record All (case : List ℕ) (t : Tally) (table : List ℕ) : Type 0 where
+  pub sound : Sound case (row_count case) t.students t.workshops
+  pub noted : Noted (student_in case) (workshop_in case) (heads_end t) (row_count case) table
+
+pub all_of : (case : List ℕ) (t : Tally) (stopped : Option ℕ) (table : List ℕ) → Sifted case t stopped table → is_some stopped ≡ false → All case t table
+all_of case t None table s e = record { sound = s.sound; noted = s.noted }
+all_of case t (Some i) table s e = never refl e
+
+pub not_all : (case : List ℕ) (t : Tally) (stopped : Option ℕ) (table : List ℕ) → Sifted case t stopped table → is_some stopped ≡ true
+    → {n m : ℕ} → CleanCase case n m → ⊥
+not_all case t None table s e c = never e refl
+not_all case t (Some i) table s e c = s.stop.1 (clean_passes case _ _ c i s.stop.0)

@@ -5,6 +5,7 @@ use mathlib.Core.Logic.{⊎_elim}
 use mathlib.Core.Bool.{true, false, ◌&&◌, ◌||◌}
 use mathlib.Core.List.{List}
 use native.Mathlib.Omega.{arith}
+use Rattle.std.specs.Bool.{then_some}
 use lib.Dec.{eqb, ltb}
 use borrow.Author.Tests.{le-ltb, lt-ltb, eq-eqb, ne_eqb}
 use Rattle.base.specs.Lists.{one}
@@ -14,10 +15,10 @@ use Rattle.format.specs.Layout.{Row, row_at, rows, row_count}
 use Rattle.format.specs.Refusals.{not_within, bad_form, bad_order}
 use Rattle.format.proofs.Sorted.{parts}
 use Rattle.format.proofs.Positions.{within, is_within, kind_within, kind_rises, pair_rises, Before}
-use Rattle.tables.specs.Table.{student_in, workshop_in}
-use Rattle.case_tests.specs.declared.order.Order.{Order}
-use Rattle.case_tests.specs.Order.{Passes, Sound, Heads}
-use Rattle.case_tests.specs.Pairs.{NextPair, Trail}
+use Rattle.tables.specs.Table.{student_in, workshop_in, Noted}
+use Rattle.case_tests.specs.declared.order.Tally.{Tally}
+use Rattle.case_tests.specs.Order.{Passes, Sound, Heads, heads_end}
+use Rattle.case_tests.specs.Pairs.{NextPair, Trail, Sifted}
 use Rattle.case_tests.proofs.Counting.{nobody, order_test_lem}
 use Rattle.case_tests.proofs.Sounding.{sound_on}
 
@@ -41,7 +42,8 @@ module _ (case : List ℕ) (n m : ℕ) where
   names i s l p k =
       let e : (not_within 1 n (student_in case i) || not_within 1 m (workshop_in case i)) ≡ false =
       rw k at (sym (nobody case i n m s.counted l p.0) ∙ (parts case i l p.1).1.1) in
-      let r : (not_within 1 n (student_in case i) ≡ false) × (not_within 1 m (workshop_in case i) ≡ false) = or_false (not_within 1 n (student_in case i)) _ e in
+      let r : (not_within 1 n (student_in case i) ≡ false) × (not_within 1 m (workshop_in case i) ≡ false) =
+      or_false (not_within 1 n (student_in case i)) _ e in
       (within 1 n (student_in case i) r.0, within 1 m (workshop_in case i) r.1)
 
 module _ (case : List ℕ) (n m : ℕ) (few : m ≤ 64) where
@@ -122,14 +124,25 @@ module _ (case : List ℕ) (n m : ℕ) (few : m ≤ 64) where
       omega arith
 
 -- ---- after the students and the workshops
-module _ (case : List ℕ) (o : Order) (few : o.workshops ≤ 64) (h : Heads case o) where
-  pub trail_first : Trail case o.students o.workshops o.at 1 0
+module _ (case : List ℕ) (o : Tally) (few : o.workshops ≤ 64) (h : Heads case o) where
+  pub trail_first : Trail case o.students o.workshops (heads_end o) 1 0
   trail_first =
       record {
         sound = h.sound;
         before = λ g e. absurd (omega (arith, h.no_pair g, e));
         ahead = λ l p.
-            let k : (row_at case o.at).kind ≡ 3 = omega (arith, h.stop l p, kind_within case o.at l p.0) in
-            let b = names case o.students o.workshops o.at h.sound l p k in
+            let k : (row_at case (heads_end o)).kind ≡ 3 = omega (arith, h.stop l p, kind_within case (heads_end o) l p.0) in
+            let b = names case o.students o.workshops (heads_end o) h.sound l p k in
             (k, omega (arith, b.0.0, b.1.0));
       }
+
+-- where the pass stopped, or that it came to the end
+pub sifted : (case : List ℕ) (t : Tally) (at : ℕ) (table : List ℕ) → Sound case at t.students t.workshops
+    → (at < row_count case → Passes case at → ⊥) → Noted (student_in case) (workshop_in case) (heads_end t) at table
+    → Sifted case t (then_some (ltb at (row_count case)) at) table
+sifted case t at table s f n =
+    ⊎_elim (λ (l : at < row_count case). rw (lt-ltb at (row_count case) l) (record { sound = s; stop = (l, f l); noted = n }))
+    (λ (l : row_count case ≤ at).
+    let e : at ≡ row_count case = omega (arith, s.counted.inside) in
+    rw (le-ltb at (row_count case) l) (record { sound = rw e at s; stop = tt; noted = rw e at n }))
+    (less? at (row_count case))

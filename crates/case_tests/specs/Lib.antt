@@ -2,4 +2,3 @@ pub mod Checked
 pub mod Lots
 pub mod Order
 pub mod Pairs
-pub mod Scans

@@ -1,12 +1,13 @@
 -- The pairs, tested and noted in one pass, student by student.
-use Rattle.std.specs.Prelude.{ℕ, ◌+◌, ◌-◌, ◌*◌, ◌≤◌, ◌<◌, ◌≡◌, true, false, List}
+use Rattle.std.specs.Prelude.{ℕ, ◌+◌, ◌-◌, ◌*◌, ◌≤◌, ◌<◌, ◌≡◌, true, false, List, Option, IfSome}
 use Rattle.base.specs.Lists.{count}
 use Rattle.base.specs.Bits.{member}
+use Rattle.base.specs.Search.{or_end}
 use Rattle.format.specs.Layout.{row_at, rows, row_count}
 use Rattle.format.specs.Refusals.{bad_form, bad_range}
 use Rattle.tables.specs.Table.{student_in, workshop_in, Noted}
-use Rattle.case_tests.specs.Order.{Passes, Sound}
-use Rattle.case_tests.specs.declared.order.Order.{Order}
+use Rattle.case_tests.specs.Order.{Passes, Sound, heads_end}
+use Rattle.case_tests.specs.declared.order.Tally.{Tally}
 
 -- record i is a pair of student s with a workshop above `last`, of m workshops, and passes causes 2 and 5
 pub record NextPair (case : List ℕ) (i s last m : ℕ) : Type 0 where
@@ -32,8 +33,8 @@ pub record Piled (a b : ℕ → ℕ) (from s set end : ℕ) : Type 0 where
   pub full : (k : ℕ) → from ≤ k → k < end → member set (b k) ≡ true
   pub place : (k : ℕ) → from ≤ k → k < end → from + count (member set) (b k - 1) ≡ k
 
--- i is the first record that does not pass, or how many there are; and the table describes the pairs before it
-pub record Sifted (case : List ℕ) (o : Order) (i : ℕ) (table : List ℕ) : Type 0 where
-  pub sound : Sound case i o.students o.workshops
-  pub stop : i < row_count case → Passes case i → ⊥
-  pub noted : Noted (student_in case) (workshop_in case) o.at i table
+-- the first record that does not pass, if any; and the table describes the pairs before it, or all
+pub record Sifted (case : List ℕ) (t : Tally) (stopped : Option ℕ) (table : List ℕ) : Type 0 where
+  pub sound : Sound case (or_end (row_count case) stopped) t.students t.workshops
+  pub stop : IfSome stopped (λ i. (i < row_count case) × (Passes case i → ⊥))
+  pub noted : Noted (student_in case) (workshop_in case) (heads_end t) (or_end (row_count case) stopped) table

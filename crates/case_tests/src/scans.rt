@@ -1,76 +1,46 @@
-// The causes that test each record of the case by itself, and one scan for both of them.
+// The causes that test each record of the case by itself.
 ghost use Rattle.std.specs.Prelude.{◌≡◌, not, ◌<◌, eqb};
 ghost use Rattle.base.specs.Lists.{any};
-ghost use Rattle.base.specs.Search.{first_bad, or_end};
 ghost use Rattle.format.specs.Layout.{rows, row_count, unnamed};
 ghost use Rattle.format.specs.Refusals.{bad_form, bad_range};
 ghost use Rattle.records.specs.Records.{row_of};
-ghost use Rattle.case_tests.specs.Scans.{bad_row};
 
 use records::Row;
 
 // A byte that a record of its kind does not name is not zero.
+#[tactic(auto, unfolding(base::specs::Lists::any, format::specs::Layout::unnamed))]
 fn has_unnamed(r: Row) -> bool
     ensures { result ≡ any (λ x. not (eqb x 0)) (unnamed (row_of r)) }
 {
-    let last = (r.sixth != 0) | (r.seventh != 0);
-    if r.kind == 3 {
-        return (r.pad != 0) | last;
+    let last = r.sixth != 0 || r.seventh != 0;
+    match r.kind {
+        2 => r.pad != 0 || r.fourth != 0 || r.fifth != 0 || last,
+        3 => r.pad != 0 || last,
+        _ => r.pad != 0 || r.fifth != 0 || last,
     }
-    let late = (r.fifth != 0) | last;
-    if r.kind == 2 {
-        return (r.pad != 0) | ((r.fourth != 0) | late);
-    }
-    (r.pad != 0) | late
 }
 
 // 2: kind not 1 to 3, or a byte that should be zero.
+#[tactic(auto, using(format::proofs::Positions::row_at_lem), unfolding(format::specs::Refusals::bad_form))]
 pub fn bad_form(case: &[u8], i: usize) -> bool
     requires { i < row_count case.now }
     ensures { result ≡ bad_form (rows case.now) i }
 {
     let r = records::row_at(case, i);
-    ((r.kind < 1) | (3 < r.kind)) | has_unnamed(r)
+    !(1..=3).contains(&r.kind) || has_unnamed(r)
 }
 
 // 5: stage, quota, tier or outside tier out of range.
+#[tactic(auto, using(crate::proofs::Ranging::student, crate::proofs::Ranging::workshop, crate::proofs::Ranging::tiers, crate::proofs::Ranging::other))]
 pub fn bad_range(case: &[u8], i: usize) -> bool
     requires { i < row_count case.now }
     ensures { result ≡ bad_range (rows case.now) i }
 {
     let r = records::row_at(case, i);
-    let tiers = ((r.third < 1) | (65 < r.third)) | ((r.fourth < 1) | (513 < r.fourth));
-    if r.kind == 3 {
-        return tiers;
+    match r.kind {
+        1 => !(1..=512).contains(&r.second) || !(1..=65).contains(&r.third),
+        2 => r.second > 512 || !(1..=513).contains(&r.third),
+        3 => !(1..=65).contains(&r.third) || !(1..=513).contains(&r.fourth),
+        _ => false,
     }
-    let student = ((r.second < 1) | (512 < r.second)) | ((r.third < 1) | (65 < r.third));
-    let workshop = (512 < r.second) | ((r.third < 1) | (513 < r.third));
-    ((r.kind == 1) & student) | (((r.kind == 2) & workshop) | ((r.kind == 3) & tiers))
-}
-
-// What cause 2, and else cause 5, tests of record i.
-fn is_bad(cause: u16, case: &[u8], i: usize) -> bool
-    requires { i < row_count case.now }
-    ensures { result ≡ bad_row cause case.now i }
-{
-    if cause == 2 {
-        bad_form(case, i)
-    } else {
-        bad_range(case, i)
-    }
-}
-
-// The first record that the cause finds, or how many there are.
-pub fn first_bad(cause: u16, case: &[u8]) -> usize
-    ensures { result ≡ or_end (row_count case.now) (first_bad (bad_row cause case.now) (row_count case.now)) }
-{
-    let n = records::row_count(case.len());
-    let mut i = 0;
-    while i < n {
-        if is_bad(cause, case, i) {
-            return i;
-        }
-        i += 1;
-    }
-    n
 }

@@ -1,4 +1,2 @@
-mod Zeros
 mod Runs
-mod Blank
 mod Going

@@ -109,7 +109,8 @@ module _ (M : Market) (B : Results) where
         (run_of M B k visits seats states r)
     runs_on k l = on k (visits, (seats, (states, r))) l
 
-    pub runs_out : (k n : ℕ) → hand_of (run_of M B k visits seats states r) ≡ 0 → k ≤ n → run_of M B k visits seats states r ≡ run_of M B n visits seats states r
+    pub runs_out : (k n : ℕ) → hand_of (run_of M B k visits seats states r) ≡ 0 → k ≤ n
+        → run_of M B k visits seats states r ≡ run_of M B n visits seats states r
     runs_out k n h l = out k n (visits, (seats, (states, r))) h l
 
     less_at : (k n : ℕ) (b : Bool) → ltb k n ≡ b → k ≤ n → hand_of (run_of M B n visits seats states r) ≡ 0 → 0 < hand_of

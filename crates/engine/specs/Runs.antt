@@ -2,13 +2,11 @@
 use Rattle.std.specs.Prelude.{ℕ, ◌-◌, ◌<◌, ◌≤◌, ◌≡◌, List, length, get_or, set}
 use Rattle.lgs.specs.Market.{Market, Results}
 use Rattle.lgs.specs.Rule.{fuel}
-use Rattle.format.specs.Engine.{market_in, results_in}
 use Rattle.api.specs.declared.StudentState.{StudentState}
 use Rattle.model.specs.declared.Run.{Run}
 use Rattle.model.specs.Turn.{turn_of, run_of}
 use Rattle.api.specs.Answered.{zero_state}
 use Rattle.model.specs.Ready.{Ready}
-use Rattle.lookup.specs.Clean.{Clean}
 
 -- the visits, the seats, the students' states and the run
 abbrev pub RunState : Type 0
@@ -24,20 +22,18 @@ turn_on M B σ =
     (o.visits, (o.seats, (set σ.1.1.0 (hand_of σ - 1) o.turned.state, o.turned.run)))
 
 -- after as many turns as the rule takes at most
-abbrev pub whole_run : List ℕ → List ℕ → List ℕ → List ℕ → List StudentState → Run → RunState
-whole_run case book visits seats states start = run_of (market_in case) (results_in book) (fuel (market_in case) (results_in book)) visits seats states start
+abbrev pub whole_run : Market → Results → List ℕ → List ℕ → List StudentState → Run → RunState
+whole_run M B visits seats states start = run_of M B (fuel M B) visits seats states start
 
 -- a student is in hand, she has a state, and her turn finds what it needs
-pub record CanTurn (case book index table visits seats : List ℕ) (states : List StudentState) (r : Run) (students workshops : ℕ) : Type 0 where
+pub record CanTurn (M : Market) (B : Results) (visits seats : List ℕ) (states : List StudentState) (r : Run) : Type 0 where
   pub hand : 0 < r.hand
   pub within : r.hand ≤ length states
-  pub clean : Clean case book index table students workshops
-  pub ready : Ready (market_in case) (results_in book) visits seats (get_or states (r.hand - 1) zero_state) r
+  pub ready : Ready M B visits seats (get_or states (r.hand - 1) zero_state) r
 
 -- each turn finds what it needs, and the last leaves no student in hand
-pub record CanRun (case book index table visits seats : List ℕ) (states : List StudentState) (start : Run) (students workshops : ℕ) : Type 0 where
-  pub clean : Clean case book index table students workshops
-  pub ready : (k : ℕ) → let σ = run_of (market_in case) (results_in book) k visits seats states start in
-      0 < hand_of σ → Ready (market_in case) (results_in book) σ.0 σ.1.0 (get_or σ.1.1.0 (hand_of σ - 1) zero_state) σ.1.1.1
-  pub within : (k : ℕ) → let σ = run_of (market_in case) (results_in book) k visits seats states start in 0 < hand_of σ → hand_of σ ≤ length σ.1.1.0
-  pub ends : hand_of (whole_run case book visits seats states start) ≡ 0
+pub record CanRun (M : Market) (B : Results) (visits seats : List ℕ) (states : List StudentState) (start : Run) : Type 0 where
+  pub ready : (k : ℕ) → let σ = run_of M B k visits seats states start in
+      0 < hand_of σ → Ready M B σ.0 σ.1.0 (get_or σ.1.1.0 (hand_of σ - 1) zero_state) σ.1.1.1
+  pub within : (k : ℕ) → let σ = run_of M B k visits seats states start in 0 < hand_of σ → hand_of σ ≤ length σ.1.1.0
+  pub ends : hand_of (whole_run M B visits seats states start) ≡ 0

@@ -5,184 +5,104 @@
 ghost use Rattle.std.specs.Prelude.{◌≡◌, length, replicate};
 ghost use Rattle.format.specs.Engine.{market_in, results_in};
 ghost use Rattle.api.specs.Answered.{zero_state, Answered};
+ghost use Rattle.lookup.specs.Given.{market_of, results_of};
 ghost use Rattle.answering.specs.Call.{Runnable, Ran};
 ghost use Rattle.engine.specs.Runs.{turn_on, whole_run, CanTurn, CanRun};
 ghost use Rattle.answering.specs.Finish.{places_held, CanRead};
 
-use api::{Answer, StudentState};
-use case_tests::Checked;
+use api::{Answer, Refusal, StudentState};
+use lookup::Input;
 use model::Run;
 
-// Every state is set to zero.
-fn clear_states(states: &mut [StudentState])
-    ensures { states.new ≡ replicate (length states.old) zero_state }
-{
-    let mut i: usize = 0;
-    while i < states.len() {
-        states[i] = StudentState {
-            reached: 0,
-            held: 0,
-            openings: 0,
-        };
-        i += 1;
-    }
-}
+// The state of a student who has not been in hand.
+const ZERO: StudentState = StudentState {
+    reached: 0,
+    held: 0,
+    openings: 0,
+};
 
 // One turn: the state of the student in hand is read, and stored as the turn leaves it. The run after the turn.
 fn take_turn(
-    case: &[u8],
-    book: &[u8],
-    index: &[u16],
-    table: &[u64],
+    input: &Input<'_>,
     visits: &mut [u16],
     seats: &mut [u16],
     states: &mut [StudentState],
     run: Run,
-    students: usize,
-    workshops: usize,
 ) -> Run
-    requires { CanTurn case.now book.now index.now table.now visits.old seats.old states.old run students workshops }
+    requires { CanTurn (market_of input.now) (results_of input.now) visits.old seats.old states.old run }
     ensures { (visits.new, (seats.new, (states.new, result)))
-        ≡ turn_on (market_in case.now) (results_in book.now) (visits.old, (seats.old, (states.old, run))) }
+        ≡ turn_on (market_of input.now) (results_of input.now) (visits.old, (seats.old, (states.old, run))) }
 {
     let at = run.hand - 1;
-    let t = turning::turn(
-        case,
-        book,
-        index,
-        table,
-        &mut *visits,
-        &mut *seats,
-        states[at],
-        run,
-        students,
-        workshops,
-    );
+    let t = turning::turn(input, visits, seats, states[at], run);
     states[at] = t.state;
     t.run
 }
 
 // Turns are taken until no student is in hand.
 fn run_all(
-    case: &[u8],
-    book: &[u8],
-    index: &[u16],
-    table: &[u64],
+    input: &Input<'_>,
     visits: &mut [u16],
     seats: &mut [u16],
     states: &mut [StudentState],
     start: Run,
-    students: usize,
-    workshops: usize,
 ) -> Run
-    requires { CanRun case.now book.now index.now table.now visits.old seats.old states.old start students workshops }
-    ensures { (visits.new, (seats.new, (states.new, result)))
-        ≡ whole_run case.now book.now visits.old seats.old states.old start }
+    requires { CanRun (market_of input.now) (results_of input.now) visits.old seats.old states.old start }
+    ensures { (visits.new, (seats.new, (states.new, result))) ≡ whole_run (market_of input.now) (results_of input.now) visits.old seats.old states.old start }
 {
     let mut r = start;
+    // No range counts the turns: they end when nobody is in hand.
     while r.hand > 0 {
-        let next = take_turn(
-            case,
-            book,
-            index,
-            table,
-            &mut *visits,
-            &mut *seats,
-            &mut *states,
-            r,
-            students,
-            workshops,
-        );
-        r = next;
+        r = take_turn(input, &mut *visits, &mut *seats, &mut *states, r);
     }
     r
 }
 
-// The places of students 1 to n: the workshops that their states hold. The states are only read.
-fn read_places(states: &mut [StudentState], places: &mut [u16], n: usize)
-    requires { CanRead states.old places.old n }
-    ensures { (places.new ≡ places_held n states.old places.old) × (states.new ≡ states.old) }
+// The places of students 1 to n: the workshops that their states hold.
+fn read_places(states: &[StudentState], places: &mut [u16], n: usize)
+    requires { CanRead states.now places.old n }
+    ensures { places.new ≡ places_held n states.now places.old }
 {
-    let mut i: usize = 0;
-    while i < n {
+    // By place: of what a chunk or an adapter of `iter_mut` lends a proof knows nothing afterwards.
+    for i in 0..n {
         answering::put_place(&mut *places, i, states[i]);
-        i += 1;
     }
 }
 
 // The run over input that was tested: the answer of the staged rule, with the places and the visits in their buffers. Seats and states are zero before
 // and after.
 fn run(
-    case: &[u8],
-    book: &[u8],
-    index: &[u16],
-    table: &[u64],
+    input: &Input<'_>,
     places: &mut [u16],
     visits: &mut [u16],
     seats: &mut [u16],
     states: &mut [StudentState],
-    students: usize,
-    workshops: usize,
 ) -> Answer
-    requires { (Runnable case.now book.now index.now table.now places.old visits.old seats.old (length states.old) students workshops)
-        × (states.old ≡ replicate (length states.old) zero_state) }
-    ensures { (Ran case.now book.now places.old visits.old seats.old result
-        places.new visits.new seats.new)
-        × (states.new ≡ replicate (length states.old) zero_state) }
+    requires runnable { Runnable input.now.table.case.now input.now.book.now input.now.index.now places.old visits.old seats.old (length states.old) }
+    requires blank { states.old ≡ replicate (length states.old) zero_state }
+    ensures ran { Ran input.now.table.case.now input.now.book.now places.old visits.old seats.old result places.new visits.new seats.new }
+    ensures blank { states.new ≡ replicate (length states.old) zero_state }
 {
-    let start = turning::begin_run(case, table);
-    let r = run_all(
-        case,
-        book,
-        index,
-        table,
-        &mut *visits,
-        &mut *seats,
-        &mut *states,
-        start,
-        students,
-        workshops,
-    );
-    let n = answering::to_place(r, students);
-    read_places(&mut *states, &mut *places, n);
-    clear_states(&mut *states);
-    answering::finish(&mut *seats, r)
+    let start = turning::begin_run(input.table.case, input.table.words);
+    let r = run_all(input, visits, &mut *seats, &mut *states, start);
+    let n = answering::to_place(r, input.students);
+    read_places(states, places, n);
+    states.fill(ZERO);
+    answering::finish(seats, r)
 }
 
 // The same with the states of 512 students made here, for callers that lend none.
 pub fn run_alone(
-    case: &[u8],
-    book: &[u8],
-    index: &[u16],
-    table: &[u64],
+    input: &Input<'_>,
     places: &mut [u16],
     visits: &mut [u16],
     seats: &mut [u16],
-    students: usize,
-    workshops: usize,
 ) -> Answer
-    requires { Runnable case.now book.now index.now table.now places.old visits.old seats.old 512 students workshops }
-    ensures { Ran case.now book.now places.old visits.old seats.old result
-        places.new visits.new seats.new }
+    requires { Runnable input.now.table.case.now input.now.book.now input.now.index.now places.old visits.old seats.old 512 }
+    ensures { Ran input.now.table.case.now input.now.book.now places.old visits.old seats.old result places.new visits.new seats.new }
 {
-    let zero = StudentState {
-        reached: 0,
-        held: 0,
-        openings: 0,
-    };
-    let mut states = [zero; 512];
-    run(
-        case,
-        book,
-        index,
-        table,
-        &mut *places,
-        &mut *visits,
-        &mut *seats,
-        &mut states,
-        students,
-        workshops,
-    )
+    let mut states = [ZERO; 512];
+    run(input, places, visits, seats, &mut states)
 }
 
 // A case and a book are answered: placements go to `places`, interviews to `visits`. All else that is lent is scratch, and left zero.
@@ -194,47 +114,31 @@ pub fn place(
     seats: &mut [u16],
     index: &mut [u16],
     states: &mut [StudentState],
-) -> Answer
-    ensures { Answered case.now book.now places.old visits.old seats.old index.old
-        states.old result
+) -> Result<Answer, Refusal>
+    ensures { Answered case.now book.now places.old visits.old seats.old index.old states.old result
         places.new visits.new seats.new index.new states.new }
 {
-    clear_states(&mut *states);
-    let n_places = places.len();
-    let n_visits = visits.len();
-    let n_states = states.len();
-    let mut table = [0u64; 1089];
-    let checked = answering::test(
+    states.fill(ZERO);
+    let mut words = [0u64; 1089];
+    let counts = answering::test(
         case,
         book,
-        n_places,
-        n_visits,
+        places.len(),
+        visits.len(),
         &mut *seats,
         &mut *index,
-        n_states,
-        &mut table,
+        states.len(),
+        &mut words,
+    )?;
+    let input = Input::new(
+        case,
+        &words,
+        book,
+        &*index,
+        counts.students,
+        counts.workshops,
     );
-    match checked {
-        Checked::Refused { cause, record } => Answer::Refused { cause, record },
-        Checked::Counts {
-            students,
-            workshops,
-            pairs: _,
-        } => {
-            let answer = run(
-                case,
-                book,
-                &*index,
-                &table,
-                &mut *places,
-                &mut *visits,
-                &mut *seats,
-                &mut *states,
-                students,
-                workshops,
-            );
-            records::clear(&mut *index);
-            answer
-        }
-    }
+    let answer = run(&input, places, visits, seats, states);
+    index.fill(0);
+    Ok(answer)
 }

@@ -5,9 +5,10 @@ ghost use Rattle.std.specs.Prelude.{◌≡◌, length};
 ghost use Rattle.stages.specs.Outcome.{work_out};
 ghost use Rattle.api.specs.Answered.{Answered, answer_in};
 ghost use Rattle.api.specs.Answers.{report_of};
-ghost use Rattle.stages.specs.Answered.{stages_answer_for, stages_report_of, StagesAnswered};
+ghost use Rattle.api.specs.Parts.{part_report_of};
+ghost use Rattle.stages.specs.Answered.{stages_answer_for, StagesAnswered};
 ghost use Rattle.wishes.specs.Outcome.{write_wishes, read_wishes};
-ghost use Rattle.wishes.specs.Answered.{wishes_answer_for, wishes_report_of, WriteAnswered, ReadAnswered};
+ghost use Rattle.wishes.specs.Answered.{wishes_answer_for, WriteAnswered, ReadAnswered};
 
 use api::{PartReport, Report, StudentState};
 
@@ -30,47 +31,35 @@ pub extern "C" fn lgs_place(
         states.old)
         places.new visits.new seats.new index.new states.new }
 {
-    let a = engine::place(
-        case,
-        book,
-        &mut *places,
-        &mut *visits,
-        &mut *seats,
-        &mut *index,
-        &mut *states,
-    );
-    answering::numbers(a)
+    Report::from(engine::place(case, book, places, visits, seats, index, states))
 }
 
 // The stages of a case are worked out (`stages::stages`): three numbers.
 #[unsafe(no_mangle)]
 pub extern "C" fn lgs_stages(case: &[u8], stages: &mut [u16]) -> PartReport
-    ensures value { result ≡ stages_report_of (stages_answer_for (work_out case.now (length stages.old))) }
+    ensures value { result ≡ part_report_of (stages_answer_for (work_out case.now (length stages.old))) }
     ensures stages_answered { StagesAnswered case.now stages.old
         (stages_answer_for (work_out case.now (length stages.old))) stages.new }
 {
-    let a = stages::stages(case, &mut *stages);
-    stages::numbers(a)
+    PartReport::from(stages::stages(case, &mut *stages))
 }
 
 // The wish lines of a case are written (`wishes::write_wishes`): three numbers.
 #[unsafe(no_mangle)]
 pub extern "C" fn lgs_write_wishes(case: &[u8], text: &mut [u8]) -> PartReport
-    ensures value { result ≡ wishes_report_of (wishes_answer_for (write_wishes case.now (length text.old))) }
+    ensures value { result ≡ part_report_of (wishes_answer_for (write_wishes case.now (length text.old))) }
     ensures write_answered { WriteAnswered case.now text.old
         (wishes_answer_for (write_wishes case.now (length text.old))) text.new }
 {
-    let a = wishes::write_wishes(case, &mut *text);
-    wishes::numbers(a)
+    PartReport::from(wishes::write_wishes(case, &mut *text))
 }
 
 // Wish lines are read into a copy of the case (`wishes::read_wishes`): three numbers.
 #[unsafe(no_mangle)]
 pub extern "C" fn lgs_read_wishes(case: &[u8], text: &[u8], copy: &mut [u8]) -> PartReport
-    ensures value { result ≡ wishes_report_of (wishes_answer_for (read_wishes case.now text.now (length copy.old))) }
+    ensures value { result ≡ part_report_of (wishes_answer_for (read_wishes case.now text.now (length copy.old))) }
     ensures read_answered { ReadAnswered case.now text.now copy.old
         (wishes_answer_for (read_wishes case.now text.now (length copy.old))) copy.new }
 {
-    let a = wishes::read_wishes(case, text, &mut *copy);
-    wishes::numbers(a)
+    PartReport::from(wishes::read_wishes(case, text, &mut *copy))
 }

@@ -6,7 +6,7 @@ use mathlib.Core.Logic.{inr, ⊎_elim}
 use mathlib.Core.Bool.{Bool, true, false, not, ◌&&◌, ◌||◌}
 use mathlib.Core.List.Memᴰ.{append_left as in_left}
 use mathlib.Core.List.{List, [], ◌∷◌, ◌++◌, flat_map}
-use mathlib.Core.Option.{Option, some, none}
+use Rattle.std.specs.Prelude.{Option, Some, None}
 use native.Mathlib.Omega.{arith}
 use lib.Dec.{eqb, ltb}
 use lib.ListN.{length, get_or, take, get_or-eq_default}
@@ -55,7 +55,7 @@ witness p q (x ∷ xs) e f =
     let r : (q x ≡ false) × (any q xs ≡ false) = or_false (q x) _ f in
     ⊎_elim (λ (b : p x ≡ true). (x, b, r.0)) (λ (b : p x ≡ false). witness p q xs (rw b at e) r.1) (bool_cases (p x))
 
-module _ (rs : List Row) (none : some_differ rs ≡ false) where
+module _ (rs : List Row) (alike : some_differ rs ≡ false) where
   abbrev M : Market
   M = market_of rs
 
@@ -63,7 +63,7 @@ module _ (rs : List Row) (none : some_differ rs ≡ false) where
   unfolding some_differ meets market_of
   agree w s t e f =
       let r : (r : Row) × (is_pair s w r ≡ true) × ((of_kind 3 r && any (meets M r) rs) ≡ false) =
-      witness (is_pair s w) (λ r. of_kind 3 r && any (meets M r) rs) rs e none in
+      witness (is_pair s w) (λ r. of_kind 3 r && any (meets M r) rs) rs e alike in
       let x : (r.0.kind ≡ 3) × (r.0.first ≡ s) × (r.0.second ≡ w) = pair_says s w r.0 r.1 in
       let q : (q : Row) × (is_pair t w q ≡ true) × (meets M r.0 q ≡ false) = witness (is_pair t w) (meets M r.0) rs f (rw x.0 at r.2) in
       let y : (q.0.kind ≡ 3) × (q.0.first ≡ t) × (q.0.second ≡ w) = pair_says t w q.0 q.1 in
@@ -218,11 +218,11 @@ limits =
       long_book = long_book_lem;
     }
   where
-    unread_book : (case : Option (List ℕ)) → program_text case none ≡ unread
-    unread_book none = refl
-    unread_book (some case) = refl
+    unread_book : (case : Option (List ℕ)) → program_text case None ≡ unread
+    unread_book None = refl
+    unread_book (Some case) = refl
 
-    long_book_lem : (case : Option (List ℕ)) (book : List ℕ) → 65537 ≤ length book → program_prints case (some book) ≡ unread
+    long_book_lem : (case : Option (List ℕ)) (book : List ℕ) → 65537 ≤ length book → program_prints case (Some book) ≡ unread
     long_book_lem case book l = rw (lt-ltb 65536 (length book) (omega arith)) (unread_book (readable case))
 
 -- ---- the tables of proved cases

@@ -20,7 +20,7 @@ use Prim.Native.Nat.{ℕ, zero, suc, ◌+◌, ◌-◌, ◌≤◌, ◌<◌}
 use mathlib.Core.Path.{◌≡◌, sym, ap, ◌∙◌}
 use mathlib.Core.Logic.{inl, inr, ⊎_elim}
 use mathlib.Core.Bool.{true, false, not, ◌&&◌, ◌||◌, not-not}
-use mathlib.Core.Option.{none}
+use Rattle.std.specs.Prelude.{None}
 use mathlib.Core.List.{List}
 use native.Mathlib.Omega.{arith}
 use lib.Dec.{eqb}
@@ -161,7 +161,7 @@ pair_says s w r e =
     let f : (eqb r.first s && eqb r.second w) ≡ true = and_right (eqb r.kind 3) _ e in
     (eqb-true _ _ (and_left (eqb r.kind 3) _ e), eqb-true _ _ (and_left (eqb r.first s) _ f), eqb-true _ _ (and_right (eqb r.first s) _ f))
 
-pub clean_all : (case : List ℕ) → first_bad (bad_form (rows case)) (row_count case) ≡ none → first_bad (bad_order (rows case)) (row_count case) ≡ none
+pub clean_all : (case : List ℕ) → first_bad (bad_form (rows case)) (row_count case) ≡ None → first_bad (bad_order (rows case)) (row_count case) ≡ None
     → Clean case (row_count case)
 clean_all case f o =
     record {

@@ -4,7 +4,7 @@ use Prim.Native.Nat.{ℕ, ◌≤◌}
 use mathlib.Core.Path.{◌≡◌, refl, sym, ap, ◌∙◌}
 use mathlib.Core.Logic.{◌⊎◌, inl, inr, ⊎_elim}
 use mathlib.Core.Bool.{true, false}
-use mathlib.Core.Option.{Option, some, none}
+use Rattle.std.specs.Prelude.{Option, Some, None}
 use mathlib.Core.List.{List}
 use native.Mathlib.Omega.{arith}
 use lib.ListN.{length}
@@ -58,8 +58,8 @@ demand1 case book room = by_refusal (refusal case book room) refl
         → refusal case book room ≡ r
         → (Valid case book room × ByRule case book (outcome_unless r (market_in case) (results_in book)))
         ⊎ ((k : ℕ) × (i : ℕ) × Refused case book room k i × (outcome_unless r (market_in case) (results_in book) ≡ refused k i))
-    by_refusal (some (k, i)) e = inr (k, i, refusal_some case book room k i e, refl)
-    by_refusal none e =
+    by_refusal (Some (k, i)) e = inr (k, i, refusal_some case book room k i e, refl)
+    by_refusal None e =
         let valid : Valid case book room = refusal_none case book room e in
         inl (valid, answered valid (rule case book room) refl)
 

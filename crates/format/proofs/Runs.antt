@@ -2,7 +2,7 @@
 -- A valid case and book give a well-formed market and distinct scores, which is all that these theorems ask.
 use Prim.Native.Nat.{ℕ}
 use mathlib.Core.Path.{◌≡◌, refl, sym, ap, ◌∙◌}
-use mathlib.Core.Option.{Option, some, none}
+use Rattle.std.specs.Prelude.{Option, Some, None}
 use mathlib.Core.List.{List, map}
 use native.Mathlib.Omega.{arith}
 use Rattle.base.specs.Lists.{upto}
@@ -56,8 +56,8 @@ module _ (case book : List ℕ) (room : Room) where
     where
       by_refusal : (r : Option (ℕ × ℕ)) → refusal case book room ≡ r → outcome_unless r (market_in case) (results_in book) ≡ a
           → Valid case book room × (outcome_of (market_in case) rule ≡ a)
-      by_refusal (some r) f q = absurd (nope r.0 r.1 q)
-      by_refusal none f q = (refusal_none case book room f, q)
+      by_refusal (Some r) f q = absurd (nope r.0 r.1 q)
+      by_refusal None f q = (refusal_none case book room f, q)
 
   pub when_placed_lem : (places : List ℕ) (vs : List Interview) (fares : ℕ) → engine case book room ≡ placed places vs fares → Finished places vs fares
   unfolding outcome_of

@@ -3,7 +3,7 @@
 use Prim.Native.Nat.{ℕ, suc, ◌-◌, ◌<◌}
 use mathlib.Core.Path.{◌≡◌, refl}
 use mathlib.Core.Bool.{false}
-use mathlib.Core.Option.{some}
+use Rattle.std.specs.Prelude.{Some}
 use mathlib.Core.List.{List, ◌++◌}
 use native.Mathlib.Omega.{arith}
 use lib.Dec.{eqb}
@@ -54,14 +54,14 @@ module _ (case : List ℕ) where
 
   -- where the causes ds are tested after those of the case
   module _ (ds : List Cause) where
-    pub thirteen_given : (i : ℕ) → any (eqb 13) (numbers ds) ≡ false → first_cause (case_causes case ++ ds) ≡ some (13, i)
+    pub thirteen_given : (i : ℕ) → any (eqb 13) (numbers ds) ≡ false → first_cause (case_causes case ++ ds) ≡ Some (13, i)
         → NothingFound five × FirstWrongLot case (suc i)
     unfolding case_causes any
     thirteen_given i other e =
         let r : NothingFound five × First (bad_lot (rows case)) (row_count case) i = only_number five ds 13 lots i refl other e in
         (r.0, first_wrong (five_clean case r.0) i r.1)
 
-    pub thirteen_whenever : (s : ℕ) → NothingFound five → FirstWrongLot case s → first_cause (case_causes case ++ ds) ≡ some (13, s - 1)
+    pub thirteen_whenever : (s : ℕ) → NothingFound five → FirstWrongLot case s → first_cause (case_causes case ++ ds) ≡ Some (13, s - 1)
     unfolding case_causes
     thirteen_whenever s nothing f = number_only five ds 13 lots (s - 1) nothing (wrong_first (five_clean case nothing) s f)
 

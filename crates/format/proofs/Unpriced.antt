@@ -4,7 +4,7 @@ use mathlib.Core.Path.{◌≡◌, refl, ◌∙◌, fun_ext}
 use mathlib.Core.Logic.{⊎_elim}
 use mathlib.Core.Bool.{Bool, true, false, ◌&&◌}
 use mathlib.Core.List.{List, [], ◌∷◌, ◌++◌}
-use mathlib.Core.Option.{Option, some, none}
+use Rattle.std.specs.Prelude.{Option, Some, None}
 use native.Mathlib.Omega.{arith}
 use lib.Dec.{eqb}
 use lib.ListN.{get_or}
@@ -41,8 +41,8 @@ module _ (M : Market) (fare : ℕ → ℕ → ℕ) (B : Results) where
 
   untold_priced : (o : Option (ℕ × ℕ)) → untold (outcome_unless o (priced M fare) B) ≡ untold (outcome_unless o M B)
   unfolding outcome_unless rule_outcome
-  untold_priced (some r) = refl
-  untold_priced none = rw (rule_same M fare B) (untold_step (lazy_gale_shapley M B))
+  untold_priced (Some r) = refl
+  untold_priced None = rw (rule_same M fare B) (untold_step (lazy_gale_shapley M B))
 
 module _ (case case' : List ℕ) (other : OtherFares case case') where
   -- ---- the records

@@ -1,7 +1,6 @@
 -- A table of causes for refusal, in the order in which they are tested, and the first that finds something. Later tables are built from the same
 -- pieces in another order, so what is promised goes by the order in the table and not by the numbers.
-use Rattle.std.specs.Prelude.{ℕ, ◌<◌, ◌≡◌, Bool, true, false, List, [], ◌∷◌, ◌++◌}
-use Rattle.std.proofs.Math.Option.{Option, some, none}
+use Rattle.std.specs.Prelude.{ℕ, ◌<◌, ◌≡◌, Bool, true, false, List, [], ◌∷◌, ◌++◌, Option, Some, None}
 use mathlib.Core.List.{Memᴰ as Mem}
 use Rattle.base.specs.Search.{first_bad, some_if}
 
@@ -20,8 +19,8 @@ finds (each n bad) = first_bad bad n
 
 -- "Each cause is tested over its whole file before the next one, in this order": the first cause that finds a place, by its number, and that place
 abbrev pub first_cause : List Cause → Option (ℕ × ℕ)
-first_cause [] = none
-first_cause (c ∷ cs) = elim (finds c.1) [ none ↦ first_cause cs | some i ↦ some (c.0, i) ]
+first_cause [] = None
+first_cause (c ∷ cs) = elim (finds c.1) [ None ↦ first_cause cs | Some i ↦ Some (c.0, i) ]
 
 -- ---- the same as statements
 

@@ -1,6 +1,5 @@
 -- The engine's answer to a case, a book and buffers of these lengths.
-use Rattle.std.specs.Prelude.{ℕ, List, map}
-use Rattle.std.proofs.Math.Option.{Option, some, none}
+use Rattle.std.specs.Prelude.{ℕ, List, map, Option, Some, None}
 use Rattle.base.specs.Lists.{upto}
 use Rattle.lgs.specs.Market.{Market, Results}
 use Rattle.lgs.specs.Rule.{Interview, Step, going, stopped, finished, lazy_gale_shapley}
@@ -30,8 +29,8 @@ unfoldable pub rule_outcome : Market → Results → Outcome
 rule_outcome M B = outcome_of M (lazy_gale_shapley M B)
 
 unfoldable pub outcome_unless : Option (ℕ × ℕ) → Market → Results → Outcome
-outcome_unless (some r) M B = refused r.0 r.1
-outcome_unless none M B = rule_outcome M B
+outcome_unless (Some r) M B = refused r.0 r.1
+outcome_unless None M B = rule_outcome M B
 
 -- a refusal, or else what the staged rule gives
 unfoldable pub engine : List ℕ → List ℕ → Room → Outcome

@@ -1,8 +1,7 @@
 -- What the program prints, as bytes of ASCII (document 01, "What the program prints").
-use Rattle.std.specs.Prelude.{ℕ, zero, suc, ◌+◌, ◌/◌, ◌%◌, ◌≡◌, cond, List, [], ◌∷◌, ◌++◌, length, take, ltb}
+use Rattle.std.specs.Prelude.{ℕ, zero, suc, ◌+◌, ◌/◌, ◌%◌, ◌≡◌, cond, List, [], ◌∷◌, ◌++◌, length, take, ltb, Option, Some, None}
 use Prim.Native.Char.{code}
 use Prim.Native.String.{String, [] as []ˢ, ◌∷◌ as ◌∷ˢ◌}
-use Rattle.std.proofs.Math.Option.{Option, some, none}
 use Rattle.lgs.specs.Rule.{Interview}
 use Rattle.format.specs.Refusals.{Room}
 use Rattle.format.specs.Engine.{placed, next, refused, engine, Outcome}
@@ -80,14 +79,14 @@ program_room = record { places = 512; visits = 8192; seats = 32768; index = 4096
 
 -- "It reads case.dat and book.dat, each up to 65,536 bytes": a file's bytes, unless it is missing, longer or cannot be read
 abbrev pub readable : Option (List ℕ) → Option (List ℕ)
-readable none = none
-readable (some bytes) = cond (ltb 65536 (length bytes)) none (some bytes)
+readable None = None
+readable (Some bytes) = cond (ltb 65536 (length bytes)) None (Some bytes)
 
 -- what the program prints for the two files
 abbrev pub program_text : Option (List ℕ) → Option (List ℕ) → List ℕ
-program_text none book = unread
-program_text (some case) none = unread
-program_text (some case) (some book) = printed (engine case book program_room)
+program_text None book = unread
+program_text (Some case) None = unread
+program_text (Some case) (Some book) = printed (engine case book program_room)
 
 unfoldable pub program_prints : Option (List ℕ) → Option (List ℕ) → List ℕ
 program_prints case book = program_text (readable case) (readable book)

@@ -1,7 +1,6 @@
 -- The twelve refusals (document 01, "When the desk says no"; 13: document 02, Paper 3). Each cause is a test on one record, given by its place, or on a
 -- whole file.
-use Rattle.std.specs.Prelude.{ℕ, suc, ◌-◌, ◌*◌, ◌%◌, Bool, not, ◌&&◌, ◌||◌, List, [], ◌∷◌, ◌++◌, length, get_or, take, ltb, eqb}
-use Rattle.std.proofs.Math.Option.{Option}
+use Rattle.std.specs.Prelude.{ℕ, suc, ◌-◌, ◌*◌, ◌%◌, Bool, not, ◌&&◌, ◌||◌, List, [], ◌∷◌, ◌++◌, length, get_or, take, ltb, eqb, Option}
 use Rattle.base.specs.Lists.{any, tally}
 use Rattle.lgs.specs.Market.{all_seats}
 use Rattle.format.specs.Layout.{Row, Entry, no_row, no_entry, rows, entries, row_count, entry_count, of_kind, unnamed, is_student, is_workshop}

@@ -1,8 +1,7 @@
 -- The table of proved cases (document 01), and lists of our own for the slips that it does not catch. proofs/Table.antt has the one proof that
 -- the definitions give them.
-use Rattle.std.specs.Prelude.{ℕ, ◌-◌, ◌≤◌, ◌≡◌, Bool, true, false, length, get_or, take, replicate}
+use Rattle.std.specs.Prelude.{ℕ, ◌-◌, ◌≤◌, ◌≡◌, Bool, true, false, length, get_or, take, replicate, Option, Some, None}
 use mathlib.Core.List.{List, [], ◌∷◌, ◌++◌, map, flat_map}
-use Rattle.std.proofs.Math.Option.{Option, some, none}
 use Rattle.base.specs.Lists.{upto, entry_for}
 use Rattle.lgs.specs.Rule.{Interview}
 use Rattle.format.specs.Layout.{Row}
@@ -504,9 +503,9 @@ texts =
     ∷ printed (next 512 64 [] 1024)
     ∷ printed (refused 11 2047)
     ∷ unread
-    ∷ program_prints (some K) (some book_k)
-    ∷ program_prints none (some book_k)
-    ∷ program_prints (some K) none
+    ∷ program_prints (Some K) (Some book_k)
+    ∷ program_prints None (Some book_k)
+    ∷ program_prints (Some K) None
     ∷ []
 
 unfoldable pub texts_expected : List (List ℕ)
@@ -525,9 +524,9 @@ texts_expected =
 -- files of up to 65,536 bytes are read, and one of 65,537 or more is not, whatever is in them
 pub record Limits : Type 0 where
   pub read : (case book : List ℕ) → length case ≤ 65536 → length book ≤ 65536
-      → program_prints (some case) (some book) ≡ printed (engine case book program_room)
-  pub long_case : (case : List ℕ) (book : Option (List ℕ)) → 65537 ≤ length case → program_prints (some case) book ≡ unread
-  pub long_book : (case : Option (List ℕ)) (book : List ℕ) → 65537 ≤ length book → program_prints case (some book) ≡ unread
+      → program_prints (Some case) (Some book) ≡ printed (engine case book program_room)
+  pub long_case : (case : List ℕ) (book : Option (List ℕ)) → 65537 ≤ length case → program_prints (Some case) book ≡ unread
+  pub long_book : (case : Option (List ℕ)) (book : List ℕ) → 65537 ≤ length book → program_prints case (Some book) ≡ unread
 
 -- what the engine answers to the samples, and what it should
 unfoldable pub given : List Sample → List Outcome

@@ -5,28 +5,29 @@ ghost use Rattle.format.specs.Engine.{market_in};
 ghost use Rattle.case_tests.specs.Checked.{CleanCase};
 
 use super::Room;
+use case_tests::Counts;
 
 // The seats of all workshops, by their quotas, which the workshop records have after the students'.
-pub fn seats_needed(case: &[u8], students: usize, workshops: usize) -> usize
-    requires { CleanCase case.now students workshops }
+pub fn seats_needed(case: &[u8], counts: Counts) -> usize
+    requires { CleanCase case.now counts.students counts.workshops }
     ensures { result ≡ all_seats (market_in case.now) }
 {
     let mut sum = 0;
-    let mut w = 0;
-    while w < workshops {
-        sum += records::second_at(case, students + w) as usize;
-        w += 1;
+    for w in 0..counts.workshops {
+        sum += usize::from(records::row_at(case, counts.students + w).second);
     }
     sum
 }
 
 // A lent buffer is shorter than the case needs.
-pub fn lacks(room: Room, students: usize, pairs: usize, seats: usize) -> bool
-    ensures { result ≡ (ltb room.places students
-        || (ltb room.visits (2 * pairs)
-        || (ltb room.seats seats || (ltb room.index pairs || ltb room.states students)))) }
+pub fn lacks(room: Room, counts: Counts, seats: usize) -> bool
+    ensures { result ≡ (ltb room.places counts.students
+        || (ltb room.visits (2 * counts.pairs)
+        || (ltb room.seats seats || (ltb room.index counts.pairs || ltb room.states counts.students)))) }
 {
-    (room.places < students)
-        | ((room.visits / 2 < pairs)
-            | ((room.seats < seats) | ((room.index < pairs) | (room.states < students))))
+    room.places < counts.students
+        || room.visits / 2 < counts.pairs
+        || room.seats < seats
+        || room.index < counts.pairs
+        || room.states < counts.students
 }

@@ -7,7 +7,10 @@ ghost use Rattle.case_tests.specs.Checked.{checked_of};
 ghost use Rattle.book_tests.specs.Index.{book_refusal, index_after};
 ghost use Rattle.intake.specs.Tested.{lengths_of, CaseTested, Tested};
 
-use case_tests::{Checked, refused};
+use api::{Cause, Refusal};
+use case_tests::Counts;
+use tables::Table;
+use ties::IndexedBook;
 
 mod lengths;
 
@@ -24,68 +27,59 @@ pub struct Room {
 // Causes 7 to 11 of a case that was tested: the first refusal, and then the index is zero; or the counts of the case, and then the index has, for each pair
 // record, the number of its book record from 1.
 pub fn check_book(
-    case: &[u8],
+    table: &Table<'_>,
     book: &[u8],
-    table: &[u64],
-    students: usize,
-    workshops: usize,
-    pairs: usize,
+    counts: Counts,
     index: &mut [u16],
-) -> Checked
-    requires { CaseTested case.now table.now index.old students workshops pairs }
-    ensures value { result ≡ checked_of (book_refusal case.now book.now) case.now }
+) -> Result<Counts, Refusal>
+    requires { CaseTested table.now.case.now index.old counts }
+    ensures value { result ≡ checked_of (book_refusal table.now.case.now book.now) table.now.case.now }
     ensures index_after { index.new
-        ≡ index_after (book_refusal case.now book.now) case.now book.now (length index.old) }
+        ≡ index_after (book_refusal table.now.case.now book.now) table.now.case.now book.now (length index.old) }
 {
-    let n = records::entry_count(book.len());
+    // By a mask, and not `% 8`: no code divides the length of a book (docs/DECISIONS.md).
     if book.len() & 7 != 0 {
-        return refused(7, 0);
+        return Err(Cause::BookLength.at(0));
     }
-    let from = students + workshops;
-    let stopped = book_tests::fill(case, book, table, from, &mut *index);
-    if stopped < n {
-        return book_tests::book_fault(case, book, table, from, stopped, &mut *index);
+    let from = counts.students + counts.workshops;
+    if let Some(stopped) = book_tests::fill(table, book, from, &mut *index) {
+        return Err(book_tests::book_fault(table, book, stopped, index));
     }
-    let tie = ties::first_tie(case, book, &index[..], table, students, workshops);
-    if tie < n {
-        records::clear(&mut *index);
-        return refused(11, tie);
+    let indexed = IndexedBook {
+        table: *table,
+        book,
+        index: &index[..],
+        from,
+    };
+    if let Some(tie) = indexed.first_tie(counts.students) {
+        index.fill(0);
+        return Err(Cause::EqualMarks.at(tie));
     }
-    Checked::Counts {
-        students,
-        workshops,
-        pairs,
-    }
+    Ok(counts)
 }
 
 // The first refusal in the order of the causes, and then the index is zero; or the counts of the case, and then the index is as `check_book` makes it, and
 // `table` is the table of the case.
-pub fn check(case: &[u8], book: &[u8], room: Room, index: &mut [u16], table: &mut [u64]) -> Checked
+pub fn check(
+    case: &[u8],
+    book: &[u8],
+    room: Room,
+    index: &mut [u16],
+    table: &mut [u64],
+) -> Result<Counts, Refusal>
     requires blank { Blank table.old }
     requires index_value { room.index ≡ length index.old }
     ensures { Tested case.now book.now (lengths_of room) result index.new table.new }
 {
-    records::clear(&mut *index);
-    match case_tests::check_case(case, &mut *table) {
-        Checked::Refused { cause, record } => Checked::Refused { cause, record },
-        Checked::Counts {
-            students,
-            workshops,
-            pairs,
-        } => {
-            let seats = lengths::seats_needed(case, students, workshops);
-            if lengths::lacks(room, students, pairs, seats) {
-                return refused(6, 0);
-            }
-            check_book(
-                case,
-                book,
-                &table[..],
-                students,
-                workshops,
-                pairs,
-                &mut *index,
-            )
-        }
+    index.fill(0);
+    let counts = case_tests::check_case(case, &mut *table)?;
+    let seats = lengths::seats_needed(case, counts);
+    if lengths::lacks(room, counts, seats) {
+        return Err(Cause::Room.at(0));
     }
+    let table = Table {
+        case,
+        words: &table[..],
+    };
+    check_book(&table, book, counts, index)
 }

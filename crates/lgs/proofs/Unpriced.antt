@@ -3,7 +3,7 @@ use Prim.Native.Nat.{ℕ, zero, suc, ◌*◌}
 use mathlib.Core.Path.{◌≡◌, refl, ap}
 use mathlib.Core.Bool.{Bool, true, false, cond}
 use mathlib.Core.List.{List, [], ◌∷◌, map}
-use mathlib.Core.Option.{some}
+use Rattle.std.specs.Prelude.{Some}
 use lib.ListN.{replicate}
 use Rattle.base.specs.Lists.{upto}
 use Rattle.lgs.specs.Market.{Market, Results, outscored, matters}
@@ -35,7 +35,7 @@ module _ (M : Market) (stage : ℕ → ℕ) (fare : ℕ → ℕ → ℕ) where
   settled_same : (k : ℕ) (xs : List ℕ) → settled (altered M stage fare) k xs ≡ settled M k xs
   unfolding settled moves raised asked matters
   settled_same zero xs = refl
-  settled_same (suc k) xs = ap (λ o. cond (moves M xs) o (some xs)) (settled_same k (map (raised M xs) (upto M.students)))
+  settled_same (suc k) xs = ap (λ o. cond (moves M xs) o (Some xs)) (settled_same k (map (raised M xs) (upto M.students)))
 
   pub least_same : least_stages (altered M stage fare) ≡ least_stages M
   unfolding least_stages

@@ -1,6 +1,5 @@
 -- The least stages that agree (document 02, Paper 2): "a stage for each student, each as small as agreement with every workshop permits, starting at 1".
-use Rattle.std.specs.Prelude.{ℕ, zero, suc, ◌*◌, ◌≤◌, max, ◌≡◌, Bool, cond, ◌&&◌, List, map, ltb, eqb, length, replicate}
-use Rattle.std.proofs.Math.Option.{Option, some, none}
+use Rattle.std.specs.Prelude.{ℕ, zero, suc, ◌*◌, ◌≤◌, max, ◌≡◌, Bool, cond, ◌&&◌, List, map, ltb, eqb, length, replicate, Option, Some, None}
 use Rattle.base.specs.Lists.{upto, any, largest, entry_for}
 use Rattle.lgs.specs.Market.{Market, matters, ConsistentStages}
 
@@ -29,8 +28,8 @@ module _ (M : Market) where
 
   -- everybody is raised, at most so often, until nobody is to be raised
   unfoldable pub settled : ℕ → List ℕ → Option (List ℕ)
-  settled zero stages = none
-  settled (suc k) stages = cond (moves stages) (settled k (map (raised stages) (upto M.students))) (some stages)
+  settled zero stages = None
+  settled (suc k) stages = cond (moves stages) (settled k (map (raised stages) (upto M.students))) (Some stages)
 
   -- "starting at 1". Where stages agree, the least are not above the number of students, n, so that there are at most n * n rounds that raise somebody;
   -- more than that means that none agree. (So it is promised: `StagesPromised` and `TwelveExactly` of the crate stages.)

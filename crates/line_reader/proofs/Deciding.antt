@@ -1,10 +1,10 @@
--- 14, 15 or nothing, of what was read and noted of a line.
+-- The cause or none, of what was read and noted of a line.
 use Prim.Native.Nat.{ℕ, zero, suc, ◌+◌, ◌/◌, ◌%◌, ◌≤◌, ◌<◌}
 use mathlib.Core.Path.{◌≡◌, refl, sym, ap, ◌∙◌}
 use mathlib.Core.Logic.{⊎_elim, ◌⊎◌, inl, inr}
 use mathlib.Core.Bool.{Bool, true, false, cond, not, ◌&&◌}
-use mathlib.Core.List.{List, []}
-use mathlib.Core.Option.{some, none}
+use mathlib.Core.List.{List}
+use Rattle.std.specs.Prelude.{Some, None, Result, Ok, Err}
 use native.Mathlib.Omega.{arith}
 use borrow.Author.Tests.{eq-eqb, ne_eqb, eqb-true}
 use lib.Dec.{eqb}
@@ -15,16 +15,17 @@ use Rattle.base.proofs.Tests.{bool_cases, never, is_false, less?, eq?}
 use Rattle.base.proofs.Digits.{digit}
 use Rattle.lgs.specs.Market.{Market}
 use Rattle.wish_lines.specs.Lines.{Line, times, position, Formed}
-use Rattle.wish_lines.specs.Reading.{scan, read_line, misnamed, start, group}
+use Rattle.wish_lines.specs.Reading.{scan, read_line, misnamed, start}
 use Rattle.wish_lines.specs.Wishes.{Option?, Ranged}
 use Rattle.wish_lines.proofs.Naming.{named_exactly, few_groups}
 use Rattle.wish_lines.proofs.Grammar.{read_sound}
 use Rattle.line_reader.specs.declared.Number.{Number}
 use Rattle.line_reader.specs.declared.Marks.{Marks}
 use Rattle.line_reader.specs.declared.Body.{Body}
-use Rattle.line_reader.specs.declared.LineFound.{LineFound}
 use Rattle.line_reader.specs.Items.{cap, Headed}
 use Rattle.line_reader.specs.Marks.{times_in, Marked, BodyRead}
+use Rattle.api.specs.declared.Cause.{Cause}
+use Rattle.api.specs.declared.Cause.TheVariants.{LineForm, LineNames}
 use Rattle.line_reader.specs.Checked.{LineChecked}
 
 -- ---- sets with the same members are the same number
@@ -113,25 +114,23 @@ module _ (M : Market) (R : Ranged M) (high : (s w : ℕ) → M.paired s w ≡ tr
 
 -- ---- the line
 
--- what the code finds, by its tests
-abbrev pub decided : Bool → Bool → ℕ
-decided form names = cond form (cond names 0 15) 14
+-- what the code finds of a line that ends at `end`, by its tests
+abbrev pub decided : ℕ → Bool → Bool → Result ℕ Cause
+decided end form names = cond form (cond names (Ok end) (Err LineNames)) (Err LineForm)
 
-module _ (M : Market) (text : List ℕ) (from k : ℕ) (groups : List ℕ) (r : LineFound) (sized : length groups ≡ 65) where
-  departs : scan (drop from text) start ≡ none → r.fault ≡ 14 → LineChecked M text from k r groups
+module _ (M : Market) (text : List ℕ) (from k : ℕ) (groups : List ℕ) (sized : length groups ≡ 65) where
+  pub departs : scan (drop from text) start ≡ None → LineChecked M text from k (Err LineForm) groups
   unfolding read_line
-  departs e f =
-      record { fault = f ∙ rw e; sized = sized; line = λ z. absurd (omega arith) }
-
-  pub no_head : (h : Number) → Headed text from h → h.right ≡ false → r.fault ≡ 14 → LineChecked M text from k r groups
-  no_head h H e f = departs (H.departs e) f
+  departs e = (sized, rw e)
 
   -- the line l was read, and m noted of it; v is the student's number as the code has it
   module _ (R : Ranged M) (high : (s w : ℕ) → M.paired s w ≡ true → w ≤ 64) (small : k < 512)
       (set : ℕ) (pairs : (w : ℕ) → member set w ≡ M.paired (k + 1) w)
-      (l : Line) (rest : List ℕ) (scanned : scan (drop from text) start ≡ some (l, rest)) (goes : drop r.end text ≡ rest) (fits : r.end ≤ length text)
-      (m : Marks) (K : Marked l.groups m groups) (v : ℕ) (value : v ≡ cap l.student)
-      (fault : r.fault ≡ decided (eqb m.nones 1 && eqb v (k + 1)) (not m.stray && eqb m.named set)) where
+      (l : Line) (end : ℕ) (scanned : scan (drop from text) start ≡ Some (l, drop end text)) (within : end ≤ length text)
+      (m : Marks) (K : Marked l.groups m groups) (v : ℕ) (value : v ≡ cap l.student) where
+    found : Result ℕ Cause
+    found = decided end (eqb m.nones 1 && eqb v (k + 1)) (not m.stray && eqb m.named set)
+
     none_test : eqb m.nones 1 ≡ eqb (times 0 l) 1
     unfolding times
     none_test = ap (λ n. eqb n 1) K.nones ∙ cap_test (times_in l.groups 0) 1 (omega arith)
@@ -141,44 +140,47 @@ module _ (M : Market) (text : List ℕ) (from k : ℕ) (groups : List ℕ) (r : 
         let e : k + 1 ≡ suc k = omega arith in
         rw (value, e) (cap_test l.student (suc k) (omega arith))
 
-    not_once : eqb (times 0 l) 1 ≡ false → LineChecked M text from k r groups
-    unfolding read_line
-    not_once e =
-        let f : r.fault ≡ 14 = fault ∙ rw (none_test, e) in
-        record { fault = f ∙ rw scanned (rw e); sized = sized; line = λ z. absurd (omega arith) }
+    not_once : eqb (times 0 l) 1 ≡ false → LineChecked M text from k found groups
+    unfolding read_line found
+    not_once e = rw (none_test, e) (sized, rw scanned (rw e))
 
     module _ (once : eqb (times 0 l) 1 ≡ true) where
-      is_read : read_line (drop from text) ≡ some (l, rest)
+      is_read : read_line (drop from text) ≡ Some (l, drop end text)
       unfolding read_line
       is_read = rw scanned (rw once)
 
-      not_hers : eqb l.student (suc k) ≡ false → LineChecked M text from k r groups
-      not_hers e =
-          let f : r.fault ≡ 14 = fault ∙ rw (none_test, once, student_test, e) in
-          record { fault = f ∙ rw is_read (rw e); sized = sized; line = λ z. absurd (omega arith) }
+      not_hers : eqb l.student (suc k) ≡ false → LineChecked M text from k found groups
+      unfolding found
+      not_hers e = rw (none_test, once, student_test, e) (sized, rw is_read (rw e))
 
       module _ (hers : eqb l.student (suc k) ≡ true) where
         her_pairs : (w : ℕ) → member set w ≡ M.paired l.student w
         her_pairs w = let e : k + 1 ≡ l.student = omega (arith, eqb-true l.student (suc k) hers) in pairs w ∙ ap (λ s. M.paired s w) e
 
-        by_names : r.fault ≡ cond (not (misnamed M l)) 0 15
-        by_names = fault ∙ rw (none_test, once, student_test, hers, names_test M R high l m groups K set her_pairs)
+        by_names : found ≡ cond (not (misnamed M l)) (Ok end) (Err LineNames)
+        unfolding found
+        by_names = rw (none_test, once, student_test, hers, names_test M R high l m groups K set her_pairs)
 
-        wrong_names : misnamed M l ≡ true → LineChecked M text from k r groups
-        wrong_names e =
-            let f : r.fault ≡ 15 = by_names ∙ rw e in
-            record { fault = f ∙ rw is_read (rw (hers, e)); sized = sized; line = λ z. absurd (omega arith) }
+        wrong_names : misnamed M l ≡ true → LineChecked M text from k found groups
+        wrong_names e = rw (by_names, e) (sized, rw is_read (rw (hers, e)))
 
-        right_names : misnamed M l ≡ false → LineChecked M text from k r groups
+        right_names : misnamed M l ≡ false → LineChecked M text from k found groups
         right_names e =
-            record {
-              fault = by_names ∙ rw is_read (rw (hers, e));
-              sized = sized;
-              line = λ z. (l, rest, is_read, goes, fits, positions);
-            }
+            rw (by_names, e) (
+              sized,
+              record {
+                line = l;
+                rest = drop end text;
+                read = is_read;
+                fault = rw (hers, e);
+                left = refl;
+                within = within;
+                noted = positions;
+              },
+            )
           where
             formed : Formed l
-            formed = (read_sound (drop from text) l rest is_read).1
+            formed = (read_sound (drop from text) l (drop end text) is_read).1
 
             clean : m.stray ≡ false
             clean = is_false m.stray (λ s. stray_misnamed M R high l m groups K set her_pairs s e)
@@ -189,31 +191,26 @@ module _ (M : Market) (text : List ℕ) (from k : ℕ) (groups : List ℕ) (r : 
                 K.position clean x (option_once M R high l m groups K set her_pairs formed e x own)
                 ∙ omega (arith, (few_groups M R l formed e x own).1)
 
-        pub named_checked : LineChecked M text from k r groups
+        named_checked : LineChecked M text from k found groups
         named_checked = ⊎_elim wrong_names right_names (bool_cases (misnamed M l))
 
-    pub line_checked : LineChecked M text from k r groups
+    pub line_checked : LineChecked M text from k (decided end (eqb m.nones 1 && eqb v (k + 1)) (not m.stray && eqb m.named set)) groups
+    unfolding found
     line_checked =
         ⊎_elim (λ (e : eqb (times 0 l) 1 ≡ true). ⊎_elim (named_checked e) (not_hers e) (bool_cases (eqb l.student (suc k)))) not_once
         (bool_cases (eqb (times 0 l) 1))
 
-  -- of the student's number and the groups behind it
+-- of the student's number h and the groups b behind it
+module _ (M : Market) (text : List ℕ) (from k : ℕ) (groups : List ℕ) (h : Number) (H : Headed text from (Some h)) where
+  pub no_body : BodyRead text h.end None groups → LineChecked M text from k (Err LineForm) groups
+  no_body B = departs M text from k groups B.0 (H.2 ∙ B.1 H.0)
+
   pub checked : (R : Ranged M) (high : (s w : ℕ) → M.paired s w ≡ true → w ≤ 64) → k < 512
-      → (h : Number) → Headed text from h → h.right ≡ true → (b : Body) → BodyRead text h.end b groups
+      → (b : Body) → BodyRead text h.end (Some b) groups
       → (set : ℕ) → ((w : ℕ) → member set w ≡ M.paired (k + 1) w)
-      → r.end ≡ b.end
-      → r.fault ≡ decided ((b.right && eqb b.marks.nones 1) && eqb h.value (k + 1)) (not b.marks.stray && eqb b.marks.named set)
-      → LineChecked M text from k r groups
-  checked R high small h H right b B set pairs end fault =
-      go (H.goes right)
-    where
-      go : (s : ℕ) × (h.value ≡ cap s) × (scan (drop from text) start ≡ scan (drop h.end text) (group s [])) × (h.end ≤ length text)
-          → LineChecked M text from k r groups
-      go (s, value, reads, fits) =
-          ⊎_elim
-          (λ (e : b.right ≡ true).
-          let L = B.line e in
-          line_checked R high small set pairs (record { student = s; groups = L.0 }) (drop b.end text) (reads ∙ L.1 s) (rw end) (omega (arith, L.2))
-          b.marks L.3 h.value value (rw e at fault))
-          (λ (e : b.right ≡ false). departs (reads ∙ B.departs e s) (fault ∙ rw e))
-          (bool_cases b.right)
+      → (form names : Bool) → form ≡ (eqb b.marks.nones 1 && eqb h.value (k + 1)) → names ≡ (not b.marks.stray && eqb b.marks.named set)
+      → LineChecked M text from k (decided b.end form names) groups
+  checked R high small b B set pairs form names f n =
+      rw (f, n)
+      (line_checked M text from k groups B.3.sized R high small set pairs (record { student = H.0; groups = B.0 }) b.end
+      (H.2 ∙ B.1 H.0) B.2 b.marks B.3 h.value H.1)

@@ -4,20 +4,20 @@ use mathlib.Core.Path.{◌≡◌, refl, ap, ◌∙◌}
 use mathlib.Core.Logic.{⊎_elim}
 use mathlib.Core.Bool.{Bool, true, false, cond, ◌&&◌}
 use mathlib.Core.List.{List, [], ◌∷◌, ◌++◌}
-use mathlib.Core.Option.{Option, some, none}
+use Rattle.std.specs.Prelude.{Some, None, Option}
 use native.Mathlib.Omega.{arith}
 use borrow.Author.Tests.{eqb-true, lt-ltb, le-ltb, ltb-true, leb-true}
 use lib.Dec.{eqb, ltb}
 use lib.ListN.{length, drop, get_or, drop_of_length-le}
 use lib.Seq.{drop-cons, drop-drop}
-use Rattle.base.proofs.Tests.{bool_cases, never, less?, and_left, and_right}
+use Rattle.base.proofs.Tests.{bool_cases, less?, and_left, and_right}
 use Rattle.wish_lines.specs.Lines.{Line}
-use Rattle.wish_lines.specs.Reading.{State, Parsed, scan, step, is_digit, is_first, with_digit, begin_item, end_group, end_item}
+use Rattle.wish_lines.specs.Reading.{State, scan, step, is_digit, is_first, with_digit, begin_item, end_group, end_item}
 use Rattle.wish_lines.specs.Reading.{start, number, colon, group, alone, inside, among, closed, on, done, wrong}
 use Rattle.line_reader.specs.declared.Number.{Number}
 use Rattle.line_reader.specs.declared.Turn.{Turn}
-use Rattle.line_reader.specs.Items.{cap, stands_at, digits_in, extended, number_in, item_in, Shown, Headed}
-use Rattle.line_reader.specs.Items.{made, behind_group, in_braces, before, Open, Turned}
+use Rattle.line_reader.specs.Items.{cap, stands_at, digits_in, extended, number_in, item_in, shown, Headed}
+use Rattle.line_reader.specs.Items.{behind_group, in_braces, before, Open, Each, Turned}
 
 -- ---- bytes
 
@@ -35,15 +35,15 @@ scan_on : (b : ℕ) (t : List ℕ) (σ σ' : State) → step σ b ≡ on σ' →
 unfolding scan
 scan_on b t σ σ' e = rw e
 
-scan_done : (b : ℕ) (t : List ℕ) (σ : State) (l : Line) → step σ b ≡ done l → scan (b ∷ t) σ ≡ some (l, t)
+scan_done : (b : ℕ) (t : List ℕ) (σ : State) (l : Line) → step σ b ≡ done l → scan (b ∷ t) σ ≡ Some (l, t)
 unfolding scan
 scan_done b t σ l e = rw e
 
-scan_wrong : (b : ℕ) (t : List ℕ) (σ : State) → step σ b ≡ wrong → scan (b ∷ t) σ ≡ none
+scan_wrong : (b : ℕ) (t : List ℕ) (σ : State) → step σ b ≡ wrong → scan (b ∷ t) σ ≡ None
 unfolding scan
 scan_wrong b t σ e = rw e
 
-pub scan_past : (text : List ℕ) (i : ℕ) (σ : State) → length text ≤ i → scan (drop i text) σ ≡ none
+pub scan_past : (text : List ℕ) (i : ℕ) (σ : State) → length text ≤ i → scan (drop i text) σ ≡ None
 unfolding scan
 scan_past text i σ l = rw (drop_of_length-le text l)
 
@@ -84,8 +84,8 @@ digits_inside (b ∷ t) =
 
 -- what is read from σ, behind which the item x leads to k x
 abbrev pub Reads : State → (ℕ → State) → List ℕ → Option (ℕ × ℕ) → Type 0
-Reads σ k t none = scan t σ ≡ none
-Reads σ k t (some (x, n)) = (scan t σ ≡ scan (drop n t) (k x)) × Over x (drop n t) × (1 ≤ n) × (n ≤ length t)
+Reads σ k t None = scan t σ ≡ None
+Reads σ k t (Some (x, n)) = (scan t σ ≡ scan (drop n t) (k x)) × Over x (drop n t) × (1 ≤ n) × (n ≤ length t)
 
 by_option : (P : Option (ℕ × ℕ) → Type 0) (c : Bool) (x y : Option (ℕ × ℕ)) → (c ≡ true → P x) → (c ≡ false → P y) → P (cond c x y)
 by_option P true x y f g = f refl
@@ -136,56 +136,15 @@ goes_among s gs xs x b l e = rw (lt-ltb 0 x l, e)
 
 -- ---- one item with what stands around it
 
-by_turn : (P : Turn → Type 0) (c : Bool) (x y : Turn) → (c ≡ true → P x) → (c ≡ false → P y) → P (cond c x y)
+by_turn : (P : Option Turn → Type 0) (c : Bool) (x y : Option Turn) → (c ≡ true → P x) → (c ≡ false → P y) → P (cond c x y)
 by_turn P true x y f g = f refl
 by_turn P false x y f g = g refl
 
 -- the item x is read from place i on
 module _ (text : List ℕ) (i : ℕ) (within : Bool) (x : ℕ) where
-  abbrev Each : (ℕ → List (List ℕ) → List ℕ → Parsed) → Type 0
-  Each p = (s : ℕ) (gs : List (List ℕ)) (xs : List ℕ) → Open within xs → scan (drop i text) (before within s gs xs) ≡ p s gs xs
-
-  turn_departs : Each (λ s gs xs. none) → Turned text i within x (made 0 0 0)
-  turn_departs h =
-      record {
-        kind = omega arith;
-        shown = λ l. absurd (omega arith);
-        leads = λ s gs xs o.
-            record { departs = λ q. h s gs xs o; item = λ q. absurd (omega arith); group = λ q. absurd (omega arith); line = λ q. absurd (omega arith) };
-      }
-
-  -- v is the item as the code has it, and e is where the text goes on
-  module _ (v e : ℕ) (same : v ≡ cap x) (past : i < e) (fits : e ≤ length text) where
-    turn_item : Each (λ s gs xs. scan (drop e text) (inside s gs (xs ++ (x ∷ [])))) → Turned text i within x (made 1 v e)
-    turn_item h =
-        record {
-          kind = omega arith;
-          shown = λ l. (same, past, fits);
-          leads = λ s gs xs o.
-              record { departs = λ q. absurd (omega arith); item = λ q. h s gs xs o; group = λ q. absurd (omega arith); line = λ q. absurd (omega arith) };
-        }
-
-    turn_group : Each (λ s gs xs. scan (drop e text) (group s (gs ++ ((xs ++ (x ∷ [])) ∷ [])))) → Turned text i within x (made 2 v e)
-    turn_group h =
-        record {
-          kind = omega arith;
-          shown = λ l. (same, past, fits);
-          leads = λ s gs xs o.
-              record { departs = λ q. absurd (omega arith); item = λ q. absurd (omega arith); group = λ q. h s gs xs o; line = λ q. absurd (omega arith) };
-        }
-
-    turn_line : Each (λ s gs xs. some (record { student = s; groups = gs ++ ((xs ++ (x ∷ [])) ∷ []) }, drop e text)) → Turned text i within x (made 3 v e)
-    turn_line h =
-        record {
-          kind = omega arith;
-          shown = λ l. (same, past, fits);
-          leads = λ s gs xs o.
-              record { departs = λ q. absurd (omega arith); item = λ q. absurd (omega arith); group = λ q. absurd (omega arith); line = λ q. h s gs xs o };
-        }
-
   -- behind a group, at place j: the next byte ends it, whichever state `at` is
   module _ (v j : ℕ) (at : ℕ → List (List ℕ) → List ℕ → State) (same : v ≡ cap x) (past : i ≤ j)
-      (here : Each (λ s gs xs. scan (drop j text) (at s gs xs)))
+      (here : Each text i within (λ s gs xs. scan (drop j text) (at s gs xs)))
       (ends : j < length text → (s : ℕ) (gs : List (List ℕ)) (xs : List ℕ) → Open within xs
       → step (at s gs xs) (get_or text j 0) ≡ end_group s (gs ++ ((xs ++ (x ∷ [])) ∷ [])) (get_or text j 0)) where
     abbrev b : ℕ
@@ -194,22 +153,32 @@ module _ (text : List ℕ) (i : ℕ) (within : Bool) (x : ℕ) where
     abbrev rest : List ℕ
     rest = drop (j + 1) text
 
-    pub behind_turned : Turned text i within x (behind_group text v j)
+    pub behind_turned : Turned text i within (behind_group text v j)
     behind_turned = ⊎_elim more none_left (less? j (length text))
       where
-        none_left : length text ≤ j → Turned text i within x (behind_group text v j)
-        none_left l = rw (le-ltb j (length text) l) (turn_departs (λ s gs xs o. here s gs xs o ∙ scan_past text j (at s gs xs) l))
+        none_left : length text ≤ j → Turned text i within (behind_group text v j)
+        none_left l = rw (le-ltb j (length text) l) (λ s gs xs o. here s gs xs o ∙ scan_past text j (at s gs xs) l)
 
-        more : j < length text → Turned text i within x (behind_group text v j)
+        more : j < length text → Turned text i within (behind_group text v j)
         more l =
             rw (lt-ltb j (length text) l)
-            (by_turn (Turned text i within x) (eqb b 44) _ _
-            (λ c. turn_group v (j + 1) same (omega arith) (omega arith)
-            (λ s gs xs o. here s gs xs o ∙ rw (first_at text j l) (scan_on b rest (at s gs xs) _ (ends l s gs xs o ∙ rw c))))
-            (λ d. by_turn (Turned text i within x) (eqb b 10) _ _
-            (λ c. turn_line v (j + 1) same (omega arith) (omega arith)
-            (λ s gs xs o. here s gs xs o ∙ rw (first_at text j l) (scan_done b rest (at s gs xs) _ (ends l s gs xs o ∙ rw (d, c)))))
-            (λ c. turn_departs (λ s gs xs o. here s gs xs o ∙ rw (first_at text j l) (scan_wrong b rest (at s gs xs) (ends l s gs xs o ∙ rw (d, c)))))))
+            (by_turn (Turned text i within) (eqb b 44) _ _
+            (λ c. (
+              x,
+              same,
+              omega arith,
+              omega arith,
+              λ s gs xs o. here s gs xs o ∙ rw (first_at text j l) (scan_on b rest (at s gs xs) _ (ends l s gs xs o ∙ rw c)),
+            ))
+            (λ d. by_turn (Turned text i within) (eqb b 10) _ _
+            (λ c. (
+              x,
+              same,
+              omega arith,
+              omega arith,
+              λ s gs xs o. here s gs xs o ∙ rw (first_at text j l) (scan_done b rest (at s gs xs) _ (ends l s gs xs o ∙ rw (d, c))),
+            ))
+            (λ c s gs xs o. here s gs xs o ∙ rw (first_at text j l) (scan_wrong b rest (at s gs xs) (ends l s gs xs o ∙ rw (d, c))))))
 
 -- the item x has been read where the text goes on at j
 over_at : (text : List ℕ) (j x : ℕ) → j < length text → Over x (drop j text) → (ltb 0 x && is_digit (get_or text j 0)) ≡ false
@@ -237,34 +206,37 @@ and_swap false false = refl
 module _ (text : List ℕ) (i₀ : ℕ) (within : Bool) (i : ℕ) (more : Bool) (past : i₀ ≤ i)
     (enters : (s : ℕ) (gs : List (List ℕ)) (xs : List ℕ) → Open within xs → scan (drop i₀ text) (before within s gs xs) ≡ scan (drop i text) (inside s gs xs))
     (many : (xs : List ℕ) → Open within xs → ltb 0 (length xs) ≡ more) where
-  braced_item : (x n : ℕ) → ((s : ℕ) (gs : List (List ℕ)) (xs : List ℕ) → Reads (inside s gs xs) (among s gs xs) (drop i text) (some (x, n)))
-      → Turned text i₀ within x (in_braces text i more (some (x, n)))
+  braced_item : (x n : ℕ) → ((s : ℕ) (gs : List (List ℕ)) (xs : List ℕ) → Reads (inside s gs xs) (among s gs xs) (drop i text) (Some (x, n)))
+      → Turned text i₀ within (in_braces text more (shown i (Some (x, n))))
   braced_item x n h = ⊎_elim inner none_left (less? (i + n) (length text))
     where
-      here : (s : ℕ) (gs : List (List ℕ)) (xs : List ℕ) → Open within xs
-          → scan (drop i₀ text) (before within s gs xs) ≡ scan (drop (i + n) text) (among s gs xs x)
+      here : Each text i₀ within (λ s gs xs. scan (drop (i + n) text) (among s gs xs x))
       here s gs xs o = enters s gs xs o ∙ ((h s gs xs).0 ∙ rw (drop-drop n i text))
 
       some_bytes : 1 ≤ n
       some_bytes = (h 0 [] []).2
 
-      none_left : length text ≤ i + n → Turned text i₀ within x (in_braces text i more (some (x, n)))
+      none_left : length text ≤ i + n → Turned text i₀ within (in_braces text more (shown i (Some (x, n))))
       none_left l =
           rw (le-ltb (i + n) (length text) l, and_no more)
-          (turn_departs text i₀ within x (λ s gs xs o. here s gs xs o ∙ scan_past text (i + n) (among s gs xs x) l))
+          (λ s gs xs o. here s gs xs o ∙ scan_past text (i + n) (among s gs xs x) l)
 
-      inner : i + n < length text → Turned text i₀ within x (in_braces text i more (some (x, n)))
+      inner : i + n < length text → Turned text i₀ within (in_braces text more (shown i (Some (x, n))))
       inner l =
           rw (lt-ltb (i + n) (length text) l)
-          (by_turn (Turned text i₀ within x) (eqb b 44) _ _
-          (λ c. turn_item text i₀ within x (cap x) (i + n + 1) refl (omega (arith, some_bytes)) (omega arith)
-          (λ s gs xs o. here s gs xs o ∙ rw (first_at text (i + n) l) (scan_on b rest (among s gs xs x) _ (ends s gs xs ∙ rw c))))
-          (λ d. by_turn (Turned text i₀ within x) (more && eqb b 125) _ _
+          (by_turn (Turned text i₀ within) (eqb b 44) _ _
+          (λ c. (
+            x,
+            refl,
+            omega (arith, some_bytes),
+            omega arith,
+            λ s gs xs o. here s gs xs o ∙ rw (first_at text (i + n) l) (scan_on b rest (among s gs xs x) _ (ends s gs xs ∙ rw c)),
+          ))
+          (λ d. by_turn (Turned text i₀ within) (more && eqb b 125) _ _
           (λ c. behind_turned text i₀ within x (cap x) (i + n + 1) (λ s gs xs. closed s gs (xs ++ (x ∷ []))) refl (omega (arith, some_bytes))
           (λ s gs xs o. here s gs xs o ∙ rw (first_at text (i + n) l) (scan_on b rest (among s gs xs x) _ (ends s gs xs ∙ rw (d, closes xs o, c))))
           (λ k s gs xs o. closed_ends s gs (xs ++ (x ∷ [])) _))
-          (λ c. turn_departs text i₀ within x
-          (λ s gs xs o. here s gs xs o ∙ rw (first_at text (i + n) l) (scan_wrong b rest (among s gs xs x) (ends s gs xs ∙ rw (d, closes xs o, c)))))))
+          (λ c s gs xs o. here s gs xs o ∙ rw (first_at text (i + n) l) (scan_wrong b rest (among s gs xs x) (ends s gs xs ∙ rw (d, closes xs o, c))))))
         where
           b : ℕ
           b = get_or text (i + n) 0
@@ -278,7 +250,7 @@ module _ (text : List ℕ) (i₀ : ℕ) (within : Bool) (i : ℕ) (more : Bool) 
           closes : (xs : List ℕ) → Open within xs → (eqb b 125 && ltb 0 (length xs)) ≡ (more && eqb b 125)
           closes xs o = rw (many xs o) (and_swap (eqb b 125) more)
 
-  pub braces_turned : (x : ℕ) × Turned text i₀ within x (in_braces text i more (item_in (drop i text)))
+  pub braces_turned : Turned text i₀ within (in_braces text more (shown i (item_in (drop i text))))
   unfolding step
   braces_turned =
       go (item_in (drop i text))
@@ -289,9 +261,14 @@ module _ (text : List ℕ) (i₀ : ℕ) (within : Bool) (i : ℕ) (more : Bool) 
       begins (b ∷ t) s gs xs = refl
 
       go : (p : Option (ℕ × ℕ)) → ((s : ℕ) (gs : List (List ℕ)) (xs : List ℕ) → Reads (inside s gs xs) (among s gs xs) (drop i text) p)
-          → (x : ℕ) × Turned text i₀ within x (in_braces text i more p)
-      go none h = (0, turn_departs text i₀ within 0 (λ s gs xs o. enters s gs xs o ∙ h s gs xs))
-      go (some (x, n)) h = (x, braced_item x n h)
+          → Turned text i₀ within (in_braces text more (shown i p))
+      go None h = λ s gs xs o. enters s gs xs o ∙ h s gs xs
+      go (Some (x, n)) h = braced_item x n h
+
+-- behind an item that is a group
+abbrev pub alone_turn : List ℕ → Option Number → Option Turn
+alone_turn text None = None
+alone_turn text (Some n) = behind_group text n.value n.end
 
 -- where a group must begin, and no brace stands
 module _ (text : List ℕ) (i : ℕ) (bare : stands_at text i 123 ≡ false) where
@@ -305,134 +282,104 @@ module _ (text : List ℕ) (i : ℕ) (bare : stands_at text i 123 ≡ false) whe
   reads_alone : (s : ℕ) (gs : List (List ℕ)) → Reads (group s gs) (alone s gs) (drop i text) (item_in (drop i text))
   reads_alone s gs = item_reads (group s gs) (alone s gs) (goes_alone s gs) (drop i text) (begins_alone s gs)
 
-  pub alone_departs : (n : Number) → Shown i (item_in (drop i text)) n → n.right ≡ false → Turned text i false 0 (made 0 0 0)
-  alone_departs n h e = turn_departs text i false 0 (λ s gs xs o. go s gs (item_in (drop i text)) h (reads_alone s gs))
+  pub alone_turned : Turned text i false (alone_turn text (shown i (item_in (drop i text))))
+  alone_turned = go (item_in (drop i text)) reads_alone
     where
-      go : (s : ℕ) (gs : List (List ℕ)) (p : Option (ℕ × ℕ)) → Shown i p n → Reads (group s gs) (alone s gs) (drop i text) p
-          → scan (drop i text) (group s gs) ≡ none
-      go s gs none h r = r
-      go s gs (some (x, k)) h r = never h.0 e
-
-  pub alone_turned : (n : Number) → Shown i (item_in (drop i text)) n → n.right ≡ true
-      → (x : ℕ) × Turned text i false x (behind_group text n.value n.end)
-  alone_turned n h e = go (item_in (drop i text)) h reads_alone
-    where
-      go : (p : Option (ℕ × ℕ)) → Shown i p n → ((s : ℕ) (gs : List (List ℕ)) → Reads (group s gs) (alone s gs) (drop i text) p)
-          → (x : ℕ) × Turned text i false x (behind_group text n.value n.end)
-      go none h r = never e h
-      go (some (x, k)) h r = (
-        x,
-        behind_turned text i false x n.value n.end (λ s gs xs. alone s gs x) h.1 (omega (arith, h.2))
-            (λ s gs xs o. (r s gs).0 ∙ rw (drop-drop k i text, h.2))
-            (λ l s gs xs o. rw o (alone_ends s gs x _ (over_at text n.end x l (rw h.2 (rw (drop-drop k i text) at (r s gs).1))))),
-      )
+      go : (p : Option (ℕ × ℕ)) → ((s : ℕ) (gs : List (List ℕ)) → Reads (group s gs) (alone s gs) (drop i text) p)
+          → Turned text i false (alone_turn text (shown i p))
+      go None r = λ s gs xs o. r s gs
+      go (Some (x, k)) r =
+          behind_turned text i false x (cap x) (i + k) (λ s gs xs. alone s gs x) refl (omega arith)
+          (λ s gs xs o. (r s gs).0 ∙ rw (drop-drop k i text))
+          (λ l s gs xs o. rw o (alone_ends s gs x _ (over_at text (i + k) x l (rw (drop-drop k i text) at (r s gs).1))))
 
 -- ---- the student's number
 
 abbrev Ended : List ℕ → Option (ℕ × ℕ) → Type 0
-Ended t none = Unit {0}
-Ended t (some (x, n)) = Over 1 (drop n t)
+Ended t None = Unit {0}
+Ended t (Some (x, n)) = Over 1 (drop n t)
 
 number_ended : (t : List ℕ) → Ended t (number_in t)
 number_ended [] = tt
 number_ended (b ∷ t) = by_option (Ended (b ∷ t)) (is_first b) _ _ (λ e. digits_over 1 t) (λ e. tt)
 
-module _ (text : List ℕ) (from : ℕ) (n : Number) (shown : Shown from (number_in (drop from text)) n) where
-  -- a number was read
-  pub record Student : Type 0 where
+module _ (text : List ℕ) (from : ℕ) where
+  -- the number n was read
+  pub record Student (n : Number) : Type 0 where
     pub whole : ℕ
     pub value : n.value ≡ cap whole
     pub reads : scan (drop from text) start ≡ scan (drop n.end text) (number whole)
     pub over : n.end < length text → is_digit (get_or text n.end 0) ≡ false
 
-  student : n.right ≡ true → Student
-  student e = go (number_in (drop from text)) shown (student_reads (drop from text)) (number_ended (drop from text))
+  abbrev pub Started : Option Number → Type 0
+  Started None = scan (drop from text) start ≡ None
+  Started (Some n) = Student n
+
+  pub started : Started (shown from (number_in (drop from text)))
+  started = go (number_in (drop from text)) (student_reads (drop from text)) (number_ended (drop from text))
     where
-      go : (p : Option (ℕ × ℕ)) → Shown from p n → Reads start number (drop from text) p → Ended (drop from text) p → Student
-      go none h r o = never e h
-      go (some (x, k)) h r o =
+      go : (p : Option (ℕ × ℕ)) → Reads start number (drop from text) p → Ended (drop from text) p → Started (shown from p)
+      go None r o = r
+      go (Some (x, k)) r o =
           record {
             whole = x;
-            value = h.1;
-            reads = r.0 ∙ rw (drop-drop k from text, h.2);
-            over = λ l. over_at text n.end 1 l (rw h.2 (rw (drop-drop k from text) at o));
+            value = refl;
+            reads = r.0 ∙ rw (drop-drop k from text);
+            over = λ l. over_at text (from + k) 1 l (rw (drop-drop k from text) at o);
           }
 
-  no_student : n.right ≡ false → scan (drop from text) start ≡ none
-  no_student e = go (number_in (drop from text)) shown (student_reads (drop from text))
-    where
-      go : (p : Option (ℕ × ℕ)) → Shown from p n → Reads start number (drop from text) p → scan (drop from text) start ≡ none
-      go none h r = r
-      go (some (x, k)) h r = never h.0 e
+  module _ (n : Number) (S : Student n) where
+    pub no_colon : stands_at text n.end 58 ≡ false → scan (drop from text) start ≡ None
+    unfolding step
+    no_colon c =
+        S.reads
+        ∙ ⊎_elim
+        (λ (l : n.end < length text).
+        rw (first_at text n.end l) (scan_wrong _ _ (number S.whole) (rw (S.over l, rw (lt-ltb n.end (length text) l) at c))))
+        (λ (l : length text ≤ n.end). scan_past text n.end _ l)
+        (less? n.end (length text))
 
-  no_colon : n.right ≡ true → stands_at text n.end 58 ≡ false → scan (drop from text) start ≡ none
-  unfolding step
-  no_colon e c =
-      let S : Student = student e in
-      S.reads
-      ∙ ⊎_elim
-      (λ (l : n.end < length text).
-      rw (first_at text n.end l) (scan_wrong _ _ (number S.whole) (rw (S.over l, rw (lt-ltb n.end (length text) l) at c))))
-      (λ (l : length text ≤ n.end). scan_past text n.end _ l)
-      (less? n.end (length text))
+    -- at the colon
+    colon_on : stands_at text n.end 58 ≡ true → scan (drop from text) start ≡ scan (drop (n.end + 1) text) (colon S.whole)
+    unfolding step
+    colon_on c = S.reads ∙ rw (stands_first text n.end 58 c) (scan_on 58 _ (number S.whole) _ refl)
 
-  -- at the colon
-  colon_on : (e : n.right ≡ true) → stands_at text n.end 58 ≡ true → scan (drop from text) start ≡ scan (drop (n.end + 1) text) (colon (student e).whole)
-  unfolding step
-  colon_on e c = (student e).reads ∙ rw (stands_first text n.end 58 c) (scan_on 58 _ (number (student e).whole) _ refl)
+    pub no_blank : stands_at text n.end 58 ≡ true → stands_at text (n.end + 1) 32 ≡ false → scan (drop from text) start ≡ None
+    unfolding step
+    no_blank c d =
+        colon_on c
+        ∙ ⊎_elim
+        (λ (l : n.end + 1 < length text).
+        rw (first_at text (n.end + 1) l) (scan_wrong _ _ (colon S.whole) (rw (rw (lt-ltb (n.end + 1) (length text) l) at d))))
+        (λ (l : length text ≤ n.end + 1). scan_past text (n.end + 1) _ l)
+        (less? (n.end + 1) (length text))
 
-  no_blank : n.right ≡ true → stands_at text n.end 58 ≡ true → stands_at text (n.end + 1) 32 ≡ false → scan (drop from text) start ≡ none
-  unfolding step
-  no_blank e c d =
-      colon_on e c
-      ∙ ⊎_elim
-      (λ (l : n.end + 1 < length text).
-      rw (first_at text (n.end + 1) l) (scan_wrong _ _ (colon (student e).whole) (rw (rw (lt-ltb (n.end + 1) (length text) l) at d))))
-      (λ (l : length text ≤ n.end + 1). scan_past text (n.end + 1) _ l)
-      (less? (n.end + 1) (length text))
+    pub head_right : stands_at text n.end 58 ≡ true → stands_at text (n.end + 1) 32 ≡ true
+        → Headed text from (Some (record { value = n.value; end = n.end + 2 }))
+    unfolding step
+    head_right b c = (
+      S.whole,
+      S.value,
+      colon_on b ∙ (blank ∙ ap (λ k. scan (drop k text) (group S.whole [])) after),
+      omega (arith, stands_inside text (n.end + 1) 32 c),
+    )
+      where
+        blank : scan (drop (n.end + 1) text) (colon S.whole) ≡ scan (drop (n.end + 1 + 1) text) (group S.whole [])
+        blank = rw (stands_first text (n.end + 1) 32 c) (scan_on 32 _ (colon S.whole) _ refl)
 
-  head_none : (r : Number) → r.right ≡ false → scan (drop from text) start ≡ none → Headed text from r
-  head_none r e q = record { departs = λ d. q; goes = λ g. never g e }
+        after : n.end + 1 + 1 ≡ n.end + 2
+        after = omega arith
 
-  pub head_0 : (r : Number) → r.right ≡ false → n.right ≡ false → Headed text from r
-  head_0 r e a = head_none r e (no_student a)
-
-  pub head_1 : (r : Number) → r.right ≡ false → n.right ≡ true → stands_at text n.end 58 ≡ false → Headed text from r
-  head_1 r e a b = head_none r e (no_colon a b)
-
-  pub head_2 : (r : Number) → r.right ≡ false → n.right ≡ true → stands_at text n.end 58 ≡ true → stands_at text (n.end + 1) 32 ≡ false → Headed text from r
-  head_2 r e a b c = head_none r e (no_blank a b c)
-
-  pub head_right : (r : Number) → r.right ≡ true → r.value ≡ n.value → r.end ≡ n.end + 2
-      → n.right ≡ true → stands_at text n.end 58 ≡ true → stands_at text (n.end + 1) 32 ≡ true → Headed text from r
-  unfolding step
-  head_right r e v f a b c =
-      record {
-        departs = λ d. never e d;
-        goes = λ g. (
-          (student a).whole,
-          v ∙ (student a).value,
-          colon_on a b ∙ (blank ∙ ap (λ k. scan (drop k text) (group (student a).whole [])) after),
-          omega (arith, stands_inside text (n.end + 1) 32 c),
-        );
-      }
-    where
-      blank : scan (drop (n.end + 1) text) (colon (student a).whole) ≡ scan (drop (n.end + 1 + 1) text) (group (student a).whole [])
-      blank = rw (stands_first text (n.end + 1) 32 c) (scan_on 32 _ (colon (student a).whole) _ refl)
-
-      after : n.end + 1 + 1 ≡ r.end
-      after = omega arith
-
--- ---- the four ways of a turn
+-- ---- the ways of a turn
 
 module _ (text : List ℕ) (i : ℕ) where
-  inner_turned : (x : ℕ) × Turned text i true x (in_braces text i true (item_in (drop i text)))
+  inner_turned : Turned text i true (in_braces text true (shown i (item_in (drop i text))))
   inner_turned = braces_turned text i true i true (omega arith) (λ s gs xs o. refl) (λ xs o. lt-ltb 0 (length xs) o)
 
-  pub next_inner : (within : Bool) → within ≡ true → (x : ℕ) × Turned text i within x (in_braces text i true (item_in (drop i text)))
+  pub next_inner : (within : Bool) → within ≡ true → Turned text i within (in_braces text true (shown i (item_in (drop i text))))
   next_inner within e = rw e inner_turned
 
-  brace_turned : stands_at text i 123 ≡ true → (x : ℕ) × Turned text i false x (in_braces text (i + 1) false (item_in (drop (i + 1) text)))
+  brace_turned : stands_at text i 123 ≡ true → Turned text i false (in_braces text false (shown (i + 1) (item_in (drop (i + 1) text))))
   unfolding step
   brace_turned s =
       braces_turned text i false (i + 1) false (omega arith)
@@ -440,13 +387,9 @@ module _ (text : List ℕ) (i : ℕ) where
       (λ xs o. rw o)
 
   pub next_brace : (within : Bool) → within ≡ false → stands_at text i 123 ≡ true
-      → (x : ℕ) × Turned text i within x (in_braces text (i + 1) false (item_in (drop (i + 1) text)))
+      → Turned text i within (in_braces text false (shown (i + 1) (item_in (drop (i + 1) text))))
   next_brace within e s = rw e (brace_turned s)
 
-  pub next_alone : (within : Bool) → within ≡ false → stands_at text i 123 ≡ false → (n : Number) → Shown i (item_in (drop i text)) n → n.right ≡ true
-      → (x : ℕ) × Turned text i within x (behind_group text n.value n.end)
-  next_alone within e s n h r = rw e (alone_turned text i s n h r)
-
-  pub next_none : (within : Bool) → within ≡ false → stands_at text i 123 ≡ false → (n : Number) → Shown i (item_in (drop i text)) n → n.right ≡ false
-      → (x : ℕ) × Turned text i within x (made 0 0 0)
-  next_none within e s n h r = rw e (0, alone_departs text i s n h r)
+  pub next_alone : (within : Bool) → within ≡ false → stands_at text i 123 ≡ false
+      → Turned text i within (alone_turn text (shown i (item_in (drop i text))))
+  next_alone within e bare = rw e (alone_turned text i bare)

@@ -1,8 +1,10 @@
 -- What the code reads of a line, item by item, as the reader of `wish_lines` does byte by byte. Numbers are kept up to 1,000.
-use Rattle.std.specs.Prelude.{ℕ, suc, ◌+◌, ◌-◌, ◌≤◌, ◌<◌, min, ◌≡◌, Bool, true, false, cond, ◌&&◌, List, [], ◌∷◌, ◌++◌, eqb, ltb, length, drop, get_or}
-use Rattle.std.proofs.Math.Option.{Option, some, none}
+use Rattle.std.specs.Prelude.{ℕ, suc, ◌+◌, ◌-◌, ◌≤◌, ◌<◌, min, ◌≡◌, Bool, true, false, cond, ◌&&◌, eqb, ltb}
+use Rattle.std.specs.Prelude.{List, [], ◌∷◌, ◌++◌, length, drop, get_or, Option, Some, None}
 use Rattle.wish_lines.specs.Reading.{State, Parsed, scan, is_digit, is_first, with_digit, start, group, inside}
 use Rattle.line_reader.specs.declared.Number.{Number}
+use Rattle.line_reader.specs.declared.Next.{Next}
+use Rattle.line_reader.specs.declared.Next.TheVariants.{Item, Group, End}
 use Rattle.line_reader.specs.declared.Turn.{Turn}
 
 abbrev pub cap : ℕ → ℕ
@@ -30,41 +32,40 @@ extended x (b ∷ t) = cond (is_digit b) (extended (with_digit x b) t) x
 
 -- the number that the text begins with, and how many bytes it has
 abbrev pub number_in : List ℕ → Option (ℕ × ℕ)
-number_in [] = none
-number_in (b ∷ t) = cond (is_first b) (some (extended (b - 48) t, suc (digits_in t))) none
+number_in [] = None
+number_in (b ∷ t) = cond (is_first b) (Some (extended (b - 48) t, suc (digits_in t))) None
 
 -- the same of an item: 0 is none
 abbrev pub item_in : List ℕ → Option (ℕ × ℕ)
-item_in [] = none
-item_in (b ∷ t) = cond (eqb b 45) (some (0, 1)) (number_in (b ∷ t))
+item_in [] = None
+item_in (b ∷ t) = cond (eqb b 45) (Some (0, 1)) (number_in (b ∷ t))
 
 -- what the code makes of one that begins at place i
-abbrev pub Shown : ℕ → Option (ℕ × ℕ) → Number → Type 0
-Shown i none r = r.right ≡ false
-Shown i (some (x, n)) r = (r.right ≡ true) × (r.value ≡ cap x) × (r.end ≡ i + n)
+abbrev pub shown : ℕ → Option (ℕ × ℕ) → Option Number
+shown i None = None
+shown i (Some (x, n)) = Some (record { value = cap x; end = i + n })
 
 -- ---- The student's number, and the colon and the blank.
 
-pub record Headed (text : List ℕ) (from : ℕ) (r : Number) : Type 0 where
-  pub departs : r.right ≡ false → scan (drop from text) start ≡ none
-  pub goes : r.right ≡ true
-      → (s : ℕ) × (r.value ≡ cap s) × (scan (drop from text) start ≡ scan (drop r.end text) (group s [])) × (r.end ≤ length text)
+abbrev pub Headed : List ℕ → ℕ → Option Number → Type 0
+Headed text from None = scan (drop from text) start ≡ None
+Headed text from (Some r) =
+    (s : ℕ) × (r.value ≡ cap s) × (scan (drop from text) start ≡ scan (drop r.end text) (group s [])) × (r.end ≤ length text)
 
 -- ---- One item, with the braces and the comma or the line feed around it.
 
--- kind 0: the line departs; 1: an item of the same group follows; 2: a group follows; 3: the line has ended
-abbrev pub made : ℕ → ℕ → ℕ → Turn
-made k x e = record { kind = k; value = x; end = e }
+abbrev pub made : ℕ → Next → ℕ → Option Turn
+made x n e = Some (record { value = x; next = n; end = e })
 
-abbrev pub behind_group : List ℕ → ℕ → ℕ → Turn
-behind_group text x i = cond (stands_at text i 44) (made 2 x (i + 1)) (cond (stands_at text i 10) (made 3 x (i + 1)) (made 0 0 0))
+abbrev pub behind_group : List ℕ → ℕ → ℕ → Option Turn
+behind_group text x i = cond (stands_at text i 44) (made x Group (i + 1)) (cond (stands_at text i 10) (made x End (i + 1)) None)
 
 -- in braces the item has been read
-abbrev pub in_braces : List ℕ → ℕ → Bool → Option (ℕ × ℕ) → Turn
-in_braces text i more none = made 0 0 0
-in_braces text i more (some (x, n)) =
-    cond (stands_at text (i + n) 44) (made 1 (cap x) (i + n + 1))
-    (cond (more && stands_at text (i + n) 125) (behind_group text (cap x) (i + n + 1)) (made 0 0 0))
+abbrev pub in_braces : List ℕ → Bool → Option Number → Option Turn
+in_braces text more None = None
+in_braces text more (Some n) =
+    cond (stands_at text n.end 44) (made n.value Item (n.end + 1))
+    (cond (more && stands_at text n.end 125) (behind_group text n.value (n.end + 1)) None)
 
 -- before an item: in braces behind the items xs, or where a group must begin
 abbrev pub before : Bool → ℕ → List (List ℕ) → List ℕ → State
@@ -75,14 +76,19 @@ abbrev pub Open : Bool → List ℕ → Type 0
 Open true xs = 0 < length xs
 Open false xs = xs ≡ []
 
--- from the state whose line is read as p, the item x leads on as r says
-pub record Leads (text : List ℕ) (s : ℕ) (gs : List (List ℕ)) (xs : List ℕ) (x : ℕ) (p : Parsed) (r : Turn) : Type 0 where
-  pub departs : r.kind ≡ 0 → p ≡ none
-  pub item : r.kind ≡ 1 → p ≡ scan (drop r.end text) (inside s gs (xs ++ (x ∷ [])))
-  pub group : r.kind ≡ 2 → p ≡ scan (drop r.end text) (group s (gs ++ ((xs ++ (x ∷ [])) ∷ [])))
-  pub line : r.kind ≡ 3 → p ≡ some (record { student = s; groups = gs ++ ((xs ++ (x ∷ [])) ∷ []) }, drop r.end text)
+-- how the line is read on behind the group's items xs, by what follows them: the text goes on with t
+abbrev pub after : Next → List ℕ → ℕ → List (List ℕ) → List ℕ → Parsed
+after Item t s gs xs = scan t (inside s gs xs)
+after Group t s gs xs = scan t (group s (gs ++ (xs ∷ [])))
+after End t s gs xs = Some (record { student = s; groups = gs ++ (xs ∷ []) }, t)
 
-pub record Turned (text : List ℕ) (i : ℕ) (within : Bool) (x : ℕ) (r : Turn) : Type 0 where
-  pub kind : r.kind ≤ 3
-  pub shown : 0 < r.kind → (r.value ≡ cap x) × (i < r.end) × (r.end ≤ length text)
-  pub leads : (s : ℕ) (gs : List (List ℕ)) (xs : List ℕ) → Open within xs → Leads text s gs xs x (scan (drop i text) (before within s gs xs)) r
+-- every state before an item reads the text from place i on as p says
+abbrev pub Each : List ℕ → ℕ → Bool → (ℕ → List (List ℕ) → List ℕ → Parsed) → Type 0
+Each text i within p = (s : ℕ) (gs : List (List ℕ)) (xs : List ℕ) → Open within xs → scan (drop i text) (before within s gs xs) ≡ p s gs xs
+
+-- the line departs, or r is the item x, and says what follows
+abbrev pub Turned : List ℕ → ℕ → Bool → Option Turn → Type 0
+Turned text i within None = Each text i within (λ s gs xs. None)
+Turned text i within (Some r) =
+    (x : ℕ) × (r.value ≡ cap x) × (i < r.end) × (r.end ≤ length text)
+    × Each text i within (λ s gs xs. after r.next (drop r.end text) s gs (xs ++ (x ∷ [])))

@@ -1,7 +1,6 @@
 -- What is noted of the items that a line names, and what is found of its groups.
-use Rattle.std.specs.Prelude.{ℕ, ◌+◌, ◌≤◌, ◌<◌, ◌≡◌, ◌⊎◌, Bool, true, false, cond, ◌||◌, eqb, leb, length, drop, get_or, set}
+use Rattle.std.specs.Prelude.{ℕ, ◌+◌, ◌≤◌, ◌<◌, ◌≡◌, ◌⊎◌, true, false, cond, ◌||◌, eqb, leb, length, drop, get_or, set, Option, Some, None}
 use mathlib.Core.List.{List, [], flatten}
-use Rattle.std.proofs.Math.Option.{some, none}
 use Rattle.base.specs.Lists.{one, tally}
 use Rattle.base.specs.Bits.{member}
 use Rattle.wish_lines.specs.Lines.{position}
@@ -18,10 +17,6 @@ pub record Noted (m m' : Marks) (groups groups' : List ℕ) (x g : ℕ) : Type 0
   pub same : x ≡ 0 → m'.named ≡ m.named
   pub nones : m'.nones ≡ cap (m.nones + one (eqb x 0))
 
--- the number of the next item's group
-abbrev pub next_group : ℕ → Bool → ℕ
-next_group g within = cond within g (cap_group (g + 1))
-
 -- how often the groups name the item
 abbrev pub times_in : List (List ℕ) → ℕ → ℕ
 times_in gs x = tally (eqb x) (flatten gs)
@@ -35,11 +30,10 @@ pub record Marked (gs : List (List ℕ)) (m : Marks) (groups : List ℕ) : Type 
   pub position : m.stray ≡ false → (x : ℕ) → times_in gs x ≡ 1 → get_or groups x 0 ≡ cap_group (position gs x)
 
 -- the groups that begin at place `from`, behind the student's number
-pub record BodyRead (text : List ℕ) (from : ℕ) (r : Body) (groups : List ℕ) : Type 0 where
-  pub sized : length groups ≡ 65
-  pub departs : r.right ≡ false → (s : ℕ) → scan (drop from text) (group s []) ≡ none
-  pub line : r.right ≡ true
-      → (gs : List (List ℕ))
-      × ((s : ℕ) → scan (drop from text) (group s []) ≡ some (record { student = s; groups = gs }, drop r.end text))
-      × (r.end ≤ length text)
-      × Marked gs r.marks groups
+abbrev pub BodyRead : List ℕ → ℕ → Option Body → List ℕ → Type 0
+BodyRead text from None groups = (length groups ≡ 65) × ((s : ℕ) → scan (drop from text) (group s []) ≡ None)
+BodyRead text from (Some r) groups =
+    (gs : List (List ℕ))
+    × ((s : ℕ) → scan (drop from text) (group s []) ≡ Some (record { student = s; groups = gs }, drop r.end text))
+    × (r.end ≤ length text)
+    × Marked gs r.marks groups

@@ -1,71 +1,43 @@
 // One wish line of a text: its form, whose it is, what it names, and the number of the group that each item stands in.
 #![tactic(auto)]
 
-ghost use Rattle.std.specs.Prelude.{◌≡◌, cond, ℕ, ◌+◌, ◌-◌, ◌≤◌, ◌<◌, min, length, drop};
+ghost use Rattle.std.specs.Prelude.{◌≡◌, ◌+◌, ◌-◌, ◌≤◌, ◌<◌, length, drop};
 ghost use Rattle.format.specs.Engine.{market_in};
-ghost use Rattle.tables.specs.Table.{Tabled};
 ghost use Rattle.wish_lines.specs.Reading.{is_digit, is_first};
 ghost use Rattle.wish_lines.specs.Wishes.{Ranged};
-ghost use Rattle.line_reader.specs.Items.{cap, stands_at, digits_in, extended, number_in, item_in, Shown, Headed, made, behind_group, in_braces, Turned};
-ghost use Rattle.line_reader.specs.Marks.{Noted, next_group, BodyRead};
+ghost use Rattle.line_reader.specs.Items.{cap, stands_at, digits_in, extended, number_in, item_in, shown, Headed, behind_group, in_braces, Turned};
+ghost use Rattle.line_reader.specs.Marks.{Noted, BodyRead};
 ghost use Rattle.line_reader.specs.Checked.{LineChecked};
 
-// What is wrong with the line, 14, 15 or 0 for nothing; and then where the next line begins.
-#[derive(Clone, Copy)]
-pub struct LineFound {
-    pub fault: usize,
-    pub end: usize,
-}
+use api::Cause;
+use tables::Table;
 
 // ---- numbers and items
 
-// A number, up to 1,000, and where it ends; or `right` is false.
+// A number, up to 1,000, and where it ends.
 #[derive(Clone, Copy)]
-pub struct Number {
-    pub right: bool,
-    pub value: u64,
-    pub end: usize,
-}
-
-fn capped(x: u64) -> u64
-    ensures { result ≡ min x 1000 }
-{
-    if x < 1000 {
-        return x;
-    }
-    1000
-}
-
-// The value of a digit.
-fn value(b: u8) -> u64
-    ensures { (result ≡ b - 48) × (result < 256) }
-{
-    if b < 48 {
-        return 0;
-    }
-    (b - 48) as u64
+struct Number {
+    value: u64,
+    end: usize,
 }
 
 fn is_digit(b: u8) -> bool
     ensures { result ≡ is_digit b }
 {
-    (48 <= b) & (b <= 57)
+    matches!(b, b'0'..=b'9')
 }
 
 fn is_first(b: u8) -> bool
     ensures { result ≡ is_first b }
 {
-    (49 <= b) & (b <= 57)
+    matches!(b, b'1'..=b'9')
 }
 
 // The byte b stands at place i.
 fn stands(text: &[u8], i: usize, b: u8) -> bool
     ensures { result ≡ stands_at text.now i b }
 {
-    if i < text.len() {
-        return text[i] == b;
-    }
-    false
+    text.get(i) == Some(&b)
 }
 
 // The number x, and then the digits from place `from` on.
@@ -73,160 +45,134 @@ fn digits(text: &[u8], from: usize, x: u64) -> Number
     requires { (from ≤ length text.now) × (x ≤ 1000) }
     ensures { (result.value ≡ cap (extended x (drop from text.now))) × (result.end ≡ from + digits_in (drop from text.now)) }
 {
-    let mut v = x;
-    let mut i = from;
-    while i < text.len() {
-        let b = text[i];
-        if is_digit(b) {
-            v = capped(10 * v + value(b));
-            i += 1;
-        } else {
+    let mut value = x;
+    for (k, &b) in text[from..].iter().enumerate() {
+        if !is_digit(b) {
             return Number {
-                right: true,
-                value: v,
-                end: i,
+                value,
+                end: from + k,
             };
         }
+        value = (10 * value + u64::from(b - b'0')).min(1000);
     }
     Number {
-        right: true,
-        value: v,
-        end: i,
+        value,
+        end: text.len(),
     }
 }
 
 // The number that begins at place i.
-fn number_at(text: &[u8], i: usize) -> Number
-    ensures { Shown i (number_in (drop i text.now)) result }
+fn number_at(text: &[u8], i: usize) -> Option<Number>
+    ensures { result ≡ shown i (number_in (drop i text.now)) }
 {
-    if i < text.len() {
-        let b = text[i];
-        if is_first(b) {
-            let n = digits(text, i + 1, value(b));
-            return Number {
-                right: true,
-                value: n.value,
-                end: n.end,
-            };
-        }
+    let b = *text.get(i)?;
+    if !is_first(b) {
+        return None;
     }
-    Number {
-        right: false,
-        value: 0,
-        end: i,
-    }
+    Some(digits(text, i + 1, u64::from(b - b'0')))
 }
 
 // The item that begins at place i: 0 is none.
-fn item_at(text: &[u8], i: usize) -> Number
-    ensures { Shown i (item_in (drop i text.now)) result }
+fn item_at(text: &[u8], i: usize) -> Option<Number>
+    ensures { result ≡ shown i (item_in (drop i text.now)) }
 {
-    if stands(text, i, 45) {
-        return Number {
-            right: true,
+    if stands(text, i, b'-') {
+        return Some(Number {
             value: 0,
             end: i + 1,
-        };
+        });
     }
     number_at(text, i)
 }
 
 // The student's number, the colon and the blank.
-fn head(text: &[u8], from: usize) -> Number
+fn head(text: &[u8], from: usize) -> Option<Number>
     ensures { Headed text.now from result }
 {
-    let n = number_at(text, from);
-    let end = n.end;
-    if n.right {
-        if stands(text, end, 58) {
-            if stands(text, end + 1, 32) {
-                return Number {
-                    right: true,
-                    value: n.value,
-                    end: end + 2,
-                };
-            }
-        }
+    let Number { value, end } = number_at(text, from)?;
+    if stands(text, end, b':') && stands(text, end + 1, b' ') {
+        return Some(Number {
+            value,
+            end: end + 2,
+        });
     }
-    Number {
-        right: false,
-        value: 0,
-        end: from,
-    }
+    None
 }
 
 // ---- one item, with the braces and the comma or the line feed around it
 
-// Kind 0: the line departs; 1: an item of the same group follows; 2: a group follows; 3: the line has ended.
+// What follows an item: one of the same group, a group, or the line's end.
 #[derive(Clone, Copy)]
-pub struct Turn {
-    pub kind: u64,
-    pub value: u64,
-    pub end: usize,
+enum Next {
+    Item,
+    Group,
+    End,
 }
 
-fn make_turn(kind: u64, value: u64, end: usize) -> Turn
-    ensures { result ≡ made kind value end }
-{
-    Turn { kind, value, end }
+#[derive(Clone, Copy)]
+struct Turn {
+    value: u64,
+    next: Next,
+    end: usize,
 }
 
 // Behind a group, whose last item is x.
-fn behind_group(text: &[u8], x: u64, i: usize) -> Turn
+fn behind_group(text: &[u8], x: u64, i: usize) -> Option<Turn>
     ensures { result ≡ behind_group text.now x i }
 {
-    if stands(text, i, 44) {
-        return make_turn(2, x, i + 1);
-    }
-    if stands(text, i, 10) {
-        return make_turn(3, x, i + 1);
-    }
-    make_turn(0, 0, 0)
+    let next = match text.get(i) {
+        Some(b',') => Next::Group,
+        Some(b'\n') => Next::End,
+        _ => return None,
+    };
+    Some(Turn {
+        value: x,
+        next,
+        end: i + 1,
+    })
 }
 
 // In braces, where an item must begin: `more` where one stands before it.
-fn in_braces(text: &[u8], i: usize, more: bool) -> Turn
-    ensures { result ≡ in_braces text.now i more (item_in (drop i text.now)) }
+fn in_braces(text: &[u8], i: usize, more: bool) -> Option<Turn>
+    ensures { result ≡ in_braces text.now more (shown i (item_in (drop i text.now))) }
 {
-    let x = item_at(text, i);
-    let end = x.end;
-    if x.right {
-        if stands(text, end, 44) {
-            return make_turn(1, x.value, end + 1);
-        }
-        if more & stands(text, end, 125) {
-            return behind_group(text, x.value, end + 1);
-        }
-        return make_turn(0, 0, 0);
+    let Number { value, end } = item_at(text, i)?;
+    if stands(text, end, b',') {
+        return Some(Turn {
+            value,
+            next: Next::Item,
+            end: end + 1,
+        });
     }
-    make_turn(0, 0, 0)
+    if more && stands(text, end, b'}') {
+        return behind_group(text, value, end + 1);
+    }
+    None
 }
 
 // Where an item must begin: `within` braces behind another, or in a new group.
-fn next_item(text: &[u8], i: usize, within: bool) -> Turn
-    ensures { (x : ℕ) × Turned text.now i within x result }
+fn next_item(text: &[u8], i: usize, within: bool) -> Option<Turn>
+    ensures { Turned text.now i within result }
 {
     if within {
         return in_braces(text, i, true);
     }
-    if stands(text, i, 123) {
+    if stands(text, i, b'{') {
         return in_braces(text, i + 1, false);
     }
-    let x = item_at(text, i);
-    if x.right {
-        return behind_group(text, x.value, x.end);
-    }
-    make_turn(0, 0, 0)
+    let Number { value, end } = item_at(text, i)?;
+    behind_group(text, value, end)
 }
 
 // ---- what is named
 
 // The set of the workshops named, whether a number is twice there or above 64, and how often none is named.
 #[derive(Clone, Copy)]
-pub struct Marks {
-    pub named: u64,
-    pub stray: bool,
-    pub nones: u64,
+struct Marks {
+    named: u64,
+    // A flag and no error: the line is read to its end, since 14 goes before 15.
+    stray: bool,
+    nones: u64,
 }
 
 // Item x of group g.
@@ -234,60 +180,37 @@ fn note(groups: &mut [u8], m: Marks, x: u64, g: u8) -> Marks
     requires { (length groups.old ≡ 65) × (m.nones ≤ 1000) }
     ensures { Noted m result groups.old groups.new x g }
 {
-    let named = m.named;
-    let stray = m.stray;
-    let nones = m.nones;
-    if 64 < x {
-        return Marks {
-            named,
-            stray: true,
-            nones,
-        };
+    if x > 64 {
+        return Marks { stray: true, ..m };
     }
     let w = x as usize;
     groups[w] = g;
-    if w < 1 {
+    if w == 0 {
         return Marks {
-            named,
-            stray,
-            nones: capped(nones + 1),
+            nones: (m.nones + 1).min(1000),
+            ..m
         };
     }
     Marks {
-        named: bits::with_bit(named, w),
-        stray: stray | bits::has_bit(named, w),
-        nones,
+        named: bits::with_bit(m.named, w),
+        stray: m.stray || bits::has_bit(m.named, w),
+        ..m
     }
 }
 
-// The number of the next item's group.
-fn next_group(g: u8, within: bool) -> u8
-    requires { g ≤ 200 }
-    ensures { result ≡ next_group g within }
-{
-    if within {
-        return g;
-    }
-    if g < 200 {
-        return g + 1;
-    }
-    200
-}
-
-// Where the groups end, and what they name; or `right` is false.
+// What the groups of a line name, and where they end.
 #[derive(Clone, Copy)]
-pub struct Body {
-    pub right: bool,
-    pub end: usize,
-    pub marks: Marks,
+struct Body {
+    marks: Marks,
+    end: usize,
 }
 
 // The groups of a line, which begin at place `from`.
-fn read_groups(text: &[u8], from: usize, groups: &mut [u8]) -> Body
+fn read_groups(text: &[u8], from: usize, groups: &mut [u8]) -> Option<Body>
     requires { (from ≤ length text.now) × (length groups.old ≡ 65) }
     ensures { BodyRead text.now from result groups.new }
 {
-    let mut m = Marks {
+    let mut marks = Marks {
         named: 0,
         stray: false,
         nones: 0,
@@ -295,78 +218,49 @@ fn read_groups(text: &[u8], from: usize, groups: &mut [u8]) -> Body
     let mut g: u8 = 1;
     let mut within = false;
     let mut i = from;
-    while i < text.len() {
-        let t = next_item(text, i, within);
-        if t.kind < 1 {
-            return Body {
-                right: false,
-                end: i,
-                marks: m,
-            };
+    // No range counts this loop: an item ends where its text ends.
+    while let Some(turn) = next_item(text, i, within) {
+        marks = note(groups, marks, turn.value, g);
+        i = turn.end;
+        match turn.next {
+            Next::Item => within = true,
+            Next::Group => {
+                within = false;
+                g = (g + 1).min(200);
+            }
+            Next::End => return Some(Body { marks, end: i }),
         }
-        m = note(groups, m, t.value, g);
-        i = t.end;
-        if 2 < t.kind {
-            return Body {
-                right: true,
-                end: i,
-                marks: m,
-            };
-        }
-        within = t.kind < 2;
-        g = next_group(g, within);
     }
-    Body {
-        right: false,
-        end: i,
-        marks: m,
-    }
+    None
 }
 
 // ---- the line
 
-// 14 goes before 15.
-fn fault_of(form: bool, names: bool) -> usize
-    ensures { result ≡ cond form (cond names 0 15) 14 }
-{
-    if form {
-        if names {
-            return 0;
-        }
-        return 15;
-    }
-    14
-}
-
-// The line that begins at `from`, which is to be that of student k + 1. An item's group is noted in `groups`: that of none first, then the workshops'.
+// The line that begins at `from`, which is to be that of student k + 1: where it ends. It is refused for its form, or for what it names. An item's group is
+// noted in `groups`: that of none first, then the workshops'.
 pub fn check_line(
-    case: &[u8],
-    table: &[u64],
+    table: &Table<'_>,
     text: &[u8],
     from: usize,
     k: usize,
     groups: &mut [u8],
-) -> LineFound
-    requires tabled { Tabled case.now table.now }
-    requires ranged { Ranged (market_in case.now) }
+) -> Result<usize, Cause>
+    requires ranged { Ranged (market_in table.now.case.now) }
     requires k_bound { (k < 512) × (from ≤ length text.now) }
     requires groups_len { length groups.old ≡ 65 }
-    ensures { LineChecked (market_in case.now) text.now from k result groups.new }
+    ensures { LineChecked (market_in table.now.case.now) text.now from k result groups.new }
 {
-    let h = head(text, from);
-    let at = h.end;
-    if h.right {
-        let b = read_groups(text, at, groups);
-        let m = b.marks;
-        let form = (b.right & (m.nones == 1)) & (h.value == k as u64 + 1);
-        let names = !m.stray & (m.named == tables::set_of(case, table, k + 1));
-        return LineFound {
-            fault: fault_of(form, names),
-            end: b.end,
-        };
+    let head = head(text, from).ok_or(Cause::LineForm)?;
+    let body = read_groups(text, head.end, groups).ok_or(Cause::LineForm)?;
+    let marks = body.marks;
+    let own = table.set_of(k + 1);
+    let form = marks.nones == 1 && head.value == k as u64 + 1;
+    let names = !marks.stray && marks.named == own;
+    if !form {
+        return Err(Cause::LineForm);
     }
-    LineFound {
-        fault: 14,
-        end: from,
+    if !names {
+        return Err(Cause::LineNames);
     }
+    Ok(body.end)
 }

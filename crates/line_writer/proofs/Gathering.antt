@@ -4,7 +4,7 @@ use mathlib.Core.Path.{◌≡◌, refl, sym, ap, ◌∙◌}
 use mathlib.Core.Logic.{⊎_elim}
 use mathlib.Core.Bool.{Bool, true, false, ◌&&◌, ◌||◌}
 use mathlib.Core.List.{List}
-use mathlib.Core.Option.{none}
+use Rattle.std.specs.Prelude.{None}
 use native.Mathlib.Omega.{arith}
 use native.Mathlib.Nat.{le-max_left, le-max_right}
 use borrow.Author.Tests.{eq-eqb, ne_eqb, eqb-true}
@@ -102,7 +102,7 @@ pub above_set : (sets : List ℕ) (last tier v : ℕ) → EmptyAbove last sets �
 above_set sets last tier v E =
     record { zero = λ t l. get_or-set_other sets tier t v 0 (λ e. omega (arith, le-max_right last tier)) ∙ (above_larger sets last tier E).zero t l }
 
-module _ (case : List ℕ) (e : case_refusal case ≡ none) (s first many : ℕ) (S : Stretch case s first many) where
+module _ (case : List ℕ) (e : case_refusal case ≡ None) (s first many : ℕ) (S : Stretch case s first many) where
   sound : CleanCase case (market_in case).students (market_in case).workshops
   sound = none_clean case e
 
@@ -148,3 +148,49 @@ module _ (case : List ℕ) (e : case_refusal case ≡ none) (s first many : ℕ)
 
   pub gathered : (sets : List ℕ) → Gathering case first many sets → Gathered (market_in case) s sets
   gathered sets I = record { sized = I.sized; set = λ t w. I.set t w ∙ all_of t w }
+
+-- the workshops of the student's records before `next` are in the sets; `stop` is behind her last
+pub record GatheringTo (case : List ℕ) (s next stop : ℕ) (sets : List ℕ) : Type 0 where
+  pub first : ℕ
+  pub stretch : Stretch case s first (stop - first)
+  pub order : (first ≤ next) × (next ≤ stop)
+  pub gathering : Gathering case first (next - first) sets
+
+pub to_none : (case : List ℕ) (s first stop : ℕ) (sets : List ℕ) → Stretch case s first (stop - first) → first ≤ stop → Empty sets
+    → GatheringTo case s first stop sets
+to_none case s first stop sets S l e =
+    let none : 0 ≡ first - first = omega arith in
+    record { first = first; stretch = S; order = (omega arith, l); gathering = rw none at (gathering_none case first sets e) }
+
+module _ (case : List ℕ) (e : case_refusal case ≡ None) (s next stop : ℕ) (sets : List ℕ) (I : GatheringTo case s next stop sets) where
+  here : I.first + (next - I.first) ≡ next
+  here = omega (arith, I.order)
+
+  pub next_tier : next < stop → (row_at case next).third < 66
+  next_tier l = rw here at (tier_small case e s I.first (stop - I.first) I.stretch (next - I.first) (omega (arith, I.order)))
+
+  pub next_workshop : (table : List ℕ) → Tabled case table → next < stop → (1 ≤ (row_at case next).second) × ((row_at case next).second ≤ 64)
+  next_workshop table T l = rw here at (workshop_named case e s I.first (stop - I.first) I.stretch table T (next - I.first) (omega (arith, I.order)))
+
+  pub to_more : (next' stop' tier w v : ℕ)
+      → next < stop
+      → next' ≡ next + 1
+      → stop' ≡ stop
+      → w ≡ (row_at case next).second
+      → tier ≡ (row_at case next).third
+      → ((x : ℕ) → member v x ≡ (eqb x w || member (get_or sets tier 0) x))
+      → GatheringTo case s next' stop' (set sets tier v)
+  to_more next' stop' tier w v l n m p q f =
+      let more : next - I.first + 1 ≡ next' - I.first = omega (arith, I.order) in
+      record {
+        first = I.first;
+        stretch = rw m I.stretch;
+        order = omega (arith, I.order);
+        gathering = rw more at
+            (gathering_more case I.first sets (next - I.first) tier w v I.gathering (rw here p) (rw here q) (omega (arith, next_tier l)) f);
+      }
+
+  pub to_all : stop - next ≡ 0 → Gathered (market_in case) s sets
+  to_all l =
+      let whole : next - I.first ≡ stop - I.first = omega (arith, I.order) in
+      gathered case e s I.first (stop - I.first) I.stretch sets (rw whole at I.gathering)

@@ -4,7 +4,7 @@ use mathlib.Core.Path.{◌≡◌, refl, sym, ap, ◌∙◌}
 use mathlib.Core.Logic.{⊎_elim}
 use mathlib.Core.Bool.{Bool, true, false, ◌&&◌}
 use mathlib.Core.List.{List, [], ◌∷◌, ◌++◌, map, flat_map, append_assoc, append-nil}
-use mathlib.Core.Option.{none}
+use Rattle.std.specs.Prelude.{None}
 use native.Mathlib.Omega.{arith}
 use native.Mathlib.Nat.{eq-or-lt_of_le}
 use native.Mathlib.Numerals.{add-one}
@@ -70,8 +70,8 @@ module _ (M : Market) (R : Ranged M) (s : ℕ) (sets : List ℕ) (G : Gathered M
     where
       beyond : (x : ℕ) → M.workshops < x → of_tier t x ≡ false
       beyond x l =
-          let none : M.paired s x ≡ false = is_false (M.paired s x) (λ p. omega (arith, (R.workshop s x p).1)) in
-          rw none
+          let unpaired : M.paired s x ≡ false = is_false (M.paired s x) (λ p. omega (arith, (R.workshop s x p).1)) in
+          rw unpaired
 
       option : (x : ℕ) → 0 < x → x ≤ M.workshops → of_tier t x ≡ (outside_or (M.paired s) x && eqb (M.student_tier s x) t)
       option zero a b = absurd (omega arith)
@@ -89,7 +89,8 @@ module _ (M : Market) (R : Ranged M) (s : ℕ) (sets : List ℕ) (G : Gathered M
   groups_same (suc k) t = rw (tier_items t, groups_same k (suc t))
 
   -- the parts of her line
-  line_parts : ((decimal s ++ (58 ∷ []) ++ (32 ∷ [])) ++ joined (map group_text (groups_of sets (student_outside M s) 65 1))) ++ (10 ∷ []) ≡ line_text (line_of M s)
+  line_parts : ((decimal s ++ (58 ∷ []) ++ (32 ∷ [])) ++ joined (map group_text (groups_of sets (student_outside M s) 65 1))) ++ (10 ∷ [])
+      ≡ line_text (line_of M s)
   unfolding line_text line_of
   line_parts = rw (append_assoc (decimal s) (58 ∷ []) (32 ∷ []), groups_same 65 1)
 
@@ -110,16 +111,13 @@ module _ (case : List ℕ) where
 
 -- ---- a case in which causes 1 to 5 and 13 find nothing
 
-module _ (case : List ℕ) (e : case_refusal case ≡ none) where
+module _ (case : List ℕ) (e : case_refusal case ≡ None) where
   in_range : Ranged (market_in case)
   in_range = ranged case (table_none (case_causes case) e)
 
   module _ (s : ℕ) (one : 1 ≤ s) (last : s ≤ (market_in case).students) where
     pub student_inside : s - 1 < row_count case
     student_inside = (student_row case (table_none (case_causes case) e) s one last).0
-
-    pub few_students_lem : s < 1000
-    few_students_lem = omega (arith, in_range.students)
 
     outside_tier : (row_at case (s - 1)).third ≡ student_outside (market_in case) s
     outside_tier = sym (student_outside_at case (case_clean case (table_none (case_causes case) e)) s one last)

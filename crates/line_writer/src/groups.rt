@@ -1,12 +1,12 @@
-// Numbers, items and groups of a line.
+// Items and groups of a line.
 ghost use Rattle.std.specs.Prelude.{◌≡◌, cond, [], ◌∷◌, map, ◌+◌, ◌≤◌, ◌<◌, length};
 ghost use Rattle.base.specs.Bits.{members};
-ghost use Rattle.format.specs.Printed.{decimal};
 ghost use Rattle.putting.specs.Put.{Put};
 ghost use Rattle.wish_lines.specs.Lines.{item_text, joined, group_text};
 ghost use Rattle.line_writer.specs.Groups.{left, items_of, groups_of, EmptyAbove};
 
-use putting::put_byte;
+use bits::Members;
+use putting::{put_byte, put_decimal};
 
 // The byte, or nothing.
 fn put_if(text: &mut [u8], at: usize, yes: bool, b: u8) -> usize
@@ -16,30 +16,6 @@ fn put_if(text: &mut [u8], at: usize, yes: bool, b: u8) -> usize
     if yes { put_byte(text, at, b) } else { at }
 }
 
-fn put_digit(text: &mut [u8], at: usize, d: usize) -> usize
-    requires { (at ≤ length text.old) × (d < 10) }
-    ensures { Put ((48 + d) ∷ []) at text.old text.new result }
-{
-    put_byte(text, at, b'0' + d as u8)
-}
-
-// A number of at most three digits.
-pub fn put_number(text: &mut [u8], at: usize, n: usize) -> usize
-    requires { (at ≤ length text.old) × (n < 1000) }
-    ensures { Put (decimal n) at text.old text.new result }
-{
-    if n < 10 {
-        return put_digit(text, at, n);
-    }
-    if n < 100 {
-        let end = put_digit(&mut *text, at, n / 10);
-        return put_digit(text, end, n % 10);
-    }
-    let end = put_digit(&mut *text, at, n / 100);
-    let end = put_digit(&mut *text, end, n / 10 % 10);
-    put_digit(text, end, n % 10)
-}
-
 // The members of a set with a comma between each two, and one first where something stands before them.
 fn put_members(text: &mut [u8], at: usize, after: bool, set: u64) -> usize
     requires { at ≤ length text.old }
@@ -47,40 +23,47 @@ fn put_members(text: &mut [u8], at: usize, after: bool, set: u64) -> usize
 {
     let mut end = at;
     let mut comma = after;
-    let mut rest = set;
-    while rest > 0 {
+    for w in Members(set) {
         end = put_if(&mut *text, end, comma, b',');
-        end = put_number(&mut *text, end, bits::lowest(rest));
-        rest = bits::without_lowest(rest);
+        end = put_decimal(&mut *text, end, w);
         comma = true;
     }
     end
 }
 
-// The items of a group: none where it is one of them, and the members of the set.
-fn put_items(text: &mut [u8], at: usize, outside: bool, set: u64) -> usize
-    requires { at ≤ length text.old }
-    ensures { Put (joined (map item_text (items_of outside set))) at text.old text.new result }
-{
-    let end = put_if(&mut *text, at, outside, b'-');
-    put_members(text, end, outside, set)
+// A group: whether none is one of its items, and the set of its workshops.
+#[derive(Clone, Copy)]
+struct Group {
+    outside: bool,
+    set: u64,
 }
 
-// How many items the group has.
-fn size_of(outside: bool, set: u64) -> usize
-    ensures { result ≡ length (items_of outside set) }
+impl Group {
+    // How many items it has.
+    fn size(self) -> usize
+        ensures { result ≡ length (items_of self.outside self.set) }
+    {
+        usize::from(self.outside) + bits::count(self.set) as usize
+    }
+}
+
+// The items of a group: none where it is one of them, and the members of the set.
+fn put_items(text: &mut [u8], at: usize, group: Group) -> usize
+    requires { at ≤ length text.old }
+    ensures { Put (joined (map item_text (items_of group.outside group.set))) at text.old text.new result }
 {
-    records::one_if(outside) + bits::count(set) as usize
+    let end = put_if(&mut *text, at, group.outside, b'-');
+    put_members(text, end, group.outside, group.set)
 }
 
 // A group, with braces around two or more items.
-fn put_group(text: &mut [u8], at: usize, outside: bool, set: u64) -> usize
+fn put_group(text: &mut [u8], at: usize, group: Group) -> usize
     requires { at ≤ length text.old }
-    ensures { Put (group_text (items_of outside set)) at text.old text.new result }
+    ensures { Put (group_text (items_of group.outside group.set)) at text.old text.new result }
 {
-    let braces = 1 < size_of(outside, set);
+    let braces = 1 < group.size();
     let end = put_if(&mut *text, at, braces, b'{');
-    let end = put_items(&mut *text, end, outside, set);
+    let end = put_items(&mut *text, end, group);
     put_if(text, end, braces, b'}')
 }
 
@@ -92,15 +75,17 @@ pub fn put_groups(text: &mut [u8], at: usize, sets: &[u64], outside: usize, last
 {
     let mut end = at;
     let mut comma = false;
-    let mut t = 1;
-    while t <= last {
-        let set = sets[t];
-        let here = outside == t;
-        let some = 0 < size_of(here, set);
-        end = put_if(&mut *text, end, comma & some, b',');
-        end = put_group(&mut *text, end, here, set);
-        comma = comma | some;
-        t += 1;
+    for t in 1..=last {
+        let group = Group {
+            outside: outside == t,
+            set: sets[t],
+        };
+        if group.size() == 0 {
+            continue;
+        }
+        end = put_if(&mut *text, end, comma, b',');
+        end = put_group(&mut *text, end, group);
+        comma = true;
     }
     end
 }

@@ -1,33 +1,31 @@
 // The wish lines of a case, put into lent bytes.
 #![tactic(auto)]
 
-ghost use Rattle.std.specs.Prelude.{◌≡◌, ◌+◌, ◌*◌, ◌≤◌, length};
-ghost use Rattle.std.proofs.Math.Option.{none};
+ghost use Rattle.std.specs.Prelude.{◌≡◌, ◌+◌, ◌*◌, ◌≤◌, length, None};
 ghost use Rattle.format.specs.Engine.{market_in};
 ghost use Rattle.format.specs.Buffers.{with_head};
-ghost use Rattle.tables.specs.Table.{Tabled};
 ghost use Rattle.case_tests.specs.Checked.{case_refusal, pair_count};
 ghost use Rattle.putting.specs.Put.{Put};
 ghost use Rattle.wish_lines.specs.Lines.{line_text};
 ghost use Rattle.wish_lines.specs.Wishes.{line_of, wish_text};
 
-use putting::put_byte;
+use putting::{put_byte, put_decimal};
+use tables::Table;
 
 mod groups;
 mod sets;
 
 // The line of student s.
-fn put_line(case: &[u8], table: &[u64], s: usize, text: &mut [u8], at: usize) -> usize
-    requires case_value { case_refusal case.now ≡ none }
-    requires tabled { Tabled case.now table.now }
-    requires le_s { ((1 ≤ s) × (s ≤ (market_in case.now).students)) × (at ≤ length text.old) }
-    ensures { Put (line_text (line_of (market_in case.now) s)) at text.old text.new result }
+fn put_line(table: &Table<'_>, s: usize, text: &mut [u8], at: usize) -> usize
+    requires case_value { case_refusal table.now.case.now ≡ None }
+    requires le_s { ((1 ≤ s) × (s ≤ (market_in table.now.case.now).students)) × (at ≤ length text.old) }
+    ensures { Put (line_text (line_of (market_in table.now.case.now) s)) at text.old text.new result }
 {
     let mut sets = [0u64; 66];
-    let last = sets::gather(case, table, s, &mut sets);
-    let outside = records::third_at(case, s - 1) as usize;
-    let last = sets::larger(last, outside);
-    let end = groups::put_number(&mut *text, at, s);
+    let last = sets::gather(table, s, &mut sets);
+    let outside = usize::from(records::row_at(table.case, s - 1).third);
+    let last = last.max(outside);
+    let end = put_decimal(&mut *text, at, s);
     let end = put_byte(&mut *text, end, b':');
     let end = put_byte(&mut *text, end, b' ');
     let end = groups::put_groups(&mut *text, end, &sets, outside, last);
@@ -35,19 +33,16 @@ fn put_line(case: &[u8], table: &[u64], s: usize, text: &mut [u8], at: usize) ->
 }
 
 // The lines of a case in which causes 1 to 5 and 13 find nothing, into a buffer with room for them. The text's length.
-pub fn put_lines(case: &[u8], table: &[u64], students: usize, text: &mut [u8]) -> usize
-    requires case_value { case_refusal case.now ≡ none }
-    requires tabled { Tabled case.now table.now }
-    requires students_value { students ≡ (market_in case.now).students }
-    requires case_in_bounds { 8 * students + 4 * pair_count case.now ≤ length text.old }
-    ensures value { result ≡ length (wish_text (market_in case.now)) }
-    ensures text_after { text.new ≡ with_head (wish_text (market_in case.now)) text.old }
+pub fn put_lines(table: &Table<'_>, students: usize, text: &mut [u8]) -> usize
+    requires case_value { case_refusal table.now.case.now ≡ None }
+    requires students_value { students ≡ (market_in table.now.case.now).students }
+    requires case_in_bounds { 8 * students + 4 * pair_count table.now.case.now ≤ length text.old }
+    ensures value { result ≡ length (wish_text (market_in table.now.case.now)) }
+    ensures text_after { text.new ≡ with_head (wish_text (market_in table.now.case.now)) text.old }
 {
     let mut end = 0;
-    let mut s = 0;
-    while s < students {
-        end = put_line(case, table, s + 1, &mut *text, end);
-        s += 1;
+    for s in 1..=students {
+        end = put_line(table, s, &mut *text, end);
     }
     end
 }

@@ -1,6 +1,6 @@
 -- What the run's code needs of a case, a book, an index of the pairs and the table of the case.
 -- It is true where no cause refuses them (answering/proofs/Cleaning.antt).
-use Rattle.std.specs.Prelude.{ℕ, ◌+◌, ◌-◌, ◌≤◌, ◌<◌, ◌≡◌, true, false, List, length, get_or}
+use Rattle.std.specs.Prelude.{ℕ, zero, suc, Option, Some, None, ◌+◌, ◌-◌, ◌≤◌, ◌<◌, ◌≡◌, true, false, List, length, get_or}
 use Rattle.lgs.specs.Market.{student_outside, workshop_outside}
 use Rattle.format.specs.Layout.{row_at, row_count, entry_at, entry_count, ends_in_never}
 use Rattle.format.specs.Engine.{market_in, results_in}
@@ -32,6 +32,11 @@ pub record PairAt (case : List ℕ) (s w : ℕ) : Type 0 where
 -- what the index has for the pair: the number of its book record plus 1, or 0; with n students and m workshops, entry 0 is that of record n + m
 abbrev pub index_at : List ℕ → List ℕ → ℕ → ℕ → ℕ → ℕ → ℕ
 index_at case index n m s w = get_or index (pair_place case s w - (n + m)) 0
+
+-- the number of the book record, from what the index has
+abbrev pub entry_in : ℕ → Option ℕ
+entry_in zero = None
+entry_in (suc e) = Some e
 
 -- book record e - 1 is that of the interview
 pub record EntryAt (book : List ℕ) (s w e : ℕ) : Type 0 where

@@ -7,7 +7,8 @@ use api::StudentState;
 // Where a run stands: the student in hand, or 0 when it is over; the last student taken in the order of stages; the workshop that has just
 // dropped the student in hand, or 0; the number of interviews held; the student and the workshop of the interview that is missing, or 0; what the
 // interviews held have cost.
-#[derive(Clone, Copy)]
+// 0 is nobody and none, and no Option: `turn_of`, `next_run` and `after_round` (specs/Turn) read these as numbers.
+#[derive(Clone, Copy, Default)]
 pub struct Run {
     pub hand: usize,
     pub last: usize,

@@ -7,12 +7,17 @@ use native.Mathlib.Omega.{arith}
 use native.Mathlib.Nat.{div-lt_iff_lt-mul, zero-lt-suc, pow-suc}
 use borrow.Author.Tests.{lt-ltb, le-ltb}
 use lib.ListN.{length, get_or, take, length-append}
+use Rattle.std.specs.Prelude.{Result, Ok, Err}
 use Rattle.base.proofs.Tests.{less?}
-use Rattle.format.specs.Printed.{digits_within, decimal, numbers, line_of, place_lines, visit_lines, visits_text}
+use Rattle.format.specs.Printed.{Whole, digits_within, decimal, numbers, line_of, place_lines, visit_lines, visits_text}
 use Rattle.format.specs.Printed.{place_word, visit_word, visits_word, fares_word, next_word, refused_word}
 use Rattle.api.specs.Text.{interviews_at, text_of}
 use Rattle.api.specs.declared.Answer.{Answer}
-use Rattle.api.specs.declared.Answer.TheVariants.{Placed, Next, Refused}
+use Rattle.api.specs.declared.Answer.TheVariants.{Placed, Next}
+use Rattle.api.specs.declared.Refusal.{Refusal}
+use Rattle.api.specs.Causes.{number_of}
+use Rattle.putting.specs.Put.{Put}
+use Rattle.putting.proofs.Laws.{put_whole}
 use Rattle.printing.specs.Text.{TextFits}
 use Rattle.printing.proofs.Lines.{places_on, places_none, visits_on, visits_none, visits_text_lem}
 
@@ -59,8 +64,14 @@ line_two_length w a b =
       length-append (decimal b) (10 ∷ []),
     )
 
-pub long_line : (w : List ℕ) (a b : ℕ) → a < 2 ^ 64 → b < 2 ^ 64 → length (line_of w (a ∷ b ∷ [])) ≤ length w + 43
-long_line w a b h k = omega (arith, line_two_length w a b, number_length a (omega arith), number_length b (omega arith))
+numbers_length : (ns : List ℕ) → ((j : ℕ) → get_or ns j 0 < 2 ^ 64) → length (numbers ns) ≤ 21 * length ns + 1
+unfolding numbers
+numbers_length [] h = omega arith
+numbers_length (n ∷ ns) h =
+    omega (arith, length-append (decimal n) (numbers ns), number_length n (omega (arith, h 0)), numbers_length ns (λ j. h (suc j)))
+
+pub long_line : (w ns : List ℕ) → ((j : ℕ) → get_or ns j 0 < 2 ^ 64) → length (line_of w ns) ≤ length w + 21 * length ns + 1
+long_line w ns h = omega (arith, length-append w (numbers ns), numbers_length ns h)
 
 -- the lines of places: "place" and two spaces, at most 20 digits for the student and 5 for the workshop, and a line feed
 places_length_lem : (l : List ℕ) (i : ℕ) → ((j : ℕ) → get_or l j 0 < 65536) → length l < 2 ^ 64 → i ≤ length l → length (place_lines 1 (take i l)) ≤ 33 * i
@@ -95,7 +106,7 @@ fares_length : (fares : ℕ) → fares < 2 ^ 32 → length (line_of fares_word (
 fares_length fares h = omega (arith, line_one_length fares_word fares, decimal_length 10 fares (omega arith) (omega arith))
 
 -- the line with the count, at most 28 bytes, the lines of visits, and the line with the fares
-visits_length_lem : (l : List ℕ) (count fares : ℕ)
+pub visits_length_lem : (l : List ℕ) (count fares : ℕ)
     → ((j : ℕ) → get_or l j 0 < 65536)
     → length l < 2 ^ 64
     → 2 * count ≤ length l
@@ -113,14 +124,61 @@ visits_length_lem l count fares h m le small =
       fares_length fares small,
     ))
 
+-- the lengths of the parts that the answer's own numbers decide
+abbrev pub Bounded : Result Answer Refusal → List ℕ → Type 0
+Bounded (Ok (Placed count fares)) visits = length (visits_text (interviews_at count visits) fares) ≤ 9 * length visits + 45
+Bounded (Ok (Next s w count fares)) visits =
+    (length (line_of next_word (s ∷ w ∷ [])) ≤ 47) × (length (visits_text (interviews_at count visits) fares) ≤ 9 * length visits + 45)
+Bounded (Err r) visits = length (line_of refused_word (number_of r.cause ∷ r.place ∷ [])) ≤ 50
+
+-- the text of an answer whose parts are so long, with places of two bytes
+text_bounded : (a : Result Answer Refusal) (n : ℕ) (places visits : List ℕ)
+    → TextFits a n places visits
+    → Bounded a visits
+    → ((j : ℕ) → get_or places j 0 < 65536)
+    → length places < 2 ^ 64
+    → length (text_of a n places visits) ≤ 33 * length places + 9 * length visits + 100
+unfolding text_of
+text_bounded (Ok (Placed count fares)) n places visits f b h l =
+    omega (
+      arith,
+      length-append (place_lines 1 (take n places)) (visits_text (interviews_at count visits) fares),
+      places_length_lem places n h l f.0,
+    )
+text_bounded (Ok (Next s w count fares)) n places visits f b h l =
+    omega (arith, length-append (line_of next_word (s ∷ w ∷ [])) (visits_text (interviews_at count visits) fares))
+text_bounded (Err r) n places visits f b h l = omega arith
+
+-- a buffer with room for the longest gets the whole text
+pub text_whole : (a : Result Answer Refusal) (n : ℕ) (places visits : List ℕ)
+    → TextFits a n places visits
+    → Bounded a visits
+    → ((j : ℕ) → get_or places j 0 < 65536)
+    → length places < 2 ^ 64
+    → {out after : List ℕ} {end : ℕ}
+    → Put (text_of a n places visits) 0 out after end
+    → 33 * length places + 9 * length visits + 100 ≤ length out
+    → Whole (text_of a n places visits) after end
+text_whole a n places visits f b h l p room = put_whole p (omega (arith, text_bounded a n places visits f b h l))
+
 -- what bounds an answer's own numbers: the length of a first line that has two of them, and 32 bits for the fares
-abbrev pub Numbers : Answer → Type 0
-Numbers (Placed count fares) = fares < 2 ^ 32
-Numbers (Next s w count fares) = (length (line_of next_word (s ∷ w ∷ [])) ≤ 47) × (fares < 2 ^ 32)
-Numbers (Refused k i) = length (line_of refused_word (k ∷ i ∷ [])) ≤ 50
+abbrev pub Numbers : Result Answer Refusal → Type 0
+Numbers (Ok (Placed count fares)) = fares < 2 ^ 32
+Numbers (Ok (Next s w count fares)) = (length (line_of next_word (s ∷ w ∷ [])) ≤ 47) × (fares < 2 ^ 32)
+Numbers (Err r) = length (line_of refused_word (number_of r.cause ∷ r.place ∷ [])) ≤ 50
+
+bounded : (a : Result Answer Refusal) (n : ℕ) (places visits : List ℕ)
+    → TextFits a n places visits
+    → Numbers a
+    → ((j : ℕ) → get_or visits j 0 < 65536)
+    → length visits < 2 ^ 64
+    → Bounded a visits
+bounded (Ok (Placed count fares)) n places visits f s k m = visits_length_lem visits count fares k m f.1 s
+bounded (Ok (Next a b count fares)) n places visits f s k m = (s.0, visits_length_lem visits count fares k m f s.1)
+bounded (Err r) n places visits f s k m = s
 
 -- the text of an answer from buffers of entries of two bytes
-pub text_length : (a : Answer) (n : ℕ) (places visits : List ℕ)
+pub text_length : (a : Result Answer Refusal) (n : ℕ) (places visits : List ℕ)
     → TextFits a n places visits
     → Numbers a
     → ((j : ℕ) → get_or places j 0 < 65536)
@@ -128,18 +186,4 @@ pub text_length : (a : Answer) (n : ℕ) (places visits : List ℕ)
     → length places < 2 ^ 64
     → length visits < 2 ^ 64
     → length (text_of a n places visits) ≤ 33 * length places + 9 * length visits + 100
-unfolding text_of
-text_length (Placed count fares) n places visits f s h k l m =
-    omega (
-      arith,
-      length-append (place_lines 1 (take n places)) (visits_text (interviews_at count visits) fares),
-      places_length_lem places n h l f.0,
-      visits_length_lem visits count fares k m f.1 s,
-    )
-text_length (Next a b count fares) n places visits f s h k l m =
-    omega (
-      arith,
-      length-append (line_of next_word (a ∷ b ∷ [])) (visits_text (interviews_at count visits) fares),
-      visits_length_lem visits count fares k m f s.1,
-    )
-text_length (Refused a b) n places visits f s h k l m = omega arith
+text_length a n places visits f s h k l m = text_bounded a n places visits f (bounded a n places visits f s k m) h l

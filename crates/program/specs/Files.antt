@@ -1,36 +1,32 @@
 -- Of which file the outcome of a reading tells.
-use Rattle.std.specs.Prelude.{ℕ, ◌≤◌, ◌<◌, ◌≡◌, List, length, take}
-use Rattle.std.proofs.Math.Option.{Option, some, none}
+use Rattle.std.specs.Prelude.{ℕ, ◌≤◌, ◌<◌, ◌≡◌, List, length, take, Option, Some, None, IfSome}
 use Rattle.format.specs.Printed.{program_prints}
-use Rattle.program.specs.declared.FileRead.{FileRead}
-use Rattle.program.specs.declared.FileRead.TheVariants.{Bytes, Failed}
+
+-- What came of reading a file into a buffer: so many bytes stand at its head, and they are the whole file where they do not fill the buffer; or none, where
+-- the file is missing or cannot be read.
+abbrev pub FileRead : Type 0
+FileRead = Option ℕ
 
 -- The file that was read into the buffer: none where it is missing or cannot be read. Of a file that fills the buffer these are its first bytes,
 -- for which the program prints what it prints for the whole file (`FilesPrinted`).
 abbrev pub file_of : FileRead → List ℕ → Option (List ℕ)
-file_of (Bytes n) buffer = some (take n buffer)
-file_of Failed buffer = none
+file_of (Some n) buffer = Some (take n buffer)
+file_of None buffer = None
 
 -- the buffer has the bytes that were read
 abbrev pub Within : FileRead → List ℕ → Type 0
-Within (Bytes n) buffer = n ≤ length buffer
-Within Failed buffer = Unit {0}
+Within r buffer = IfSome r (λ n. n ≤ length buffer)
 
 -- and it shows whether the file is longer than allowed
 abbrev pub Shows : FileRead → List ℕ → Type 0
 Shows r buffer = Within r buffer × (65536 < length buffer)
 
--- how many bytes were read, and more than allowed where the file cannot be read
-abbrev pub size_of : FileRead → ℕ
-size_of (Bytes n) = n
-size_of Failed = 65537
-
 -- What is believed of a reading: the bytes read are the file's, as far as the buffer goes.
 abbrev pub ReadOf : Option (List ℕ) → FileRead → List ℕ → Type 0
-ReadOf (some file) (Bytes n) buffer = take n buffer ≡ take (length buffer) file
-ReadOf (some file) Failed buffer = ⊥
-ReadOf none (Bytes n) buffer = ⊥
-ReadOf none Failed buffer = Unit {0}
+ReadOf (Some file) (Some n) buffer = take n buffer ≡ take (length buffer) file
+ReadOf (Some file) None buffer = ⊥
+ReadOf None (Some n) buffer = ⊥
+ReadOf None None buffer = Unit {0}
 
 -- Then what is printed for the bytes read is what is printed for the files (proved: `files_printed`).
 abbrev pub FilesPrinted : Type 0

@@ -1,22 +1,13 @@
 // What the program prints for what was read of its two files, in lent bytes.
 #![tactic(auto)]
 
-ghost use Rattle.std.specs.Prelude.{◌≤◌, ◌≡◌, length};
+ghost use Rattle.std.specs.Prelude.{◌≤◌, ◌≡◌, length, MatchOption, Some, None};
 ghost use Rattle.format.specs.Engine.{engine};
-ghost use Rattle.format.specs.Printed.{printed, program_prints, program_room};
+ghost use Rattle.format.specs.Printed.{printed, program_prints, program_room, readable};
 ghost use Rattle.putting.specs.Put.{PutWhole};
-ghost use Rattle.program.specs.Files.{file_of, size_of, Shows};
+ghost use Rattle.program.specs.Files.{file_of, Within, Shows};
 
-use api::Answer;
-use case_tests::Checked;
-
-// What came of reading a file into a buffer: so many bytes stand at its head, and they are the whole file where they do not fill the buffer; or
-// the file is missing or cannot be read.
-#[derive(Clone, Copy)]
-pub enum FileRead {
-    Bytes(usize),
-    Failed,
-}
+use lookup::Input;
 
 // The whole text of the answer, made in buffers that are enough for every case of 65,536 bytes.
 fn put_text(case: &[u8], book: &[u8], out: &mut [u8]) -> usize
@@ -27,63 +18,53 @@ fn put_text(case: &[u8], book: &[u8], out: &mut [u8]) -> usize
     let mut visits = [0u16; 8192];
     let mut seats = [0u16; 32768];
     let mut index = [0u16; 4096];
-    let mut table = [0u64; 1089];
-    match answering::test(
-        case, book, 512, 8192, &mut seats, &mut index, 512, &mut table,
+    let mut words = [0u64; 1089];
+    let counts = match answering::test(
+        case, book, 512, 8192, &mut seats, &mut index, 512, &mut words,
     ) {
-        Checked::Refused { cause, record } => {
-            printing::put_answer(Answer::Refused { cause, record }, 0, &places, &visits, out)
-        }
-        Checked::Counts {
-            students,
-            workshops,
-            pairs: _,
-        } => {
-            let answer = engine::run_alone(
-                case,
-                book,
-                &index,
-                &table,
-                &mut places,
-                &mut visits,
-                &mut seats,
-                students,
-                workshops,
-            );
-            printing::put_answer(answer, students, &places, &visits, out)
-        }
-    }
+        Ok(counts) => counts,
+        Err(refusal) => return printing::put_answer(Err(refusal), 0, &places, &visits, out),
+    };
+    let input = Input::new(
+        case,
+        &words,
+        book,
+        &index,
+        counts.students,
+        counts.workshops,
+    );
+    let answer = engine::run_alone(&input, &mut places, &mut visits, &mut seats);
+    printing::put_answer(Ok(answer), counts.students, &places, &visits, out)
 }
 
-// How many bytes of the file were read; 65,537, as of a file that is too long, where it cannot be read.
-fn size(file: FileRead) -> usize
-    ensures { result ≡ size_of file }
+// The bytes of the file that was read into the buffer; none where it is too long or cannot be read.
+fn readable(read: Option<usize>, buffer: &[u8]) -> Option<&[u8]>
+    requires { Within read buffer.now }
+    ensures { MatchOption result
+        (readable (file_of read buffer.now) ≡ None)
+        (λ bytes. readable (file_of read buffer.now) ≡ Some bytes.now) }
 {
-    match file {
-        FileRead::Bytes(n) => n,
-        FileRead::Failed => 65537,
+    match read {
+        Some(n) if n <= 65536 => Some(&buffer[..n]),
+        _ => None,
     }
 }
 
-// All that the program prints for the two files.
+// All that the program prints for the two files. Each was read into a buffer: so many bytes stand at its head, and they are the whole file where they do not
+// fill it; or none, where the file is missing or cannot be read.
 pub fn put_program(
     case: &[u8],
-    casefile: FileRead,
+    casefile: Option<usize>,
     book: &[u8],
-    bookfile: FileRead,
+    bookfile: Option<usize>,
     out: &mut [u8],
 ) -> usize
     requires { (Shows casefile case.now) × (Shows bookfile book.now) × (131072 ≤ length out.old) }
     ensures { PutWhole (program_prints (file_of casefile case.now) (file_of bookfile book.now))
         out.old out.new result }
 {
-    let n = size(casefile);
-    let k = size(bookfile);
-    if n > 65536 {
-        return printing::put_unread(out);
+    match (readable(casefile, case), readable(bookfile, book)) {
+        (Some(case), Some(book)) => put_text(case, book, out),
+        _ => printing::put_unread(out),
     }
-    if k > 65536 {
-        return printing::put_unread(out);
-    }
-    put_text(&case[..n], &book[..k], out)
 }

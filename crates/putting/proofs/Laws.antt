@@ -1,12 +1,13 @@
 -- Texts put one after the other: two steps are one, of the joined text. A buffer with room for a text gets all of it.
-use Prim.Native.Nat.{ℕ, suc, ◌+◌, ◌≤◌, ◌<◌, min}
+use Prim.Native.Nat.{ℕ, suc, ◌+◌, ◌-◌, ◌≤◌, ◌<◌, min}
 use mathlib.Core.Path.{◌≡◌, refl, sym, ap, ◌∙◌}
-use mathlib.Core.List.{List, [], ◌∷◌, ◌++◌}
+use mathlib.Core.List.{List, [], ◌∷◌, ◌++◌, append_assoc}
 use mathlib.Core.Logic.{⊎_elim}
 use native.Mathlib.Omega.{arith}
 use native.Mathlib.Nat.{min-eq_left, min-eq_right, min-le_right}
-use lib.ListN.{length, drop, length-append, length-take}
-use lib.Seq.{sets, sets-eq, length-sets, set_out, take-append_seam}
+use lib.ListN.{length, take, drop, length-append, length-take, drop_of_length-le}
+use lib.Seq.{sets, sets-eq, length-sets, set_out, take-append_seam, length-take-le}
+use Rattle.std.proofs.lemmas.List.{take-append-drop, drop-drop}
 use Rattle.base.proofs.Tests.{less?}
 use Rattle.format.specs.Printed.{Whole}
 use Rattle.putting.specs.Put.{Put}
@@ -89,3 +90,29 @@ put_both p l = (p, λ h. put_whole p (omega arith))
 -- it ends within the buffer
 pub whole_within : {t : List ℕ} {end : ℕ} {out : List ℕ} → Whole t out end → end ≤ length out
 whole_within {t} {end} {out} p = omega (arith, p.long, ap length p.bytes, length-take end out, min-le_right end (length out))
+
+-- the part of a text that is put: all of it, or as much as fits
+pub put_part : (text out : List ℕ) (at n : ℕ) → at ≤ length out → n ≡ min (length text) (length out - at)
+    → Put text at out (take at out ++ (take n text ++ drop n (drop at out))) (at + n)
+put_part text out at n l e = record { buffer = sym (cut ∙ (sets-eq (take n text) out at fits ∙ joined)); reach = omega (arith, e) }
+  where
+    small : n ≤ length text
+    small = omega (arith, e)
+
+    long : length (take n text) ≡ n
+    long = length-take-le n text small
+
+    fits : at + length (take n text) ≤ length out
+    fits = omega (arith, e, long)
+
+    joined : take at out ++ take n text ++ drop (at + length (take n text)) out ≡ take at out ++ (take n text ++ drop n (drop at out))
+    joined = append_assoc (take at out) (take n text) _ ∙ ap (λ t. take at out ++ (take n text ++ t)) (rw long (sym (drop-drop n at out)))
+
+    rest : sets (sets out at (take n text)) (at + length (take n text)) (drop n text) ≡ sets out at (take n text)
+    rest =
+        ⊎_elim (λ (s : n < length text). beyond (drop n text) _ _ (omega (arith, e, long, length-sets out at (take n text))))
+        (λ (s : length text ≤ n). ap (λ t. sets (sets out at (take n text)) (at + length (take n text)) t) (drop_of_length-le text s))
+        (less? n (length text))
+
+    cut : sets out at text ≡ sets out at (take n text)
+    cut = ap (λ t. sets out at t) (sym (take-append-drop n text)) ∙ (sym (sets_append (take n text) (drop n text) at out) ∙ rest)

@@ -1,7 +1,9 @@
-// Text, put into lent bytes. Text that does not fit is cut off at the buffer's end; nothing is written past it.
+// Text, put into lent bytes. Text that does not fit is cut off at the buffer's end; nothing is written past it. A slice and a place, and no writer: `Put` says
+// of two lists what was put, and `write!` would stop at the end.
 #![tactic(auto)]
 
 ghost use Rattle.std.specs.Prelude.{[], ◌∷◌, ◌≤◌, length};
+ghost use Rattle.format.specs.Printed.{decimal};
 ghost use Rattle.putting.specs.Put.{Put};
 
 // One byte at `at`; what comes after it.
@@ -15,4 +17,24 @@ pub fn put_byte(out: &mut [u8], at: usize, b: u8) -> usize
     } else {
         at
     }
+}
+
+// The bytes of a text, as far as they fit.
+pub fn put_bytes(out: &mut [u8], at: usize, text: &[u8]) -> usize
+    requires { at ≤ length out.old }
+    ensures { Put text.now at out.old out.new result }
+{
+    let n = text.len().min(out.len() - at);
+    out[at..at + n].copy_from_slice(&text[..n]);
+    at + n
+}
+
+// A number in decimal digits.
+pub fn put_decimal(out: &mut [u8], at: usize, n: usize) -> usize
+    requires { at ≤ length out.old }
+    ensures { Put (decimal n) at out.old out.new result }
+{
+    let mut digits = [0u8; 20];
+    let k = io::decimal(n as u64, &mut digits);
+    put_bytes(out, at, &digits[..k])
 }

@@ -13,7 +13,7 @@ pub struct BookReader<'a> {
     pub next: usize,
 }
 
-// Reads the next record and moves on.
+// Reads the next record and moves on. A function by itself: document 01 asks for one thin function that does so.
 pub fn take<'s, 'a>(r: &'s mut BookReader<'a>) -> Entry
     requires { r.old.next < entry_count r.old.book.now }
     ensures { (entry_of result ≡ entry_at r.old.book.now r.old.next)

@@ -9,7 +9,7 @@ ghost use Rattle.format.specs.Layout.{row_at, entry_at, row_count, entry_count, 
 ghost use Rattle.format.specs.Refusals.{bad_score};
 ghost use Rattle.records.specs.Records.{row_of, entry_of};
 
-// A record of the case, as the layout has it.
+// A record of the case, as the layout has it. The kind is the byte as it stands, and no enum: cause 2 tests it (`bad_form`).
 #[derive(Clone, Copy)]
 pub struct Row {
     pub kind: u8,
@@ -32,19 +32,12 @@ pub struct Entry {
     pub workshop_score: i16,
 }
 
-// A byte as a 16-bit number: through a call, the byte's bound is known.
-fn wide(x: u8) -> u16
-    ensures { (result ≡ x) × (result < 256) }
-{
-    x as u16
-}
-
 // The 16-bit field at `at`, low byte first.
 fn u16_at(bytes: &[u8], at: usize) -> u16
     requires { at + 1 < length bytes.now }
     ensures { result ≡ word bytes.now at }
 {
-    wide(bytes[at]) + 256 * wide(bytes[at + 1])
+    u16::from(bytes[at]) + 256 * u16::from(bytes[at + 1])
 }
 
 // ---- scores
@@ -53,11 +46,7 @@ fn u16_at(bytes: &[u8], at: usize) -> u16
 fn score_of(v: u16) -> i16
     ensures { biased result ≡ (v + 32768) % 65536 }
 {
-    if v < 32768 {
-        v as i16
-    } else {
-        (v as i32 - 65536) as i16
-    }
+    v.cast_signed()
 }
 
 fn score_at(bytes: &[u8], at: usize) -> i16
@@ -67,13 +56,14 @@ fn score_at(bytes: &[u8], at: usize) -> i16
     score_of(u16_at(bytes, at))
 }
 
-// A stored score, 32768 above its value: equal scores are equal numbers.
-fn biased_of(v: u16) -> u16
-    ensures { result ≡ (v + 32768) % 65536 }
+// The score 32768 above its value, so that a key can hold it.
+pub fn raised(score: i16) -> u16
+    ensures { result ≡ biased score }
 {
-    ((v as u32 + 32768) % 65536) as u16
+    score.cast_unsigned().wrapping_add(32768)
 }
 
+// A function for each test of scores: the clauses speak of scores 32768 above (`biased`), which each caller would have to show.
 // Score a is better than score b.
 pub fn above(a: i16, b: i16) -> bool
     ensures { result ≡ ltb (biased b) (biased a) }
@@ -93,6 +83,13 @@ pub fn negative(a: i16) -> bool
     ensures { result ≡ ltb (biased a) outside_score }
 {
     a < 0
+}
+
+// The score is -1000, 31768 as it is kept: the interview ended in never.
+pub fn is_never(score: i16) -> bool
+    ensures { result ≡ says_never (biased score) }
+{
+    score == -1000
 }
 
 // A score that the book may have.
@@ -124,113 +121,22 @@ pub fn entry_count(len: usize) -> usize
     len >> 3
 }
 
-// Bytes 2 k and 2 k + 1 of record i of the case.
-fn field_at(case: &[u8], i: usize, k: usize) -> u16
-    requires { (i < row_count case.now) × (k < 8) }
-    ensures { result ≡ word case.now (16 * i + 2 * k) }
-{
-    u16_at(case, 16 * i + 2 * k)
-}
-
-pub fn kind_at(case: &[u8], i: usize) -> u8
-    requires { i < row_count case.now }
-    ensures { result ≡ (row_at case.now i).kind }
-{
-    case[16 * i]
-}
-
-fn pad_at(case: &[u8], i: usize) -> u8
-    requires { i < row_count case.now }
-    ensures { result ≡ (row_at case.now i).pad }
-{
-    case[16 * i + 1]
-}
-
-pub fn first_at(case: &[u8], i: usize) -> u16
-    requires { i < row_count case.now }
-    ensures { result ≡ (row_at case.now i).first }
-{
-    field_at(case, i, 1)
-}
-
-pub fn second_at(case: &[u8], i: usize) -> u16
-    requires { i < row_count case.now }
-    ensures { result ≡ (row_at case.now i).second }
-{
-    field_at(case, i, 2)
-}
-
-pub fn third_at(case: &[u8], i: usize) -> u16
-    requires { i < row_count case.now }
-    ensures { result ≡ (row_at case.now i).third }
-{
-    field_at(case, i, 3)
-}
-
-pub fn fourth_at(case: &[u8], i: usize) -> u16
-    requires { i < row_count case.now }
-    ensures { result ≡ (row_at case.now i).fourth }
-{
-    field_at(case, i, 4)
-}
-
-pub fn fifth_at(case: &[u8], i: usize) -> u16
-    requires { i < row_count case.now }
-    ensures { result ≡ (row_at case.now i).fifth }
-{
-    field_at(case, i, 5)
-}
-
 pub fn row_at(case: &[u8], i: usize) -> Row
     requires { i < row_count case.now }
     ensures { row_of result ≡ row_at case.now i }
 {
+    let at = 16 * i;
     Row {
-        kind: kind_at(case, i),
-        pad: pad_at(case, i),
-        first: first_at(case, i),
-        second: second_at(case, i),
-        third: third_at(case, i),
-        fourth: fourth_at(case, i),
-        fifth: fifth_at(case, i),
-        sixth: field_at(case, i, 6),
-        seventh: field_at(case, i, 7),
+        kind: case[at],
+        pad: case[at + 1],
+        first: u16_at(case, at + 2),
+        second: u16_at(case, at + 4),
+        third: u16_at(case, at + 6),
+        fourth: u16_at(case, at + 8),
+        fifth: u16_at(case, at + 10),
+        sixth: u16_at(case, at + 12),
+        seventh: u16_at(case, at + 14),
     }
-}
-
-pub fn student_score_at(book: &[u8], i: usize) -> i16
-    requires { i < entry_count book.now }
-    ensures { biased result ≡ (entry_at book.now i).student_score }
-{
-    score_at(book, 8 * i + 4)
-}
-
-pub fn workshop_score_at(book: &[u8], i: usize) -> i16
-    requires { i < entry_count book.now }
-    ensures { biased result ≡ (entry_at book.now i).workshop_score }
-{
-    score_at(book, 8 * i + 6)
-}
-
-// The score of the side in book record i, 32768 above its value.
-pub fn biased_at(book: &[u8], i: usize, student: bool) -> u16
-    requires { i < entry_count book.now }
-    ensures { result ≡ cond student (entry_at book.now i).student_score (entry_at book.now i).workshop_score }
-{
-    let at = 8 * i;
-    if student {
-        biased_of(u16_at(book, at + 4))
-    } else {
-        biased_of(u16_at(book, at + 6))
-    }
-}
-
-// The score of the side in book record i is -1000, 31768 as it is kept: the interview ended in never.
-pub fn never_at(book: &[u8], i: usize, student: bool) -> bool
-    requires { i < entry_count book.now }
-    ensures { result ≡ says_never (cond student (entry_at book.now i).student_score (entry_at book.now i).workshop_score) }
-{
-    biased_at(book, i, student) == 31768
 }
 
 pub fn entry_at(book: &[u8], i: usize) -> Entry
@@ -243,24 +149,5 @@ pub fn entry_at(book: &[u8], i: usize) -> Entry
         workshop: u16_at(book, at + 2),
         student_score: score_at(book, at + 4),
         workshop_score: score_at(book, at + 6),
-    }
-}
-
-// ---- numbers and slices
-
-pub fn one_if(b: bool) -> usize
-    ensures { (result ≡ one b) × (result ≤ 1) }
-{
-    if b { 1 } else { 0 }
-}
-
-// Zeros over the whole slice.
-pub fn clear(s: &mut [u16])
-    ensures { s.new ≡ replicate (length s.old) 0 }
-{
-    let mut k = 0;
-    while k < s.len() {
-        s[k] = 0;
-        k += 1;
     }
 }

@@ -9,12 +9,10 @@ use lib.ListN.{length, get_or, take, drop, set, length-set, length-take, get_or-
 use lib.Seq.{drop-cons, take-length, drop-length, length-take-le, take-take, get_or-take, set_split, take-set-le, drop_at}
 use lib.Dec.{eqb, ltb}
 use lib.IntN.{ℤ}
-use mir.Syntax.{w16}
-use mir.Val.{SFits, to_z, of_z}
-use mir.ValLaws.{to_z-of_z}
-use borrow.Author.Tests.{eqb-true, ltb-true, eq-eqb, ne_eqb, lt-ltb, le-ltb, not-true, not-false}
+use borrow.Author.Tests.{eqb-true, ltb-true, eq-eqb, ne_eqb, lt-ltb, not-true, not-false}
+use Rattle.std.specs.Prelude.{Some}
 use Rattle.base.specs.Words.{biased}
-use Rattle.base.proofs.Tests.{never, is_false, and_left, and_right, and_make, and_false, or_true, or_left, or_right, or_none, eq?, less?}
+use Rattle.base.proofs.Tests.{never, is_false, and_left, and_right, and_make, or_true, or_left, or_right, eq?, less?}
 use Rattle.lgs.specs.Market.{Market, Results, outscored, seats_of, seats_before}
 use Rattle.lgs.proofs.Valid.{outscored_on}
 use Rattle.model.specs.Model.{before}
@@ -22,6 +20,7 @@ use Rattle.model.specs.Store.{push_padded, part, last_of}
 use Rattle.model.specs.Ready.{Booked, InOrder}
 use Rattle.format.specs.Engine.{market_in, results_in}
 use Rattle.lookup.specs.Clean.{StudentAt, Clean}
+use Rattle.seating.specs.Seats.{Stands, named}
 
 pub positive : (y : ℕ) → (y ≡ 0 → ⊥) → 0 < y
 positive y f = ⊎_elim (λ (l : 0 < y). l) (λ (l : y ≤ 0). absurd (f (omega arith))) (less? 0 y)
@@ -29,32 +28,15 @@ positive y f = ⊎_elim (λ (l : 0 < y). l) (λ (l : y ≤ 0). absurd (f (omega 
 zero_of : (y : ℕ) → (0 < y → ⊥) → y ≡ 0
 zero_of y f = ⊎_elim (λ (l : 0 < y). absurd (f l)) (λ (l : y ≤ 0). omega arith) (less? 0 y)
 
+-- whoever has a number is named
+pub named_some : (n : ℕ) → 0 < n → Some n ≡ named n
+named_some zero h = absurd (omega arith)
+named_some (suc n) h = refl
+
 -- whoever has been interviewed has a record
 pub booked_student : {case book index table : List ℕ} {n m x w : ℕ} → Clean case book index table n m
     → Booked (market_in case) (results_in book) x w → StudentAt case x
 booked_student {x = x} c b = c.student x b.student.0 (rw (sym c.students) b.student.1)
-
--- tiers t and u, scores p and q: with equal tiers and scores the lots decide, and else they do not come in
-pub by_lots : (t u p q : ℕ) (l : Bool) → (eqb t u && eqb p q) ≡ true → l ≡ (ltb t u || (eqb t u && (ltb p q || (eqb p q && l))))
-by_lots t u p q l e =
-    let a : t ≡ u = eqb-true _ _ (and_left (eqb t u) _ e) in
-    let b : p ≡ q = eqb-true _ _ (and_right (eqb t u) _ e) in
-    rw (le-ltb t u (omega arith), le-ltb p q (omega arith), eq-eqb t u a, eq-eqb p q b)
-
-pub by_scores : (t u p q : ℕ) (l : Bool) → (eqb t u && eqb p q) ≡ false
-    → (ltb t u || (eqb t u && ltb p q)) ≡ (ltb t u || (eqb t u && (ltb p q || (eqb p q && l))))
-by_scores t u p q l e =
-    ⊎_elim (λ (f : eqb t u ≡ false). rw f) (λ (f : eqb p q ≡ false). rw f (ap (λ b. ltb t u || (eqb t u && b)) (sym (or_none (ltb p q)))))
-    (and_false (eqb t u) _ e)
-
--- a score as it is passed on: bits, which are read back
-pub passed_on : (x : ℤ) (v : ℕ) → SFits w16 x → biased x ≡ v → biased (to_z w16 (of_z w16 x)) ≡ v
-passed_on x v f e = rw (to_z-of_z w16 x f) e
-
--- student x stands in tier t at workshop w, with the score a
-pub record Stands (M : Market) (B : Results) (w x t : ℕ) (a : ℤ) : Type 0 where
-  pub tier : t ≡ M.workshop_tier w x
-  pub score : biased a ≡ B.workshop_score w x
 
 pub before_by : (M : Market) (B : Results) (w x y t u : ℕ) (a b : ℤ) → Stands M B w x t a → Stands M B w y u b → (r : Bool)
     → r ≡ (ltb t u || (eqb t u && (ltb (biased b) (biased a) || (eqb (biased b) (biased a) && ltb (M.lot x) (M.lot y))))) → before M B w x y ≡ r
@@ -68,9 +50,6 @@ two_parts r p x e = rw e (refl, refl)
 -- the two have been compared: y is seated, and stays or not
 pub stays_by : (M : Market) (B : Results) (w x y : ℕ) (r : Bool) → (y ≡ 0 → ⊥) → before M B w x y ≡ r → not r ≡ (ltb 0 y && not (before M B w x y))
 stays_by M B w x y r ne e = rw (lt-ltb 0 y (positive y ne), e)
-
-pub stays_free : (M : Market) (B : Results) (w x y : ℕ) → y ≡ 0 → false ≡ (ltb 0 y && not (before M B w x y))
-stays_free M B w x y e = rw e
 
 -- what the answer says
 pub stays_true : (M : Market) (B : Results) (w x y : ℕ) (r : Bool) → r ≡ (ltb 0 y && not (before M B w x y)) → r ≡ true
@@ -204,9 +183,6 @@ module _ (M : Market) (B : Results) (w : ℕ) where
             let s : set part i x ≡ take i part ++ (x ∷ drop (suc i) part) = set_split part i x (omega (arith, p.within, p.long)) in
             e ∙ rw (p.moved x p.wins, s, p.front)
 
-        pub settle_first : i ≤ 0 → push_padded M B w x l ≡ (set part 0 x, get_or l (length l - 1) 0)
-        settle_first h = let z : i ≡ 0 = omega arith in rw z at (settled (rw z))
-
         module _ (b : 0 < i) where
           there : get_or part (i - 1) 0 ≡ get_or l (i - 1) 0
           there = seat_there x l part i p b
@@ -217,7 +193,8 @@ module _ (M : Market) (B : Results) (w : ℕ) where
               let n : suc (i - 1) ≡ i = omega arith in
               settled (rw n at (push_stays x l o (i - 1) (rw there at pos) (rw there at f)))
 
-          pub settle_on : (0 < get_or part (i - 1) 0 → before M B w x (get_or part (i - 1) 0) ≡ true) → Settling x l (set part i (get_or part (i - 1) 0)) (i - 1)
+          pub settle_on : (0 < get_or part (i - 1) 0 → before M B w x (get_or part (i - 1) 0) ≡ true)
+              → Settling x l (set part i (get_or part (i - 1) 0)) (i - 1)
           settle_on f =
               record {
                 within = omega (arith, p.within);

@@ -8,7 +8,7 @@ use mathlib.Core.List.Memᴰ.{append_left as in_left}
 use mathlib.Core.List.Memᴰ.{append_right as in_right}
 use mathlib.Core.List.Memᴰ.{head as here}
 use mathlib.Core.List.Memᴰ.{not-nil}
-use mathlib.Core.Option.{Option, some, none}
+use Rattle.std.specs.Prelude.{Option, Some, None}
 use native.Mathlib.Omega.{arith}
 use lib.Dec.{ltb}
 use lib.ListN.{length}
@@ -44,19 +44,19 @@ module _ (case : List ℕ) (room : ℕ) where
   abbrev twelve : List Cause
   twelve = (12, whole (none_agree (least_stages (market_in case)))) ∷ []
 
-  readable : first_cause (case_causes case) ≡ none → WellFormed (market_in case)
+  readable : first_cause (case_causes case) ≡ None → WellFormed (market_in case)
   readable e = case_wf case (table_none (case_causes case) e)
 
-  first_case : (r : ℕ × ℕ) → first_cause (case_causes case) ≡ some r → first_cause (stages_causes case room) ≡ some r
+  first_case : (r : ℕ × ℕ) → first_cause (case_causes case) ≡ Some r → first_cause (stages_causes case room) ≡ Some r
   unfolding stages_causes
   first_case r e = first_left (case_causes case) (stages_room_causes case room ++ twelve) r e
 
-  pub out_case : (k i : ℕ) → first_cause (case_causes case) ≡ some (k, i) → work_out case room ≡ unstaged k i
+  pub out_case : (k i : ℕ) → first_cause (case_causes case) ≡ Some (k, i) → work_out case room ≡ unstaged k i
   unfolding work_out stages_unless
   out_case k i e = rw (first_case (k, i) e)
 
-  module _ (e : first_cause (case_causes case) ≡ none) where
-    first_room : room < (market_in case).students → first_cause (stages_causes case room) ≡ some (6, 0)
+  module _ (e : first_cause (case_causes case) ≡ None) where
+    first_room : room < (market_in case).students → first_cause (stages_causes case room) ≡ Some (6, 0)
     unfolding stages_causes stages_room_causes
     first_room l = first_right (case_causes case) (stages_room_causes case room ++ twelve) e ∙ rw (lt-ltb room (market_in case).students l)
 
@@ -65,7 +65,7 @@ module _ (case : List ℕ) (room : ℕ) where
     out_room l = rw (first_room l)
 
     module _ (enough : (market_in case).students ≤ room) where
-      before_none : first_cause (case_causes case ++ stages_room_causes case room) ≡ none
+      before_none : first_cause (case_causes case ++ stages_room_causes case room) ≡ None
       unfolding stages_room_causes
       before_none = first_right (case_causes case) (stages_room_causes case room) e ∙ rw (le-ltb room (market_in case).students enough)
 
@@ -73,7 +73,7 @@ module _ (case : List ℕ) (room : ℕ) where
       unfolding stages_causes stages_room_causes
       first_twelve = first_right (case_causes case) (stages_room_causes case room ++ twelve) e ∙ rw (le-ltb room (market_in case).students enough)
 
-      first_none : NoStages (market_in case) → first_cause (stages_causes case room) ≡ some (12, 0)
+      first_none : NoStages (market_in case) → first_cause (stages_causes case room) ≡ Some (12, 0)
       unfolding none_agree
       first_none N = first_twelve ∙ rw (none_is (market_in case) (readable e) N)
 
@@ -81,12 +81,12 @@ module _ (case : List ℕ) (room : ℕ) where
       unfolding work_out stages_unless
       out_none N = rw (first_none N)
 
-      first_staged : (stages : List ℕ) → LeastStages (market_in case) stages → first_cause (stages_causes case room) ≡ none
+      first_staged : (stages : List ℕ) → LeastStages (market_in case) stages → first_cause (stages_causes case room) ≡ None
       unfolding none_agree
       first_staged stages L = first_twelve ∙ rw (least_is (market_in case) (readable e) stages L)
 
   pub out_staged : (stages : List ℕ)
-      → first_cause (case_causes case) ≡ none
+      → first_cause (case_causes case) ≡ None
       → (market_in case).students ≤ room
       → LeastStages (market_in case) stages
       → work_out case room ≡ staged stages
@@ -96,38 +96,38 @@ module _ (case : List ℕ) (room : ℕ) where
 
 -- ---- the numbers of the case's causes are neither 6 nor 12
 
-not_twelve : (case : List ℕ) (k i : ℕ) → first_cause (case_causes case) ≡ some (k, i) → k ≡ 12 → ⊥
+not_twelve : (case : List ℕ) (k i : ℕ) → first_cause (case_causes case) ≡ Some (k, i) → k ≡ 12 → ⊥
 unfolding case_causes any
 not_twelve case k i = other_number 12 (case_causes case) k i refl
 
-not_six : (case : List ℕ) (k i : ℕ) → first_cause (case_causes case) ≡ some (k, i) → k ≡ 6 → ⊥
+not_six : (case : List ℕ) (k i : ℕ) → first_cause (case_causes case) ≡ Some (k, i) → k ≡ 6 → ⊥
 unfolding case_causes any
 not_six case k i = other_number 6 (case_causes case) k i refl
 
 -- ---- the four ways
 
 data Way (case : List ℕ) (room : ℕ) : StagesOutcome → Type 0 where
-  by_case : (k i : ℕ) → first_cause (case_causes case) ≡ some (k, i) → Way case room (unstaged k i)
-  by_room : first_cause (case_causes case) ≡ none → room < (market_in case).students → Way case room (unstaged 6 0)
-  by_none : first_cause (case_causes case) ≡ none → (market_in case).students ≤ room → NoStages (market_in case) → Way case room (unstaged 12 0)
-  by_stages : (stages : List ℕ) → first_cause (case_causes case) ≡ none → (market_in case).students ≤ room → LeastStages (market_in case) stages
+  by_case : (k i : ℕ) → first_cause (case_causes case) ≡ Some (k, i) → Way case room (unstaged k i)
+  by_room : first_cause (case_causes case) ≡ None → room < (market_in case).students → Way case room (unstaged 6 0)
+  by_none : first_cause (case_causes case) ≡ None → (market_in case).students ≤ room → NoStages (market_in case) → Way case room (unstaged 12 0)
+  by_stages : (stages : List ℕ) → first_cause (case_causes case) ≡ None → (market_in case).students ≤ room → LeastStages (market_in case) stages
       → Way case room (staged stages)
 
 way : (case : List ℕ) (room : ℕ) → Way case room (work_out case room)
 way case room = by_case_lem (first_cause (case_causes case)) refl
   where
-    by_least : first_cause (case_causes case) ≡ none → (market_in case).students ≤ room
+    by_least : first_cause (case_causes case) ≡ None → (market_in case).students ≤ room
         → (o : Option (List ℕ)) → least_stages (market_in case) ≡ o → Way case room (work_out case room)
-    by_least e u none f =
+    by_least e u None f =
         let N : NoStages (market_in case) = least_none (market_in case) (readable case room e) f in
         rw (out_none case room e u N) (by_none e u N)
-    by_least e u (some stages) f =
+    by_least e u (Some stages) f =
         let L : LeastStages (market_in case) stages = least_given (market_in case) (readable case room e) stages f in
         rw (out_staged case room stages e u L) (by_stages stages e u L)
 
     by_case_lem : (o : Option (ℕ × ℕ)) → first_cause (case_causes case) ≡ o → Way case room (work_out case room)
-    by_case_lem (some (k, i)) e = rw (out_case case room k i e) (by_case k i e)
-    by_case_lem none e =
+    by_case_lem (Some (k, i)) e = rw (out_case case room k i e) (by_case k i e)
+    by_case_lem None e =
         ⊎_elim (λ l. rw (out_room case room e l) (by_room e l)) (λ u. by_least e u (least_stages (market_in case)) refl) (less? room (market_in case).students)
 
 -- ---- what is promised
@@ -186,9 +186,9 @@ twelve_exactly =
 
     -- causes 1 to 6 find nothing
     passed : (case : List ℕ) (room : ℕ) → NothingFound (case_causes case ++ stages_room_causes case room)
-        → (first_cause (case_causes case) ≡ none) × ((market_in case).students ≤ room)
+        → (first_cause (case_causes case) ≡ None) × ((market_in case).students ≤ room)
     passed case room nothing =
-        let e : first_cause (case_causes case) ≡ none = none_table (case_causes case) (λ c m. nothing c (in_left (stages_room_causes case room) m)) in
+        let e : first_cause (case_causes case) ≡ None = none_table (case_causes case) (λ c m. nothing c (in_left (stages_room_causes case room) m)) in
         ⊎_elim
         (λ (l : room < (market_in case).students).
         absurd (nothing _ (in_right (case_causes case) (here refl)) 0 (lt-ltb room (market_in case).students l, refl)))
@@ -196,10 +196,10 @@ twelve_exactly =
         (less? room (market_in case).students)
 
     else : (case : List ℕ) (room : ℕ) (stage : ℕ → ℕ) → ConsistentStages (market_in case) stage
-        → (first_cause (case_causes case) ≡ none) × ((market_in case).students ≤ room)
+        → (first_cause (case_causes case) ≡ None) × ((market_in case).students ≤ room)
         → (o : StagesOutcome) → Way case room o → work_out case room ≡ o → (stages : List ℕ) × (work_out case room ≡ staged stages)
     else case room stage C r o (by_case k i e) q =
-        let f : ◌≡◌ {A = Option (ℕ × ℕ)} (some (k, i)) none = sym e ∙ r.0 in
+        let f : ◌≡◌ {A = Option (ℕ × ℕ)} (Some (k, i)) None = sym e ∙ r.0 in
         let z : ◌≡◌ {A = ℕ} 0 1 = cc in
         absurd (omega arith)
     else case room stage C r o (by_room e l) q = absurd (omega (arith, l, r.1))

@@ -2,25 +2,26 @@
 use Prim.Native.Nat.{ℕ, zero, suc, ◌+◌, ◌-◌, ◌≤◌, ◌<◌, max}
 use mathlib.Core.Path.{◌≡◌, refl, sym, ap, ◌∙◌}
 use mathlib.Core.Logic.{◌⊎◌, inl, inr, ⊎_elim}
-use mathlib.Core.Bool.{Bool, true, false, not, cond, ◌||◌}
+use mathlib.Core.Bool.{Bool, true, false, not, ◌||◌}
 use mathlib.Core.List.{List}
 use native.Mathlib.Omega.{arith}
 use native.Mathlib.Nat.{le-max_left, le-max_right, max-le, max-eq_right, max-eq_left}
-use lib.Dec.{ltb, eqb}
-use lib.ListN.{length, get_or, set, length-set, get_or-eq_default}
+use lib.Dec.{eqb}
+use lib.ListN.{length, get_or, set, replicate, length-set, length-replicate, get_or-eq_default}
 use lib.Seq.{get_or-set_same, get_or-set_other}
-use borrow.Author.Tests.{eq-eqb, ne_eqb, eqb-true, eqb-false, lt-ltb, le-ltb, not-false}
+use borrow.Author.Tests.{eq-eqb, ne_eqb, eqb-true, eqb-false, not-false}
 use Rattle.base.specs.Lists.{count}
 use Rattle.base.specs.Below.{any_below}
 use Rattle.base.specs.Bits.{member}
-use Rattle.base.proofs.Tests.{less?, eq?, or_left, or_right, or_false, bool_cases, never}
+use Rattle.base.proofs.Tests.{less?, eq?, or_right, or_false, bool_cases, never}
 use Rattle.base.proofs.Below.{any_first, any_fails, any_none}
+use Rattle.base.proofs.Members.{all_zero}
 use Rattle.lgs.specs.Market.{Market, matters, Rivals, ConsistentStages}
 use Rattle.lgs.specs.Stages.{stage_of, FromOne}
 use Rattle.lgs.proofs.Valid.{WellFormed}
 use Rattle.lgs.proofs.Matters.{matters_true}
 use Rattle.lgs.proofs.Stages.{ranked, rank_agree, rank_few}
-use Rattle.stages.specs.Raising.{tier_for, stands_for, Enough, Noted, Capped, climbed_of, Rises, Climbed, Lifted, Fit, Raised}
+use Rattle.stages.specs.Raising.{tier_for, stands_for, Enough, Noted, Capped, Rises, Climbed, Lifted, Fit, Raised}
 
 -- ---- the larger of two
 
@@ -30,14 +31,14 @@ larger_of a b = ⊎_elim (λ (l : b < a). inl (max-eq_left (omega arith), omega 
 -- ---- the students' tiers
 
 module _ (T x : ℕ → ℕ) where
-  pub noting_none : (tiers tops : List ℕ) → length tiers ≡ 512 → length tops ≡ 514 → ((g : ℕ) → get_or tops g 0 ≡ 0) → Noted T x 0 tiers tops
-  noting_none tiers tops e f z =
+  pub noting_none : Noted T x 0 (replicate 512 0) (replicate 514 0)
+  noting_none =
       record {
-        sized = e;
-        sized_tops = f;
+        sized = length-replicate {A = ℕ} 512 0;
+        sized_tops = length-replicate {A = ℕ} 514 0;
         tier = λ k l. absurd (omega arith);
         high = λ k l. absurd (omega arith);
-        some = λ g l. absurd (omega (arith, z g));
+        some = λ g l. absurd (omega (arith, all_zero 514 g));
       }
 
   pub noting_more : (tiers tops : List ℕ) (n g v : ℕ) → Noted T x n tiers tops → n < 512 → g ≡ T (suc n) → g ≤ 513
@@ -207,57 +208,64 @@ module _ (tops : List ℕ) where
         small = omega arith;
       }
 
-  module _ (S : Capped tops) (now : List ℕ) (best g need high : ℕ) (I : Climbing now best g) (l : 1 ≤ g) (u : g < 514)
-      (e : need ≡ climbed_of (get_or now g 0) best) (m : high ≡ max best need) where
+  -- an empty tier stays empty
+  pub climbing_past : (now : List ℕ) (best g : ℕ) → Climbing now best g → 1 ≤ g → get_or now g 0 ≡ 0 → Climbing now best (g + 1)
+  climbing_past now best g I l z =
+      record {
+        sized = I.sized;
+        rest = λ h k. I.rest h (omega arith);
+        over = λ h k v p. I.over h k (before h v p) p;
+        rises = λ h i k j v p q. I.rises h i k j (before i v q) p q;
+        least = λ f R h k v p. I.least f R h k (before h v p) p;
+        most = λ h k v. ⊎_elim (I.most h k) (λ (q : g ≤ h). let r : h ≡ g = omega arith in omega (arith, ap (λ i. get_or now i 0) r, z)) (less? h g);
+        some = λ p. let w = I.some p in (w.0, w.1, omega (arith, w.2), w.3, w.4);
+        small = omega (arith, I.small);
+      }
+    where
+      -- a tier with students is another
+      before : (h : ℕ) → h < g + 1 → 0 < get_or tops h 0 → h < g
+      before h v p =
+          ⊎_elim (λ (q : h < g). q)
+          (λ (q : g ≤ h). let r : h ≡ g = omega arith in absurd (omega (arith, p, ap (λ i. get_or tops i 0) r, I.rest g (omega arith), z)))
+          (less? h g)
+
+  -- another is above all before it and no lower than it was
+  module _ (S : Capped tops) (now : List ℕ) (best g need : ℕ) (I : Climbing now best g) (l : 1 ≤ g) (u : g < 514)
+      (p : 0 < get_or now g 0) (e : need ≡ max (get_or now g 0) (best + 1)) where
     at_g : get_or (set now g need) g 0 ≡ need
     at_g = get_or-set_same now g need 0 (omega (arith, I.sized))
 
     off_g : (h : ℕ) → (h ≡ g → ⊥) → get_or (set now g need) h 0 ≡ get_or now h 0
     off_g h r = get_or-set_other now g h need 0 r
 
-    -- an empty tier stays empty, and another is above all before it and no lower than it was
-    empty : get_or tops g 0 ≡ 0 → need ≡ 0
-    empty z = e ∙ rw (I.rest g (omega arith), z)
+    same : get_or now g 0 ≡ get_or tops g 0
+    same = I.rest g (omega arith)
 
-    full : 0 < get_or tops g 0 → need ≡ max (get_or tops g 0) (best + 1)
-    full p = e ∙ rw (I.rest g (omega arith), ne_eqb (get_or tops g 0) 0 (λ z. omega arith))
+    above : (get_or tops g 0 ≤ need) × (best < need)
+    above = (omega (arith, same, e, le-max_left (get_or now g 0) (best + 1)), omega (arith, e, le-max_right (get_or now g 0) (best + 1)))
 
-    above : 0 < get_or tops g 0 → (get_or tops g 0 ≤ need) × (best < need)
-    above p =
-        let f = full p in (
-          omega (arith, f, le-max_left (get_or tops g 0) (best + 1)),
-          omega (arith, f, le-max_right (get_or tops g 0) (best + 1)),
-        )
-
-    needed : (f : ℕ → ℕ) → Rises tops f → 0 < get_or tops g 0 → need ≤ f g
-    needed f R p = rw (full p) (max-le (R.over g l p) (⊎_elim later first (less? 0 best)))
+    needed : (f : ℕ → ℕ) → Rises tops f → need ≤ f g
+    needed f R = rw e (max-le (omega (arith, same, R.over g l (omega (arith, same)))) (⊎_elim later first (less? 0 best)))
       where
         later : 0 < best → best + 1 ≤ f g
         later q =
             let w = I.some q in
-            omega (arith, w.4, I.least f R w.0 w.1 w.2 w.3, R.rises w.0 g w.1 w.2 w.3 p)
+            omega (arith, w.4, I.least f R w.0 w.1 w.2 w.3, R.rises w.0 g w.1 w.2 w.3 (omega (arith, same)))
 
         first : best ≤ 0 → best + 1 ≤ f g
-        first q = omega (arith, q, p, R.over g l p)
+        first q = omega (arith, q, p, same, R.over g l (omega (arith, same)))
 
-    bound : need ≤ 512 + (g + 1)
-    bound =
-        ⊎_elim
-        (λ (p : 0 < get_or tops g 0). rw (full p) (max-le (omega (arith, S.small g)) (omega (arith, I.small))))
-        (λ (p : get_or tops g 0 ≤ 0). omega (arith, empty (omega arith)))
-        (less? 0 (get_or tops g 0))
-
-    pub climbing_more : Climbing (set now g need) high (g + 1)
+    pub climbing_more : Climbing (set now g need) need (g + 1)
     climbing_more =
         record {
           sized = length-set now g need ∙ I.sized;
           rest = λ h k. off_g h (λ r. omega arith) ∙ I.rest h (omega arith);
-          over = λ h k v p. split h v (λ x. get_or tops h 0 ≤ x) (λ q. I.over h k q p) (λ q. let r = (above (rw q at p)).0 in rw q r);
-          rises = λ h i k j v p q. rising h i k j v p q;
-          least = λ f R h k v p. split h v (λ x. x ≤ f h) (λ q. I.least f R h k q p) (λ q. let r = needed f R (rw q at p) in rw q r);
-          most = λ h k v. rw m (split h v (λ x. x ≤ max best need) (λ q. omega (arith, I.most h k q, le-max_left best need)) (λ q. le-max_right best need));
-          some = λ p. highest p;
-          small = rw m (max-le (omega (arith, I.small)) bound);
+          over = λ h k v q. split h v (λ x. get_or tops h 0 ≤ x) (λ r. I.over h k r q) (λ r. let a = above.0 in rw r a);
+          rises = rising;
+          least = λ f R h k v q. split h v (λ x. x ≤ f h) (λ r. I.least f R h k r q) (λ r. let a = needed f R in rw r a);
+          most = λ h k v. split h v (λ x. x ≤ need) (λ r. omega (arith, I.most h k r, above.1)) (λ r. omega arith);
+          some = λ q. (g, l, omega arith, omega (arith, same), at_g);
+          small = rw e (max-le (omega (arith, same, S.small g)) (omega (arith, I.small)));
         }
       where
         -- what holds of the tiers before, and of this one
@@ -269,23 +277,9 @@ module _ (tops : List ℕ) where
 
         rising : (h i : ℕ) → 1 ≤ h → h < i → i < g + 1 → 0 < get_or tops h 0 → 0 < get_or tops i 0
             → get_or (set now g need) h 0 < get_or (set now g need) i 0
-        rising h i k j v p q =
+        rising h i k j v q r =
             rw (off_g h (λ r. omega arith))
-            (split i v (λ x. get_or now h 0 < x) (λ r. I.rises h i k j r p q)
-            (λ r. omega (arith, I.most h k (omega arith), (above (rw r at q)).1)))
-
-        highest : 0 < high → (h : ℕ) × (1 ≤ h) × (h < g + 1) × (0 < get_or tops h 0) × (get_or (set now g need) h 0 ≡ high)
-        highest p =
-            ⊎_elim
-            (λ (q : 0 < get_or tops g 0).
-            let a = (above q).1 in
-            (g, l, omega arith, q, at_g ∙ sym (m ∙ max-eq_right (omega arith))))
-            (λ (q : get_or tops g 0 ≤ 0).
-            let z = empty (omega arith) in
-            let b : high ≡ best = m ∙ max-eq_left (omega (arith, z)) in
-            let w = I.some (omega (arith, b)) in
-            (w.0, w.1, omega (arith, w.2), w.3, off_g w.0 (λ r. omega (arith, w.2)) ∙ w.4 ∙ sym b))
-            (less? 0 (get_or tops g 0))
+            (split i v (λ x. get_or now h 0 < x) (λ s. I.rises h i k j s q r) (λ s. omega (arith, I.most h k (omega arith), above.1)))
 
   -- nothing is asked of who is in no tier here
   pub climbed : Capped tops → (now : List ℕ) (best g : ℕ) {none : ℕ} → Climbing now best g → 514 ≤ g → none ≡ 0 → Climbed tops (set now 0 none) best
@@ -321,73 +315,6 @@ module _ (tops : List ℕ) where
           (⊎_elim (λ (q : suc h < g). I.most (suc h) (omega arith) q)
           (λ (q : g ≤ suc h). omega (arith, get_or-eq_default now 0 {n = suc h} (omega (arith, I.sized))))
           (less? (suc h) g))
-
--- ---- the students are raised
-
-module _ (M : Market) (tiers needs old : List ℕ) where
-  pub lifting_none : length old ≡ 512 → Lifted M tiers needs 0 old old 0
-  lifting_none e =
-      record {
-        sized = e;
-        stage = λ k l. absurd (omega arith);
-        past = λ k l. refl;
-        noticed = λ k v l p. absurd (omega arith);
-        some = inl refl;
-      }
-
-  module _ (now : List ℕ) (n moved have v set moved' : ℕ) (I : Lifted M tiers needs n old now moved) (l : n < 512)
-      (h : have ≡ get_or now n 0)
-      (e : v ≡ max have (get_or needs (get_or tiers n 0) 0))
-      (s : (w : ℕ) → M.paired (suc n) w ≡ true → member set w ≡ true)
-      (a : (w : ℕ) → member moved' w ≡ (member moved w || member (cond (ltb have (get_or needs (get_or tiers n 0) 0)) set 0) w))
-      (z : moved ≡ 0 → cond (ltb have (get_or needs (get_or tiers n 0) 0)) set 0 ≡ 0 → moved' ≡ 0) where
-    abbrev need : ℕ
-    need = get_or needs (get_or tiers n 0) 0
-
-    abbrev written : List ℕ
-    written = lib.ListN.set now n v
-
-    at_n : get_or written n 0 ≡ v
-    at_n = get_or-set_same now n v 0 (omega (arith, I.sized))
-
-    off_n : (k : ℕ) → (k ≡ n → ⊥) → get_or written k 0 ≡ get_or now k 0
-    off_n k r = get_or-set_other now n k v 0 r
-
-    mine : get_or old n 0 ≡ have
-    mine = sym (h ∙ I.past n (omega arith))
-
-    pub lifting_more : Lifted M tiers needs (n + 1) old (lib.ListN.set now n v) moved'
-    lifting_more =
-        record {
-          sized = length-set now n v ∙ I.sized;
-          stage = λ k u.
-              ⊎_elim (λ (q : k < n). off_n k (λ r. omega arith) ∙ I.stage k q)
-              (λ (q : n ≤ k). let r : k ≡ n = omega arith in rw (r, at_n, mine) e)
-              (less? k n);
-          past = λ k u. off_n k (λ r. omega arith) ∙ I.past k (omega arith);
-          noticed = λ k w u p. ⊎_elim (λ (r : k ≡ n). new k w r u p) (λ (r : k ≡ n → ⊥). before k w r u p) (eq? k n);
-          some = ⊎_elim raises stays (less? have need);
-        }
-      where
-        before : (k w : ℕ) → (k ≡ n → ⊥) → get_or old k 0 < get_or written k 0 → M.paired (suc k) w ≡ true → member moved' w ≡ true
-        before k w r u p = a w ∙ or_left (member moved w) _ (I.noticed k w (rw (off_n k r) at u) p)
-
-        new : (k w : ℕ) → k ≡ n → get_or old k 0 < get_or written k 0 → M.paired (suc k) w ≡ true → member moved' w ≡ true
-        new k w r u p =
-            let u' : have < v = omega (arith, ap (λ i. get_or old i 0) r, ap (λ i. get_or written i 0) r, u, mine, at_n) in
-            let less : have < need = ⊎_elim (λ (q : have < need). q)
-            (λ (q : need ≤ have). absurd (omega (arith, u', e, max-eq_left q))) (less? have need) in
-            a w ∙ or_right (member moved w) _ (rw (lt-ltb have need less) (s w (rw r at p)))
-
-        raises : have < need → (moved' ≡ 0) ⊎ ((k : ℕ) × (k < n + 1) × (get_or old k 0 < get_or written k 0))
-        raises q = inr (n, omega arith, omega (arith, mine, at_n, e, max-eq_right {n = have} {m = need} (omega arith)))
-
-        stays : need ≤ have → (moved' ≡ 0) ⊎ ((k : ℕ) × (k < n + 1) × (get_or old k 0 < get_or written k 0))
-        stays q =
-            ⊎_elim (λ (b : moved ≡ 0). inl (z b (rw (le-ltb have need q))))
-            (λ (b : (k : ℕ) × (k < n) × (get_or old k 0 < get_or now k 0)).
-            inr (b.0, omega (arith, b.1), omega (arith, b.2, off_n b.0 (λ r. omega (arith, b.1)))))
-            I.some
 
 -- ---- together
 
@@ -429,7 +356,8 @@ module _ (M : Market) (w n : ℕ) (old new tiers tops needs : List ℕ) (moved t
         ∙ max-eq_right (omega (arith, top_of s hers.0 hers.1, C.all.over (tier_for M w s) tier_low filled))
 
   -- somebody in a tier that has students
-  one_in : (g : ℕ) → 1 ≤ g → 0 < get_or tops g 0 → (s : ℕ) × (1 ≤ s) × (s ≤ n) × (tier_for M w s ≡ g) × (stage_of old s ≡ get_or tops g 0) × (matters M w s ≡ true)
+  one_in : (g : ℕ) → 1 ≤ g → 0 < get_or tops g 0
+      → (s : ℕ) × (1 ≤ s) × (s ≤ n) × (tier_for M w s ≡ g) × (stage_of old s ≡ get_or tops g 0) × (matters M w s ≡ true)
   one_in g l p =
       let k = N.some g p in
       (suc k.0, omega arith, omega (arith, k.1), k.2, k.3, matter (suc k.0) k.2)

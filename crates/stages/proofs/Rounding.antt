@@ -1,18 +1,18 @@
 -- Turns, rounds and all rounds: what holds between turns, that the rounds come to an end, and what the stages are then.
 use Prim.Native.Nat.{ℕ, zero, suc, ◌+◌, ◌-◌, ◌*◌, ◌≤◌, ◌<◌, min}
-use mathlib.Core.Path.{◌≡◌, refl, sym, ap, ◌∙◌}
+use mathlib.Core.Path.{◌≡◌, refl, sym, ◌∙◌}
 use mathlib.Core.Logic.{inl, inr, ⊎_elim}
 use mathlib.Core.Bool.{Bool, true, false, not, ◌&&◌, ◌||◌}
 use mathlib.Core.List.{List}
 use native.Mathlib.Omega.{arith}
 use native.Mathlib.Nat.{min-le_left, min-eq_left, min-eq_right}
-use lib.Dec.{ltb, eqb}
+use lib.Dec.{eqb}
 use lib.ListN.{length, replicate, take, length-replicate, get_or-replicate}
 use lib.Seq.{length-take-le, get_or-take}
-use borrow.Author.Tests.{ltb-true, ltb-false, eqb-true, eq-eqb, not-true, not-false}
+use borrow.Author.Tests.{eqb-true, eq-eqb, not-true, not-false}
 use Rattle.base.specs.Lists.{one, total}
 use Rattle.base.specs.Bits.{member}
-use Rattle.base.proofs.Tests.{bool_cases, never, and_left, and_right, and_false, or_true, or_false, less?}
+use Rattle.base.proofs.Tests.{bool_cases, never, and_left, and_right, or_true, or_false, less?}
 use Rattle.base.proofs.Counting.{total_le, total_less, total_within}
 use Rattle.base.proofs.Members.{entry_past}
 use Rattle.lgs.specs.Market.{Market, matters, Rivals, ConsistentStages}
@@ -27,13 +27,7 @@ use Rattle.stages.specs.declared.rounds.Progress.{Progress}
 
 -- where the first round starts
 abbrev pub unsettled : ℕ → Progress
-unsettled n = record { resting = 0; moving = true; high = false; limit = n }
-
--- after a turn in which students were raised: `moved` has their workshops, `top` is the largest stage asked, `kinds` how many there can be, and `resting`
--- the workshops that agree
-abbrev pub after : Progress → ℕ → ℕ → ℕ → ℕ → Progress
-after p moved top kinds resting =
-    record { resting = resting; moving = p.moving || not (eqb moved 0); high = ltb (min p.limit kinds) top; limit = min p.limit kinds }
+unsettled n = record { resting = 0; moving = true; limit = n }
 
 -- ---- a workshop's turn is one of the round's, and the turn's workshop is that one
 module _ (m : ℕ) where
@@ -53,15 +47,14 @@ module _ (M : Market) where
   -- ---- one turn
 
   -- nothing is done
-  pub step_skips : (w : ℕ) (own : List ℕ) (p : Progress) → (p.high || member p.resting w) ≡ true → Stepped M w own own p p
+  pub step_skips : (w : ℕ) (own : List ℕ) (p : Progress) → member p.resting w ≡ true → Stepped M w own own p p
   step_skips w own p e =
       record {
         grows = λ s. omega arith;
         moving = λ m. inl m;
         still = λ m. m;
-        same = λ h. h;
-        rested = λ m h. ⊎_elim (λ t. never t h) (λ t. t) (or_true p.high _ e);
-        kept = λ m h v r. r;
+        rested = λ m. e;
+        kept = λ m v r. r;
       }
 
   -- where nobody with a pair at v was raised, v's students agree as before
@@ -79,10 +72,16 @@ module _ (M : Market) where
           (λ (l : stage_of own' s ≤ stage_of own s). omega (arith, R.grows s))
           (less? (stage_of own s) (stage_of own' s))
 
+  -- who is above what is enough for any assignment is above one that agrees
+  pub settled_none : (own : List ℕ) → Below M own → TooHigh M own → NoStages M
+  settled_none own B r stage C =
+      let t = r.1.within stage C in
+      let s = r.2 in
+      omega (arith, B.least t.0 t.2 t.1 s.0 s.1 s.2, t.3 s.0 s.1 s.2, s.3)
+
   -- the workshop's students are raised
-  module _ (w n : ℕ) (own own' : List ℕ) (p : Progress) (moved top kinds resting : ℕ) (size : M.students ≡ n) (G : Going M own p) (low : p.high ≡ false)
-      (R : Raised M w n own own' moved top) (E : Enough M kinds)
-      (set : (x : ℕ) → member resting x ≡ (eqb x w || (member p.resting x && not (member moved x)))) where
+  module _ (w n : ℕ) (own own' : List ℕ) (p : Progress) (moved top kinds : ℕ) (size : M.students ≡ n) (G : Going M own p)
+      (R : Raised M w n own own' moved top) (E : Enough M kinds) where
     -- the smaller of two numbers that are enough
     both : Enough M (min p.limit kinds)
     both =
@@ -90,58 +89,59 @@ module _ (M : Market) where
         (λ (l : kinds ≤ p.limit). rw (min-eq_right {n = kinds} {m = p.limit} l) E)
         (less? p.limit kinds)
 
-    raises_going : Going M own' (after p moved top kinds resting)
-    raises_going =
-        record {
-          sized = R.sized;
-          from_one = λ s l u. omega (arith, G.from_one s l u, R.grows s);
-          below = R.below G.below;
-          within = λ h s.
-              let t : top ≤ min p.limit kinds = ltb-false (min p.limit kinds) top h in
-              R.within M.students (omega (arith, t, min-le_left p.limit kinds, G.few)) (G.within low) s;
-          tall = λ h.
-              let t : min p.limit kinds < top = ltb-true (min p.limit kinds) top h in
-              let r : (s : ℕ) × (1 ≤ s) × (s ≤ n) × (stage_of own' s ≡ top) = R.tall (omega arith) in
-              (min p.limit kinds, both, (r.0, r.1, omega (arith, r.2), omega (arith, r.3)));
-          limit = both;
-          few = omega (arith, min-le_left p.limit kinds, G.few);
-          rest = λ v e.
-              ⊎_elim (λ (q : eqb v w ≡ true). rw (eqb-true v w q) R.agrees)
-              (λ (q : (member p.resting v && not (member moved v)) ≡ true).
-              agrees_still w n own own' moved top v R (not-true _ (and_right (member p.resting v) _ q))
-              (G.rest v (and_left (member p.resting v) _ q)))
-              (or_true (eqb v w) _ (sym (set v) ∙ e));
-        }
+    -- somebody is above what stages that agree can do with
+    pub too_high : min p.limit kinds < top → NoStages M
+    too_high h =
+        let r : (s : ℕ) × (1 ≤ s) × (s ≤ n) × (stage_of own' s ≡ top) = R.tall (omega arith) in
+        settled_none own' (R.below G.below) (min p.limit kinds, both, (r.0, r.1, omega (arith, r.2), omega (arith, h, r.3)))
 
-    raises_stepped : Stepped M w own own' p (after p moved top kinds resting)
-    raises_stepped =
-        record {
-          grows = R.grows;
-          moving = λ m. ⊎_elim inl (λ q. ⊎_elim (λ z. never (eq-eqb moved 0 z) (not-true _ q)) (λ r. inr (r.0, r.1, omega (arith, r.2), r.3)) R.some)
-              (or_true p.moving _ m);
-          still = λ m. (or_false p.moving _ m).0;
-          same = λ h. low;
-          rested = λ m h. set w ∙ rw (eq-eqb w w refl);
-          kept = λ m h v r.
-              let z : moved ≡ 0 = eqb-true moved 0 (not-false _ (or_false p.moving _ m).1) in
-              let none : member moved v ≡ false = rw z (member_zero v) in
-              set v ∙ rw (none, r) (or_last (eqb v w));
-        }
-      where
-        or_last : (b : Bool) → (b || true) ≡ true
-        or_last true = refl
-        or_last false = refl
+    -- what the turn leaves where nobody is too high
+    module _ (q : Progress) (move : q.moving ≡ (p.moving || not (eqb moved 0))) (least : q.limit ≡ min p.limit kinds) (low : top ≤ q.limit)
+        (set : (x : ℕ) → member q.resting x ≡ (eqb x w || (member p.resting x && not (member moved x)))) where
+      raises_going : Going M own' q
+      raises_going =
+          record {
+            sized = R.sized;
+            from_one = λ s l u. omega (arith, G.from_one s l u, R.grows s);
+            below = R.below G.below;
+            within = R.within M.students (omega (arith, low, least, min-le_left p.limit kinds, G.few)) G.within;
+            limit = rw least both;
+            few = omega (arith, least, min-le_left p.limit kinds, G.few);
+            rest = λ v e.
+                ⊎_elim (λ (q : eqb v w ≡ true). rw (eqb-true v w q) R.agrees)
+                (λ (q : (member p.resting v && not (member moved v)) ≡ true).
+                agrees_still w n own own' moved top v R (not-true _ (and_right (member p.resting v) _ q))
+                (G.rest v (and_left (member p.resting v) _ q)))
+                (or_true (eqb v w) _ (sym (set v) ∙ e));
+          }
 
-    pub step_raises : Going M own' (after p moved top kinds resting) × Stepped M w own own' p (after p moved top kinds resting)
-    step_raises = (raises_going, raises_stepped)
+      raises_stepped : Stepped M w own own' p q
+      raises_stepped =
+          record {
+            grows = R.grows;
+            moving = λ m. ⊎_elim inl (λ q. ⊎_elim (λ z. never (eq-eqb moved 0 z) (not-true _ q)) (λ r. inr (r.0, r.1, omega (arith, r.2), r.3)) R.some)
+                (or_true p.moving _ (sym move ∙ m));
+            still = λ m. (or_false p.moving _ (sym move ∙ m)).0;
+            rested = λ m. set w ∙ rw (eq-eqb w w refl);
+            kept = λ m v r.
+                let z : moved ≡ 0 = eqb-true moved 0 (not-false _ (or_false p.moving _ (sym move ∙ m)).1) in
+                let none : member moved v ≡ false = rw z (member_zero v) in
+                set v ∙ rw (none, r) (or_last (eqb v w));
+          }
+        where
+          or_last : (b : Bool) → (b || true) ≡ true
+          or_last true = refl
+          or_last false = refl
+
+      pub step_raises : Going M own' q × Stepped M w own own' p q
+      step_raises = (raises_going, raises_stepped)
 
   -- ---- the turns of a round: those before turn i were taken
   pub record Rounding (back : Bool) (own₀ own : List ℕ) (i : ℕ) (p : Progress) : Type 0 where
     pub going : Going M own p
     pub grows : (s : ℕ) → stage_of own₀ s ≤ stage_of own s
     pub moving : p.moving ≡ true → total (stage_of own₀) M.students < total (stage_of own) M.students
-    pub rested : p.moving ≡ false → p.high ≡ false → (v : ℕ) → 1 ≤ v → v ≤ M.workshops → turn_of M.workshops back v < i
-        → member p.resting v ≡ true
+    pub rested : p.moving ≡ false → (v : ℕ) → 1 ≤ v → v ≤ M.workshops → turn_of M.workshops back v < i → member p.resting v ≡ true
 
   pub rounding_none : (back : Bool) (own : List ℕ) (last : Progress) → Going M own (starting last) → Rounding back own own 1 (starting last)
   rounding_none back own last G =
@@ -149,7 +149,7 @@ module _ (M : Market) where
         going = G;
         grows = λ s. omega arith;
         moving = λ m. never m refl;
-        rested = λ m h v l u k. absurd (omega (arith, k, turn_from M.workshops back v l));
+        rested = λ m v l u k. absurd (omega (arith, k, turn_from M.workshops back v l));
       }
 
   pub rounding_more : (back : Bool) (own₀ own own' : List ℕ) (i : ℕ) (p q : Progress) → Rounding back own₀ own i p
@@ -169,9 +169,9 @@ module _ (M : Market) where
               total_less (stage_of own) (stage_of own') M.students r.0 r.1 r.2 S.grows r.3,
             ))
             (S.moving m);
-        rested = λ m h v l u k.
-            ⊎_elim (λ (b : turn_of M.workshops back v < i). S.kept m h v (I.rested (S.still m) (S.same h) v l u b))
-            (λ (b : i ≤ turn_of M.workshops back v). rw (turn_back M.workshops back v i l u (omega (arith, b, k))) (S.rested m h))
+        rested = λ m v l u k.
+            ⊎_elim (λ (b : turn_of M.workshops back v < i). S.kept m v (I.rested (S.still m) v l u b))
+            (λ (b : i ≤ turn_of M.workshops back v). rw (turn_back M.workshops back v i l u (omega (arith, b, k))) (S.rested m))
             (less? (turn_of M.workshops back v) i);
       }
 
@@ -179,22 +179,21 @@ module _ (M : Market) where
       → Going M own p × Rounded M own₀ own p
   rounded back own₀ own i p I all =
       let last = turn_to M.workshops back in
-      (I.going, record { grows = I.grows; moving = I.moving; rested = λ m h v l u. I.rested m h v l u (omega (arith, all, last v l u)) })
+      (I.going, record { grows = I.grows; moving = I.moving; rested = λ m v l u. I.rested m v l u (omega (arith, all, last v l u)) })
 
   -- ---- the rounds
   pub record Settling (own : List ℕ) (p : Progress) : Type 0 where
     pub going : Going M own p
-    pub rested : p.moving ≡ false → p.high ≡ false → (v : ℕ) → 1 ≤ v → v ≤ M.workshops → member p.resting v ≡ true
+    pub rested : p.moving ≡ false → (v : ℕ) → 1 ≤ v → v ≤ M.workshops → member p.resting v ≡ true
 
-  pub settling_none : WellFormed M → (n : ℕ) → M.students ≡ n → (own : List ℕ) → own ≡ replicate 512 1 → 1 ≤ n → n ≤ 512 → Settling own (unsettled n)
-  settling_none wf n size own e some few =
+  pub settling_none : WellFormed M → (n : ℕ) → M.students ≡ n → 1 ≤ n → n ≤ 512 → Settling (replicate 512 1) (unsettled n)
+  settling_none wf n size some few =
       record {
         going = record {
-          sized = ap length e ∙ length-replicate {A = ℕ} 512 1;
+          sized = length-replicate {A = ℕ} 512 1;
           from_one = λ s l u. omega (arith, ones s l (omega arith));
           below = record { least = λ stage F C s l u. omega (arith, ones s l (omega arith), F s l u) };
-          within = λ h s. omega (arith, small s);
-          tall = λ h. never h refl;
+          within = λ s. omega (arith, small s);
           rest = λ v r. never r (member_zero v);
           limit = record {
             within = λ stage C.
@@ -203,29 +202,28 @@ module _ (M : Market) where
           };
           few = omega arith;
         };
-        rested = λ m h. never refl m;
+        rested = λ m. never refl m;
       }
     where
-      ones : (s : ℕ) → 1 ≤ s → s ≤ 512 → stage_of own s ≡ 1
+      ones : (s : ℕ) → 1 ≤ s → s ≤ 512 → stage_of (replicate 512 1) s ≡ 1
       ones zero l u = absurd (omega arith)
-      ones (suc s) l u = rw e (get_or-replicate {A = ℕ} 512 s 1 0 (omega arith))
+      ones (suc s) l u = get_or-replicate {A = ℕ} 512 s 1 0 (omega arith)
 
-      small : (s : ℕ) → stage_of own s ≤ 1
+      small : (s : ℕ) → stage_of (replicate 512 1) s ≤ 1
       small zero = omega arith
       small (suc s) =
           ⊎_elim (λ (l : s < 512). omega (arith, ones (suc s) (omega arith) (omega arith)))
-          (λ (l : 512 ≤ s). omega (arith, entry_past own (suc s) (omega (arith, ap length e, length-replicate {A = ℕ} 512 1))))
+          (λ (l : 512 ≤ s). omega (arith, entry_past (replicate 512 1) (suc s) (omega (arith, length-replicate {A = ℕ} 512 1))))
           (less? s 512)
 
   -- what a round starts from
-  pub going_again : (own : List ℕ) (p : Progress) → Going M own p → p.high ≡ false → Going M own (starting p)
-  going_again own p G low =
+  pub going_again : (own : List ℕ) (p : Progress) → Going M own p → Going M own (starting p)
+  going_again own p G =
       record {
         sized = G.sized;
         from_one = G.from_one;
         below = G.below;
-        within = λ h. G.within low;
-        tall = λ h. never h refl;
+        within = G.within;
         rest = G.rest;
         limit = G.limit;
         few = G.few;
@@ -236,45 +234,35 @@ module _ (M : Market) where
 
   pub settled : (own : List ℕ) (p : Progress)
       → ((s w : ℕ) → M.paired s w ≡ true → ((1 ≤ s) × (s ≤ M.students)) × ((1 ≤ w) × (w ≤ M.workshops)))
-      → Settling own p → (p.moving && not p.high) ≡ false → Settled M own (not p.high)
-  settled own p named I e =
+      → Settling own p → p.moving ≡ false → Settled M own
+  settled own p named I still =
       record {
         sized = I.going.sized;
         from_one = I.going.from_one;
         below = I.going.below;
-        agree = λ y. record {
-          earlier = λ w s t R. (everywhere (not-true _ y) w s t R).earlier s t R;
-          together = λ w s t R. (everywhere (not-true _ y) w s t R).together s t R;
+        agree = record {
+          earlier = λ w s t R. (everywhere w s t R).earlier s t R;
+          together = λ w s t R. (everywhere w s t R).together s t R;
         };
-        tall = λ y. I.going.tall (not-false _ y);
       }
     where
-      still : p.high ≡ false → p.moving ≡ false
-      still h = ⊎_elim (λ m. m) (λ f. never (not-false _ f) h) (and_false p.moving _ e)
-
-      everywhere : p.high ≡ false → (w s t : ℕ) → Rivals M w s t → AgreesAt M own w
-      everywhere h w s t R =
+      everywhere : (w s t : ℕ) → Rivals M w s t → AgreesAt M own w
+      everywhere w s t R =
           let hers = named s w (matters_true M w s R.first).1 in
-          I.going.rest w (I.rested (still h) h w hers.1.0 hers.1.1)
+          I.going.rest w (I.rested still w hers.1.0 hers.1.1)
 
   -- ---- the rounds come to an end
   abbrev pub left : List ℕ → Progress → ℕ
-  left own p = 2 * (M.students * M.students - total (stage_of own) M.students) + one (p.moving && not p.high)
+  left own p = 2 * (M.students * M.students - total (stage_of own) M.students) + one p.moving
 
-  pub left_less : (own own' : List ℕ) (p q : Progress) → (p.moving && not p.high) ≡ true → Rounded M own own' q → Going M own' q
-      → left own' q < left own p
+  pub left_less : (own own' : List ℕ) (p q : Progress) → p.moving ≡ true → Rounded M own own' q → Going M own' q → left own' q < left own p
   left_less own own' p q e R G =
       rw e
       (⊎_elim
-      (λ (f : (q.moving && not q.high) ≡ true).
-      rw f
-      (omega (
-        arith,
-        R.moving (and_left q.moving _ f),
-        total_within (stage_of own') M.students M.students (λ k l u. G.within (not-true _ (and_right q.moving _ f)) k),
-      )))
-      (λ (f : (q.moving && not q.high) ≡ false). rw f (omega (arith, total_le (stage_of own) (stage_of own') M.students R.grows)))
-      (bool_cases (q.moving && not q.high)))
+      (λ (f : q.moving ≡ true).
+      rw f (omega (arith, R.moving f, total_within (stage_of own') M.students M.students (λ k l u. G.within k))))
+      (λ (f : q.moving ≡ false). rw f (omega (arith, total_le (stage_of own) (stage_of own') M.students R.grows)))
+      (bool_cases q.moving))
 
 -- ---- what the stages are then
 module _ (M : Market) (own : List ℕ) (few : M.students ≤ 512) (size : length own ≡ 512) where
@@ -304,10 +292,10 @@ module _ (M : Market) (wf : WellFormed M) (own : List ℕ) (few : M.students ≤
       same : (s w : ℕ) → matters M w s ≡ true → stage_of (take M.students own) s ≡ stage_of own s
       same s w m = let r = wf.student s w (matters_true M w s m).1 in part_same M own few size s r.0 r.1
 
-  pub settled_least : Settled M own true → LeastStages M (take M.students own)
+  pub settled_least : Settled M own → LeastStages M (take M.students own)
   settled_least S =
       let size : length own ≡ 512 = S.sized in
-      let C : ConsistentStages M (stage_of (take M.students own)) = part_agree size (S.agree refl) in
+      let C : ConsistentStages M (stage_of (take M.students own)) = part_agree size S.agree in
       let least : (stage : ℕ → ℕ) → FromOne M stage → ConsistentStages M stage → (s : ℕ) → stage_of (take M.students own) s ≤ stage s =
       part_below M own few size S.below in
       record {
@@ -319,11 +307,3 @@ module _ (M : Market) (wf : WellFormed M) (own : List ℕ) (few : M.students ≤
         agree = C;
         least = least;
       }
-
--- who is above what is enough for any assignment is above one that agrees
-pub settled_none : (M : Market) (own : List ℕ) → Settled M own false → NoStages M
-settled_none M own S stage C =
-    let r : TooHigh M own = S.tall refl in
-    let t = r.1.within stage C in
-    let s = r.2 in
-    omega (arith, S.below.least t.0 t.2 t.1 s.0 s.1 s.2, t.3 s.0 s.1 s.2, s.3)

@@ -2,17 +2,16 @@
 use Prim.Native.Nat.{ℕ, ◌≤◌, ◌<◌}
 use mathlib.Core.Path.{◌≡◌}
 use mathlib.Core.Logic.{⊎_elim}
-use mathlib.Core.Bool.{true, false, cond}
-use mathlib.Core.List.{List}
+use mathlib.Core.Bool.{true, false}
 use native.Mathlib.Omega.{arith}
-use lib.Dec.{ltb}
-use borrow.Author.Tests.{eq-eqb, ne_eqb, lt-ltb, le-ltb}
-use Rattle.base.proofs.Tests.{bool_cases, eq?, less?, is_false, never}
+use borrow.Author.Tests.{eq-eqb, ne_eqb}
+use Rattle.base.proofs.Tests.{bool_cases, eq?, is_false, never}
 use Rattle.lgs.specs.Market.{Market, matters, workshop_outside}
 use Rattle.lgs.proofs.Valid.{WellFormed}
 use Rattle.lgs.proofs.Matters.{matters_true, matters_is}
 use Rattle.format.specs.Engine.{market_in}
-use Rattle.stages.specs.Raising.{Ready, reach_of, tier_for}
+use Rattle.stages.specs.Raising.{reach_of, tier_for}
+use Rattle.stages.specs.declared.input.Input.{Input}
 
 module _ (M : Market) (w : ℕ) where
   -- a workshop without seats reaches nowhere
@@ -29,22 +28,16 @@ module _ (M : Market) (w : ℕ) where
     pub unpaired_tier : M.paired s w ≡ false → 0 ≡ tier_for M w s
     unpaired_tier e = tier_zero (λ t. never (matters_true M w s t).1 e)
 
-    -- a pair's tier, or 0 where it is beyond the reach
-    pub tier_known : M.paired s w ≡ true → 1 ≤ M.workshop_tier w s
-        → cond (ltb (reach_of M w) (M.workshop_tier w s)) 0 (M.workshop_tier w s) ≡ tier_for M w s
-    tier_known p l = ⊎_elim beyond within (less? (reach_of M w) (M.workshop_tier w s))
-      where
-        beyond : reach_of M w < M.workshop_tier w s → cond (ltb (reach_of M w) (M.workshop_tier w s)) 0 (M.workshop_tier w s) ≡ tier_for M w s
-        beyond b =
-            rw (lt-ltb (reach_of M w) (M.workshop_tier w s) b)
-            (tier_zero (λ t. let m = matters_true M w s t in omega (arith, b, m.2, reach_outside (λ z. omega (arith, m.0, z)))))
+    -- of a pair, the student's tier, or 0 where it is beyond the reach
+    module _ (l : 1 ≤ M.workshop_tier w s) where
+      pub tier_beyond : reach_of M w < M.workshop_tier w s → 0 ≡ tier_for M w s
+      tier_beyond b = tier_zero (λ t. let m = matters_true M w s t in omega (arith, b, m.2, reach_outside (λ z. omega (arith, m.0, z))))
 
-        within : M.workshop_tier w s ≤ reach_of M w → cond (ltb (reach_of M w) (M.workshop_tier w s)) 0 (M.workshop_tier w s) ≡ tier_for M w s
-        within u =
-            ⊎_elim (λ (z : M.quota w ≡ 0). absurd (omega (arith, reach_none z, l, u)))
-            (λ (n : M.quota w ≡ 0 → ⊥).
-            rw (le-ltb (reach_of M w) (M.workshop_tier w s) u, matters_is M w s (omega (arith, n)) p (omega (arith, reach_outside n, u))))
-            (eq? (M.quota w) 0)
+      pub tier_within : M.paired s w ≡ true → M.workshop_tier w s ≤ reach_of M w → M.workshop_tier w s ≡ tier_for M w s
+      tier_within p u =
+          ⊎_elim (λ (z : M.quota w ≡ 0). absurd (omega (arith, reach_none z, l, u)))
+          (λ (n : M.quota w ≡ 0 → ⊥). rw (matters_is M w s (omega (arith, n)) p (omega (arith, reach_outside n, u))))
+          (eq? (M.quota w) 0)
 
     pub tier_most : (M.paired s w ≡ true → M.workshop_tier w s ≤ 513) → tier_for M w s ≤ 513
     tier_most f =
@@ -52,10 +45,10 @@ module _ (M : Market) (w : ℕ) where
         (bool_cases (matters M w s))
 
 -- the market of a case that is ready is well formed
-pub ready_wf : (case table : List ℕ) (n m : ℕ) → Ready case table n m → WellFormed (market_in case)
-ready_wf case table n m r =
+pub ready_wf : (i : Input) → WellFormed (market_in i.table.case.now)
+ready_wf i =
     record {
-      student = λ s w p. let k = r.named s w p in (k.0.0, omega (arith, k.0.1, r.students));
-      workshop = λ s w p. let k = r.named s w p in (k.1.0, omega (arith, k.1.1, r.workshops));
-      tier = r.student_tier;
+      student = λ s w p. let k = i.ready.named s w p in (k.0.0, omega (arith, k.0.1, i.ready.students));
+      workshop = λ s w p. let k = i.ready.named s w p in (k.1.0, omega (arith, k.1.1, i.ready.workshops));
+      tier = i.ready.student_tier;
     }

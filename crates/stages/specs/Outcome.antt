@@ -1,7 +1,6 @@
 -- The part that works out the stages (document 02, Paper 2): "reads a case and returns a stage for each student, each as small as agreement with every workshop
 -- permits, starting at 1". Its causes, its answer, and the lent buffer after it.
-use Rattle.std.specs.Prelude.{ℕ, Bool, true, false, List, [], ◌∷◌, ◌++◌, length, ltb}
-use Rattle.std.proofs.Math.Option.{Option, some, none}
+use Rattle.std.specs.Prelude.{ℕ, Bool, true, false, List, [], ◌∷◌, ◌++◌, length, ltb, Option, Some, None}
 use Rattle.lgs.specs.Stages.{least_stages}
 use Rattle.format.specs.Causes.{Cause, whole, first_cause}
 use Rattle.format.specs.Refusals.{case_causes}
@@ -16,8 +15,8 @@ pub data StagesOutcome : Type 0 where
 
 -- 12: "when no stage numbers agree"
 unfoldable pub none_agree : Option (List ℕ) → Bool
-none_agree (some stages) = false
-none_agree none = true
+none_agree (Some stages) = false
+none_agree None = true
 
 -- 6 "covers their own buffers too (an entry for each thing returned ..)"; the part is lent no scratch
 unfoldable pub stages_room_causes : List ℕ → ℕ → List Cause
@@ -31,9 +30,9 @@ stages_causes case room = case_causes case ++ (stages_room_causes case room ++ (
 
 -- the last line is never used: where there are no least stages, cause 12 finds it
 unfoldable pub stages_unless : Option (ℕ × ℕ) → Option (List ℕ) → StagesOutcome
-stages_unless (some r) least = unstaged r.0 r.1
-stages_unless none (some stages) = staged stages
-stages_unless none none = unstaged 12 0
+stages_unless (Some r) least = unstaged r.0 r.1
+stages_unless None (Some stages) = staged stages
+stages_unless None None = unstaged 12 0
 
 -- a refusal, or else the least stages that agree
 unfoldable pub work_out : List ℕ → ℕ → StagesOutcome

@@ -1,21 +1,19 @@
 -- One workshop: what it asks of the students who matter to it, and what raising them to that leaves.
-use Rattle.std.specs.Prelude.{ℕ, suc, ◌+◌, ◌-◌, ◌≤◌, ◌<◌, max, ◌≡◌, ◌⊎◌, Bool, true, not, cond, ◌||◌, List, eqb, length, get_or}
+use Rattle.std.specs.Prelude.{ℕ, suc, ◌-◌, ◌≤◌, ◌<◌, max, ◌≡◌, ◌⊎◌, Bool, true, not, cond, ◌||◌, List, eqb, length, get_or}
 use Rattle.base.specs.Below.{any_below}
 use Rattle.base.specs.Bits.{member}
 use Rattle.lgs.specs.Market.{Market, matters, Rivals, ConsistentStages, workshop_outside}
 use Rattle.lgs.specs.Stages.{stage_of, FromOne}
 use Rattle.format.specs.Engine.{market_in}
-use Rattle.tables.specs.Table.{Tabled}
 use Rattle.lookup.specs.Clean.{WorkshopAt, PairAt}
 
--- What the code needs of a case with n students and m workshops, and of its table: true where the case's causes find nothing.
-pub record Ready (case table : List ℕ) (n m : ℕ) : Type 0 where
+-- What the code needs of a case with n students and m workshops: true where the case's causes find nothing.
+pub record Ready (case : List ℕ) (n m : ℕ) : Type 0 where
   pub students : (market_in case).students ≡ n
   pub workshops : (market_in case).workshops ≡ m
   pub some_students : 1 ≤ n
   pub many_students : n ≤ 512
   pub many_workshops : m ≤ 64
-  pub tabled : Tabled case table
   pub workshop : (w : ℕ) → 1 ≤ w → w ≤ m → WorkshopAt case n w
   pub pair : (s w : ℕ) → (market_in case).paired s w ≡ true → PairAt case s w
   pub named : (s w : ℕ) → (market_in case).paired s w ≡ true → ((1 ≤ s) × (s ≤ n)) × ((1 ≤ w) × (w ≤ m))
@@ -61,10 +59,6 @@ stands_for T s = eqb (T s) 0 || not (any_below (λ k. eqb (T (suc k)) (T s)) (s 
 pub record Capped (tops : List ℕ) : Type 0 where
   pub sized : length tops ≡ 514
   pub small : (g : ℕ) → get_or tops g 0 ≤ 512
-
--- the stage of a tier whose students have at most `top`, where better tiers have at most `best`
-abbrev pub climbed_of : ℕ → ℕ → ℕ
-climbed_of top best = cond (eqb top 0) 0 (max top (best + 1))
 
 -- the numbers are no smaller than those of the tiers that have students, and rise over them
 pub record Rises (tops : List ℕ) (f : ℕ → ℕ) : Type 0 where

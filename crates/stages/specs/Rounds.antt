@@ -9,7 +9,7 @@ use Rattle.stages.specs.declared.rounds.Progress.{Progress}
 
 -- a round's beginning
 abbrev pub starting : Progress → Progress
-starting last = record { resting = last.resting; moving = false; high = false; limit = last.limit }
+starting last = record { resting = last.resting; moving = false; limit = last.limit }
 
 -- the workshop, of m, that has turn i of a round, and also the turn of workshop i
 abbrev pub turn_of : ℕ → Bool → ℕ → ℕ
@@ -20,13 +20,12 @@ module _ (M : Market) where
   abbrev pub TooHigh : List ℕ → Type 0
   TooHigh own = (k : ℕ) × Enough M k × ((s : ℕ) × (1 ≤ s) × (s ≤ M.students) × (k < stage_of own s))
 
-  -- between turns: nobody's stage is above that of any assignment that agrees, and the resting workshops agree
+  -- between turns: nobody's stage is above that of any assignment that agrees, nor above the number of students, and the resting workshops agree
   pub record Going (own : List ℕ) (p : Progress) : Type 0 where
     pub sized : length own ≡ 512
     pub from_one : FromOne M (stage_of own)
     pub below : Below M own
-    pub within : p.high ≡ false → (s : ℕ) → stage_of own s ≤ M.students
-    pub tall : p.high ≡ true → TooHigh own
+    pub within : (s : ℕ) → stage_of own s ≤ M.students
     pub rest : (v : ℕ) → member p.resting v ≡ true → AgreesAt M own v
     pub limit : Enough M p.limit
     pub few : p.limit ≤ M.students
@@ -36,20 +35,18 @@ module _ (M : Market) where
     pub grows : (s : ℕ) → stage_of old s ≤ stage_of new s
     pub moving : q.moving ≡ true → (p.moving ≡ true) ⊎ ((s : ℕ) × (1 ≤ s) × (s ≤ M.students) × (stage_of old s < stage_of new s))
     pub still : q.moving ≡ false → p.moving ≡ false
-    pub same : q.high ≡ false → p.high ≡ false
-    pub rested : q.moving ≡ false → q.high ≡ false → member q.resting w ≡ true
-    pub kept : q.moving ≡ false → q.high ≡ false → (v : ℕ) → member p.resting v ≡ true → member q.resting v ≡ true
+    pub rested : q.moving ≡ false → member q.resting w ≡ true
+    pub kept : q.moving ≡ false → (v : ℕ) → member p.resting v ≡ true → member q.resting v ≡ true
 
   -- a round: somebody was raised, or every workshop rests
   pub record Rounded (old new : List ℕ) (q : Progress) : Type 0 where
     pub grows : (s : ℕ) → stage_of old s ≤ stage_of new s
     pub moving : q.moving ≡ true → total (stage_of old) M.students < total (stage_of new) M.students
-    pub rested : q.moving ≡ false → q.high ≡ false → (v : ℕ) → 1 ≤ v → v ≤ M.workshops → member q.resting v ≡ true
+    pub rested : q.moving ≡ false → (v : ℕ) → 1 ≤ v → v ≤ M.workshops → member q.resting v ≡ true
 
-  -- all rounds: the stages agree, or somebody is too high
-  pub record Settled (own : List ℕ) (yes : Bool) : Type 0 where
+  -- all rounds: the stages agree, and no assignment that agrees has an earlier one
+  pub record Settled (own : List ℕ) : Type 0 where
     pub sized : length own ≡ 512
     pub from_one : FromOne M (stage_of own)
     pub below : Below M own
-    pub agree : yes ≡ true → ConsistentStages M (stage_of own)
-    pub tall : yes ≡ false → TooHigh own
+    pub agree : ConsistentStages M (stage_of own)

@@ -1,67 +1,40 @@
-// The workshops in turn, round after round, until nobody is raised. `own` has each student's stage so far; `tiers` and `tops` are room to work in.
-ghost use Rattle.std.specs.Prelude.{◌≡◌, true, false, ◌≤◌, min, length, replicate};
+// The workshops in turn, round after round, until nobody is raised. `own` has each student's stage so far.
+ghost use Rattle.std.specs.Prelude.{◌≡◌, ◌≤◌, MatchOption};
+ghost use Rattle.lgs.specs.Stages.{NoStages};
 ghost use Rattle.format.specs.Engine.{market_in};
-ghost use Rattle.stages.specs.Raising.{Ready};
 ghost use Rattle.stages.specs.Rounds.{starting, turn_of, Going, Stepped, Rounded, Settled};
 
+use super::input::Input;
 use super::raising::raise;
 
-// Where a round stands: the workshops whose students agree, whether somebody was raised in it, how many stages there can be at most, and whether somebody
-// is above that.
+// Where a round stands: the workshops whose students agree, whether somebody was raised in it, and how many stages there can be at most.
 #[derive(Clone, Copy)]
 pub struct Progress {
     pub resting: u64,
     pub moving: bool,
-    pub high: bool,
     pub limit: usize,
 }
 
-// The smaller of two limits.
-fn smaller(a: usize, b: usize) -> usize
-    ensures { result ≡ min a b }
+// Workshop w's turn: nothing is done where its students agree already. None where somebody is above the number of stages that there can be.
+fn step(input: &Input<'_>, w: usize, own: &mut [u16; 512], p: Progress) -> Option<Progress>
+    requires le_w { (1 ≤ w) × (w ≤ input.now.workshops) }
+    requires going { Going (market_in input.now.table.case.now) own.old p }
+    ensures { MatchOption result (NoStages (market_in input.now.table.case.now))
+        (λ q. Going (market_in input.now.table.case.now) own.new q × Stepped (market_in input.now.table.case.now) w own.old own.new p q) }
 {
-    if a < b { a } else { b }
-}
-
-// Workshop w's turn: nothing is done where its students agree already.
-fn step(
-    case: &[u8],
-    table: &[u64],
-    students: usize,
-    workshops: usize,
-    w: usize,
-    own: &mut [u16],
-    tiers: &mut [u16],
-    tops: &mut [u16],
-    p: Progress,
-) -> Progress
-    requires ready { Ready case.now table.now students workshops }
-    requires le_w { (1 ≤ w) × (w ≤ workshops) }
-    requires tiers_len { (length tiers.old ≡ 512) × (length tops.old ≡ 514) }
-    requires going { Going (market_in case.now) own.old p }
-    ensures going_2 { Going (market_in case.now) own.new result }
-    ensures stepped { Stepped (market_in case.now) w own.old own.new p result }
-{
-    if p.high | bits::has_bit(p.resting, w) {
-        return p;
+    if bits::has_bit(p.resting, w) {
+        return Some(p);
     }
-    let r = raise(
-        case,
-        table,
-        students,
-        workshops,
-        w,
-        &mut *own,
-        &mut *tiers,
-        &mut *tops,
-    );
-    let limit = smaller(p.limit, r.kinds);
-    Progress {
+    let r = raise(input, w, &mut *own);
+    let limit = p.limit.min(r.kinds);
+    if limit < usize::from(r.top) {
+        return None;
+    }
+    Some(Progress {
         resting: bits::with_bit(bits::minus(p.resting, r.moved), w),
-        moving: p.moving | (r.moved != 0),
-        high: limit < r.top as usize,
+        moving: p.moving || r.moved != 0,
         limit,
-    }
+    })
 }
 
 // The workshop that has turn i of a round: rounds go up and down in turn.
@@ -72,92 +45,37 @@ fn turn_of(workshops: usize, back: bool, i: usize) -> usize
     if back { workshops - i + 1 } else { i }
 }
 
-// Where the next round begins.
-fn again(p: Progress) -> Progress
-    ensures { result ≡ starting p }
+// A round: every workshop has its turn. None where no stages agree.
+fn round(input: &Input<'_>, own: &mut [u16; 512], last: Progress, back: bool) -> Option<Progress>
+    requires { Going (market_in input.now.table.case.now) own.old (starting last) }
+    ensures { MatchOption result (NoStages (market_in input.now.table.case.now))
+        (λ q. Going (market_in input.now.table.case.now) own.new q × Rounded (market_in input.now.table.case.now) own.old own.new q) }
 {
-    Progress {
-        resting: p.resting,
+    let mut p = Progress {
         moving: false,
-        high: false,
-        limit: p.limit,
+        ..last
+    };
+    for i in 1..=input.workshops {
+        p = step(input, turn_of(input.workshops, back, i), &mut *own, p)?;
     }
+    Some(p)
 }
 
-// A round: every workshop has its turn.
-fn round(
-    case: &[u8],
-    table: &[u64],
-    students: usize,
-    workshops: usize,
-    own: &mut [u16],
-    tiers: &mut [u16],
-    tops: &mut [u16],
-    last: Progress,
-    back: bool,
-) -> Progress
-    requires ready { Ready case.now table.now students workshops }
-    requires tiers_len { (length tiers.old ≡ 512) × (length tops.old ≡ 514) }
-    requires going { Going (market_in case.now) own.old (starting last) }
-    ensures going_2 { Going (market_in case.now) own.new result }
-    ensures rounded { Rounded (market_in case.now) own.old own.new result }
+// Rounds until nobody is raised. None where no stages agree.
+pub fn settle(input: &Input<'_>) -> Option<[u16; 512]>
+    ensures { MatchOption result (NoStages (market_in input.now.table.case.now)) (λ own. Settled (market_in input.now.table.case.now) own) }
 {
-    let mut p = again(last);
-    let mut i = 1;
-    while i <= workshops {
-        let next = step(
-            case,
-            table,
-            students,
-            workshops,
-            turn_of(workshops, back, i),
-            &mut *own,
-            &mut *tiers,
-            &mut *tops,
-            p,
-        );
-        p = next;
-        i += 1;
-    }
-    p
-}
-
-// Rounds until nobody is raised, or somebody is above the number of stages that there can be: then no stages agree.
-pub fn settle(
-    case: &[u8],
-    table: &[u64],
-    students: usize,
-    workshops: usize,
-    own: &mut [u16],
-    tiers: &mut [u16],
-    tops: &mut [u16],
-) -> bool
-    requires ready { Ready case.now table.now students workshops }
-    requires tiers_len { (length tiers.old ≡ 512) × (length tops.old ≡ 514) }
-    requires own_value { own.old ≡ replicate 512 1 }
-    ensures { Settled (market_in case.now) own.new result }
-{
+    let mut own = [1u16; 512];
     let mut p = Progress {
         resting: 0,
         moving: true,
-        high: false,
-        limit: students,
+        limit: input.students,
     };
     let mut back = false;
-    while p.moving & !p.high {
-        let next = round(
-            case,
-            table,
-            students,
-            workshops,
-            &mut *own,
-            &mut *tiers,
-            &mut *tops,
-            p,
-            back,
-        );
-        p = next;
+    // No range counts the rounds: they end when nobody is raised.
+    while p.moving {
+        p = round(input, &mut own, p, back)?;
         back = !back;
     }
-    !p.high
+    Some(own)
 }

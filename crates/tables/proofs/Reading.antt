@@ -174,6 +174,10 @@ unfolding count
 count_all p zero all = refl
 count_all p (suc n) all = rw (all (suc n) (omega arith) (omega arith)) (omega (arith, count_all p n (λ x f g. all x f (omega arith))))
 
+-- the same, told in another way
+pub stretch_as : (case : List ℕ) (s first many begin told : ℕ) → begin ≡ first → told ≡ many → Stretch case s first many → Stretch case s begin told
+stretch_as case s first many begin told d e S = rw (d, e) S
+
 -- ---- what the readers give
 module _ (case table : List ℕ) (T : Tabled case table) (s : ℕ) where
   pub stretch : 1 ≤ s → s ≤ 512 → Stretch case s (first_of table s) (pairs_up_to table s 64)
@@ -193,7 +197,8 @@ module _ (case table : List ℕ) (T : Tabled case table) (s : ℕ) where
           × ((market_in case).paired s (workshop_in case (first_of table s + k)) ≡ true)
           × (pair_place case s (workshop_in case (first_of table s + k)) ≡ first_of table s + k)
       at k l =
-          let r : (w : ℕ) × (1 ≤ w) × (w ≤ 64) × (member (set_of table s) w ≡ true) × (pairs_up_to table s (w - 1) ≡ k) = nth (member (set_of table s)) 64 k l in
+          let r : (w : ℕ) × (1 ≤ w) × (w ≤ 64) × (member (set_of table s) w ≡ true) × (pairs_up_to table s (w - 1) ≡ k) =
+          nth (member (set_of table s)) 64 k l in
           let e : (market_in case).paired s r.0 ≡ true = sym (T.set s r.0 f g) ∙ r.3 in
           let q : pair_place case s r.0 ≡ first_of table s + k = T.place s r.0 e ∙ ap (λ (x : ℕ). first_of table s + x) r.4 in
           let t : (first_of table s + k < row_count case) × (is_pair s r.0 (row_at case (first_of table s + k)) ≡ true) = rw q at (pair_there case s r.0 e) in

@@ -1,12 +1,12 @@
 -- A book record by its pair's record and the index, and when two records tie.
-use Prim.Native.Nat.{ℕ, suc, ◌+◌, ◌-◌, ◌*◌, ◌≤◌, ◌<◌}
+use Prim.Native.Nat.{ℕ, zero, suc, ◌+◌, ◌-◌, ◌*◌, ◌≤◌, ◌<◌}
 use mathlib.Core.Path.{◌≡◌, refl, sym, ap, ◌∙◌}
 use mathlib.Core.Logic.{⊎_elim}
 use mathlib.Core.Bool.{Bool, true, false, not}
 use mathlib.Core.List.{List}
-use mathlib.Core.Option.{Option, some, none}
+use Rattle.std.specs.Prelude.{Option, Some, None}
+use Rattle.std.specs.Bool.{then_some}
 use native.Mathlib.Omega.{arith}
-use native.Mathlib.Numerals.{unary_clauses}
 use lib.ListN.{length, get_or}
 use lib.Dec.{eqb}
 use borrow.Author.Tests.{eq-eqb, eqb-true, not-true, not-false}
@@ -14,7 +14,7 @@ use Rattle.base.specs.Words.{signed}
 use Rattle.base.specs.Search.{first_bad}
 use Rattle.base.proofs.Tests.{bool_cases, and_left, and_right, and_make}
 use Rattle.base.proofs.Search.{none_fails, first_below, first_passes, scan_found}
-use Rattle.format.specs.Layout.{rows, row_at, entries, entry_count, entry_at, is_interview, says_never, market_of}
+use Rattle.format.specs.Layout.{rows, row_at, row_count, entries, entry_count, entry_at, is_interview, says_never, market_of}
 use Rattle.format.specs.Refusals.{bad_pair, bad_repeat, student_ties}
 use Rattle.format.specs.Engine.{market_in}
 use Rattle.format.proofs.Positions.{pair_says, pair_names, student_tier_at}
@@ -26,32 +26,46 @@ use Rattle.book_tests.proofs.Laws.{entry_is}
 use Rattle.book_tests.proofs.Indexing.{Placed, placed_by, index_at_lem, number_none, repeat_is}
 use Rattle.ties.specs.Ties.{Indexed, tested, tie}
 
+-- the record is not passed over
+abbrev pub Counted : List ℕ → ℕ → Type 0
+Counted book i = says_never (entry_at book i).student_score ≡ false
+
 -- ---- a record that is passed over, and one that is not
 module _ (book : List ℕ) where
-  pub tested_over : (k : ℕ) → says_never (entry_at book (k - 1)).student_score ≡ true → tested book k ≡ 0
+  pub tested_none : tested book 0 ≡ None
   unfolding tested
-  tested_over k e = rw e
+  tested_none = refl
 
-  pub tested_own : (k : ℕ) → says_never (entry_at book (k - 1)).student_score ≡ false → tested book k ≡ k
-  unfolding tested
-  tested_own k e = rw e
+  module _ (i : ℕ) where
+    pub tested_over : says_never (entry_at book i).student_score ≡ true → tested book (suc i) ≡ None
+    unfolding tested
+    tested_over e = rw e
 
-  pub tested_none : tested book 0 ≡ 0
-  tested_none = ⊎_elim (tested_over 0) (tested_own 0) (bool_cases (says_never (entry_at book (0 - 1)).student_score))
+    pub tested_own : Counted book i → tested book (suc i) ≡ Some i
+    unfolding tested
+    tested_own e = rw e
 
-  tested_is : (k : ℕ) → 0 < tested book k → (tested book k ≡ k) × (says_never (entry_at book (k - 1)).student_score ≡ false)
-  tested_is k l =
-      ⊎_elim (λ e. absurd (omega (arith, tested_over k e))) (λ e. (tested_own k e, e)) (bool_cases (says_never (entry_at book (k - 1)).student_score))
+  pub tested_is : (k i : ℕ) → tested book k ≡ Some i → (k ≡ suc i) × Counted book i
+  tested_is zero i e = absurd (let z = tested_none in cc)
+  tested_is (suc k) i e =
+      ⊎_elim (λ o. absurd (let z = tested_over k o in cc)) (λ o. let z = tested_own k o in let r : k ≡ i = cc in (ap suc r, rw r at o))
+      (bool_cases (says_never (entry_at book k).student_score))
+
+  -- what `tested_at` gives for a number from 1
+  pub tested_by : (k i : ℕ) → 1 ≤ k → i ≡ k - 1 → (never : Bool) → never ≡ says_never (entry_at book i).student_score
+      → then_some (not never) i ≡ tested book k
+  tested_by k i l e never n =
+      let q : k ≡ suc i = omega arith in rw q (go never n)
+    where
+      go : (never : Bool) → never ≡ says_never (entry_at book i).student_score → then_some (not never) i ≡ tested book (suc i)
+      go true n = sym (tested_over i (sym n))
+      go false n = sym (tested_own i (sym n))
 
 -- ---- two records that tie
 
 -- tier and score of record i, in one number
 abbrev pub key_of : List ℕ → List ℕ → ℕ → ℕ
 key_of case book i = (market_in case).student_tier (entry_at book i).student (entry_at book i).workshop * 65536 + (entry_at book i).student_score
-
--- the record is not passed over
-abbrev pub Counted : List ℕ → ℕ → Type 0
-Counted book i = says_never (entry_at book i).student_score ≡ false
 
 pub record Tied (case book : List ℕ) (i j : ℕ) : Type 0 where
   pub student : (entry_at book j).student ≡ (entry_at book i).student
@@ -89,25 +103,25 @@ module _ (case book : List ℕ) (i j : ℕ) where
       (and_make (eq-eqb (entry_at book j).student_score (entry_at book i).student_score (omega (arith, q, score_fits book i, score_fits book j))) (ap not c)))
 
 -- ---- a number is that of a place, and at most that of the last one
-number_some : (p : ℕ → Bool) (n : ℕ) → 0 < from_one (first_bad p n) → first_bad p n ≡ some (from_one (first_bad p n) - 1)
-number_some p n l = go (first_bad p n) l
+number_some : (p : ℕ → Bool) (n i : ℕ) → from_one (first_bad p n) ≡ suc i → first_bad p n ≡ Some i
+number_some p n i = go (first_bad p n)
   where
-    go : (o : Option ℕ) → 0 < from_one o → o ≡ some (from_one o - 1)
-    go none l = absurd (omega arith)
-    go (some i) l = ap some (omega arith)
+    go : (o : Option ℕ) → from_one o ≡ suc i → o ≡ Some i
+    go None e = absurd (omega arith)
+    go (Some j) e = ap Some (omega arith)
 
 number_few : (p : ℕ → Bool) (n : ℕ) → from_one (first_bad p n) ≤ n
 number_few p n = go (first_bad p n) refl
   where
     go : (o : Option ℕ) → first_bad p n ≡ o → from_one o ≤ n
-    go none e = omega arith
-    go (some i) e = first_below p n i e
+    go None e = omega arith
+    go (Some i) e = first_below p n i e
 
 -- where the pair of record i stands
 abbrev pub place_of : List ℕ → List ℕ → ℕ → ℕ
 place_of case book i = pair_place case (entry_at book i).student (entry_at book i).workshop
 
-module _ (case book index : List ℕ) (first : ℕ) (I : Indexed case book index first) where
+module _ {case book index : List ℕ} {first : ℕ} (I : Indexed case book index first) where
   abbrev n : ℕ
   n = (market_in case).students
 
@@ -153,76 +167,82 @@ module _ (case book index : List ℕ) (first : ℕ) (I : Indexed case book index
         (and_make (eq-eqb (entry_at book i).student (entry_at book i).student refl) (eq-eqb (entry_at book i).workshop (entry_at book i).workshop refl)) l)
 
   -- ---- a student's pairs
-  module _ (s begin many : ℕ) (S : Stretch case s begin many) where
+  module _ {s begin many : ℕ} (S : Stretch case s begin many) where
     -- her records have pairs among them
     pub entry_within : (i : ℕ) → i < entry_count book → (entry_at book i).student ≡ s → (begin ≤ place_of case book i) × (place_of case book i < begin + many)
     entry_within i l e = rw (← e) at (S.all (entry_at book i).workshop (rw e at (entry_paired i l)))
 
-    module _ (k : ℕ) (l : k < many) where
-      abbrev p : ℕ
-      p = begin + k
+    -- ---- pair record p is one of them
+    module _ (p : ℕ) (from : begin ≤ p) (to : p < begin + many) where
+      abbrev k : ℕ
+      k = p - begin
 
       abbrev w : ℕ
       w = workshop_in case p
 
+      this : begin + k ≡ p
+      this = omega arith
+
+      paired : (market_in case).paired s w ≡ true
+      paired = rw this at (S.paired k (omega arith))
+
+      stands : pair_place case s w ≡ p
+      stands = rw this at (S.place k (omega arith))
+
       at_index : get_or index (p - first) 0 ≡ from_one (first_bad (λ i. is_interview s w (entry_at book i)) (entry_count book))
-      at_index = ap (λ q. get_or index (q - first) 0) (sym (S.place k l)) ∙ index_there s w (S.paired k l)
+      at_index = ap (λ q. get_or index (q - first) 0) (sym stands) ∙ index_there s w paired
+
+      pub at_row : p < row_count case
+      at_row = rw this at (S.inside k (omega arith))
 
       pub at_spot : (first ≤ p) × (p - first < length index) × (get_or index (p - first) 0 ≤ entry_count book)
       at_spot =
-          let q = placed s w (S.paired k l) in
-          let e = S.place k l in (
-            omega (arith, q.from, I.from, e),
-            omega (arith, q.within, I.from, I.room, e),
+          let q = placed s w paired in (
+            omega (arith, q.from, I.from, stands),
+            omega (arith, q.within, I.from, I.room, stands),
             rw at_index (number_few (λ i. is_interview s w (entry_at book i)) (entry_count book)),
           )
 
-      -- r is what `tested_at` gives
-      module _ (r : ℕ) (e : r ≡ tested book (get_or index (p - first) 0)) where
-        at_own : (i : ℕ) → i < entry_count book → place_of case book i ≡ p → r ≡ tested book (suc i)
-        at_own i u q = e ∙ ap (tested book) (ap (λ z. get_or index (z - first) 0) (sym q) ∙ own_number i u)
+      at_own : (i : ℕ) → i < entry_count book → place_of case book i ≡ p → get_or index (p - first) 0 ≡ suc i
+      at_own i u q = ap (λ z. get_or index (z - first) 0) (sym q) ∙ own_number i u
 
-        -- nothing but a record that is passed over has this pair
-        pub at_none : r ≡ 0 → (i : ℕ) → i < entry_count book → Counted book i → place_of case book i ≡ p → ⊥
-        at_none z i u c q = omega (arith, at_own i u q, tested_own book (suc i) (simp unary_clauses c))
+      -- nothing but a record that is passed over has this pair
+      pub at_none : tested book (get_or index (p - first) 0) ≡ None → (i : ℕ) → i < entry_count book → Counted book i → place_of case book i ≡ p → ⊥
+      at_none z i u c q = let e = ap (tested book) (at_own i u q) in let t = tested_own book i c in cc
 
-        module _ (pos : 0 < r) where
-          -- no other record has it
-          pub at_only : (i : ℕ) → i < entry_count book → place_of case book i ≡ p → i ≡ r - 1
-          at_only i u q = omega (arith, at_own i u q, (tested_is book (suc i) (rw (at_own i u q) at pos)).0)
+      -- record i has it
+      module _ (i : ℕ) (e : tested book (get_or index (p - first) 0) ≡ Some i) where
+        known : (get_or index (p - first) 0 ≡ suc i) × Counted book i
+        known = tested_is book (get_or index (p - first) 0) i e
 
-          known : (r ≡ get_or index (p - first) 0) × Counted book (r - 1)
-          known =
-              let t = tested_is book (get_or index (p - first) 0) (rw e at pos) in
-              let q : r ≡ get_or index (p - first) 0 = e ∙ t.0 in
-              (q, rw q t.1)
+        -- no other record has it
+        pub at_only : (j : ℕ) → j < entry_count book → place_of case book j ≡ p → j ≡ i
+        at_only j u q = omega (arith, at_own j u q, known.0)
 
-          found : first_bad (λ i. is_interview s w (entry_at book i)) (entry_count book) ≡ some (r - 1)
-          found =
-              let q : r ≡ from_one (first_bad (λ i. is_interview s w (entry_at book i)) (entry_count book)) = known.0 ∙ at_index in
-              rw q (number_some (λ i. is_interview s w (entry_at book i)) (entry_count book) (rw q at pos))
+        found : first_bad (λ i. is_interview s w (entry_at book i)) (entry_count book) ≡ Some i
+        found = number_some (λ i. is_interview s w (entry_at book i)) (entry_count book) i (sym at_index ∙ known.0)
 
-          pub at_inside : r - 1 < entry_count book
-          at_inside = first_below (λ i. is_interview s w (entry_at book i)) (entry_count book) (r - 1) found
+        pub at_inside : i < entry_count book
+        at_inside = first_below (λ i. is_interview s w (entry_at book i)) (entry_count book) i found
 
-          pub at_counted : Counted book (r - 1)
-          at_counted = known.1
+        pub at_counted : Counted book i
+        at_counted = known.1
 
-          says : is_interview s w (entry_at book (r - 1)) ≡ true
-          says = first_passes (λ i. is_interview s w (entry_at book i)) (entry_count book) (r - 1) found
+        says : is_interview s w (entry_at book i) ≡ true
+        says = first_passes (λ i. is_interview s w (entry_at book i)) (entry_count book) i found
 
-          pub at_student : (entry_at book (r - 1)).student ≡ s
-          at_student = eqb-true _ _ (and_left (eqb (entry_at book (r - 1)).student s) _ says)
+        pub at_student : (entry_at book i).student ≡ s
+        at_student = eqb-true _ _ (and_left (eqb (entry_at book i).student s) _ says)
 
-          at_workshop : (entry_at book (r - 1)).workshop ≡ w
-          at_workshop = eqb-true _ _ (and_right (eqb (entry_at book (r - 1)).student s) _ says)
+        at_workshop : (entry_at book i).workshop ≡ w
+        at_workshop = eqb-true _ _ (and_right (eqb (entry_at book i).student s) _ says)
 
-          pub at_place : place_of case book (r - 1) ≡ p
-          at_place = rw (at_student, at_workshop) (S.place k l)
+        pub at_place : place_of case book i ≡ p
+        at_place = rw (at_student, at_workshop) stands
 
-          pub at_key : (row_at case p).third * 65536 + (entry_at book (r - 1)).student_score ≡ key_of case book (r - 1)
-          at_key =
-              let q = placed s w (S.paired k l) in
-              let t : (market_in case).student_tier s w ≡ (row_at case p).third =
-              student_tier_at case (clean case n m I.sound) s w (pair_place case s w) q.inside q.pair ∙ ap (λ z. (row_at case z).third) (S.place k l) in
-              rw (at_student, at_workshop, t)
+        pub at_key : (row_at case p).third * 65536 + (entry_at book i).student_score ≡ key_of case book i
+        at_key =
+            let q = placed s w paired in
+            let t : (market_in case).student_tier s w ≡ (row_at case p).third =
+            student_tier_at case (clean case n m I.sound) s w (pair_place case s w) q.inside q.pair ∙ ap (λ z. (row_at case z).third) stands in
+            rw (at_student, at_workshop, t)

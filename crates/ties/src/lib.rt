@@ -4,209 +4,151 @@
 // not met before with no other. A score of -1000 ties with nothing: its record is passed over.
 #![tactic(auto)]
 
-ghost use Rattle.std.specs.Prelude.{◌≡◌, false, ℕ, ◌+◌, ◌-◌, ◌*◌, ◌≤◌, ◌<◌, max, min, length, get_or, set};
-ghost use Rattle.base.specs.Search.{first_bad, or_end};
+ghost use Rattle.std.specs.Prelude.{◌≡◌, false, ℕ, ◌+◌, ◌-◌, ◌*◌, ◌≤◌, ◌<◌, [], ◌∷◌, ◌++◌, length, get_or};
+ghost use Rattle.base.specs.Search.{first_bad};
 ghost use Rattle.format.specs.Layout.{rows, row_at, row_count, entries, entry_at, entry_count};
 ghost use Rattle.format.specs.Refusals.{bad_tie};
 ghost use Rattle.format.specs.Engine.{market_in};
-ghost use Rattle.tables.specs.Table.{Tabled};
 ghost use Rattle.ties.specs.Ties.{Indexed, tested, Lowered, LoweredBy};
-ghost use Rattle.ties.specs.Seen.{Marked, slot_of, wide_of};
+ghost use Rattle.ties.specs.Seen.{Marked, slot_of};
+
+use tables::Table;
 
 // ---- keys, and the book records that have them
 
-// The slot of a key. The scores of one tier have slots of their own; those of two tiers may share one.
-fn slot_of(key: u32) -> usize
-    ensures { result ≡ slot_of key }
-{
-    let digit = key as usize / 65536 + key as usize % 2048 / 64;
-    key as usize % 64 * 64 + digit % 64
+// A record to compare: its number in the book, from 0, and its key.
+#[derive(Clone, Copy)]
+struct Keyed {
+    key: u32,
+    entry: u16,
 }
 
-// Its slot in the first pass. The scores of four tiers have slots of their own.
-fn wide_slot(key: u32) -> usize
-    ensures { result ≡ wide_of key }
+// A key's slot, one of 64 * SPAN. With 64 and 1 the scores of one tier have slots of their own, with 128 and 16 those of four tiers.
+fn slot_of<const SPAN: usize, const STEP: usize>(key: u32) -> usize
+    requires { (0 < SPAN) × (SPAN ≤ 128) × (STEP ≤ 64) }
+    ensures { result ≡ slot_of SPAN STEP key }
 {
-    let digit = key as usize / 65536 * 16 + key as usize % 2048 / 128;
-    key as usize % 128 * 64 + digit % 64
+    let key = key as usize;
+    let digit = key / 65536 * STEP + key % 2048 / SPAN;
+    key % SPAN * 64 + digit % 64
 }
 
-fn later(a: u16, b: u16) -> usize
-    ensures { result ≡ max a b }
-{
-    if a < b { b as usize } else { a as usize }
-}
-
-fn lesser(a: usize, b: usize) -> usize
-    ensures { result ≡ min a b }
-{
-    if a < b { a } else { b }
-}
-
-// Lowers `low` to the later of record i, which has this key, and one of the first m with the same key.
-fn lower(keys: &[u32], entries: &[u16], m: usize, key: u32, i: u16, low: usize) -> usize
-    requires { (m ≤ length keys.now) × (m ≤ length entries.now) }
-    ensures { LoweredBy keys.now entries.now m key i low result }
+// Lowers `low` to the later of this record and of an earlier one with the same key.
+fn lower(earlier: &[Keyed], this: Keyed, low: usize) -> usize
+    ensures { LoweredBy earlier.now this low result }
 {
     let mut after = low;
-    let mut j = 0;
-    while j < m {
-        if keys[j] == key {
-            after = lesser(after, later(i, entries[j]));
-            j += 1;
-        } else {
-            j += 1;
+    for other in earlier {
+        if other.key == this.key {
+            after = after.min(usize::from(this.entry.max(other.entry)));
         }
     }
     after
 }
 
-// The same. Where the key's slot was not met none of the first m keys is this one. It is met from now on.
-fn lower_if_met(
-    keys: &[u32],
-    entries: &[u16],
-    m: usize,
-    seen: &mut [u64],
-    key: u32,
-    i: u16,
-    low: usize,
-) -> usize
-    requires m_in_bounds { (m < length keys.now) × (m ≤ length entries.now) }
-    requires seen_len { (length seen.old ≡ 64) × Marked slot_of keys.now m seen.old }
-    ensures lowered_by { LoweredBy keys.now entries.now m key i low result }
-    ensures marked { Marked slot_of (set keys.now m key) (m + 1) seen.new }
+// The same. Where the key's slot was not met no earlier record has this key. It is met from now on.
+fn lower_if_met(earlier: &[Keyed], this: Keyed, seen: &mut [u64], low: usize) -> usize
+    requires { (length seen.old ≡ 64) × Marked (slot_of 64 1) earlier.now seen.old }
+    ensures lowered_by { LoweredBy earlier.now this low result }
+    ensures marked { Marked (slot_of 64 1) (earlier.now ++ this ∷ []) seen.new }
 {
-    if bits::met(seen, slot_of(key)) {
-        return lower(keys, entries, m, key, i, low);
+    if bits::met(seen, slot_of::<64, 1>(this.key)) {
+        lower(earlier, this, low)
+    } else {
+        low
     }
-    low
 }
 
 // ---- a student's interviews from the case, the book and the index
 
-// The number of the book record of pair record p, from 1, or 0: there is none, or the student's score is -1000, and it is passed over.
-fn tested_at(book: &[u8], index: &[u16], from: usize, p: usize) -> u16
-    requires { (from ≤ p) × (p - from < length index.now) × (get_or index.now (p - from) 0 ≤ entry_count book.now) }
-    ensures { result ≡ tested book.now (get_or index.now (p - from) 0) }
-{
-    let number = index[p - from];
-    if number < 1 {
-        return 0;
+// A case with its table, and a book and its index that are left after cause 10. The case's pair records begin at `from`.
+#[derive(Clone, Copy)]
+pub struct IndexedBook<'a> {
+    pub table: Table<'a>,
+    pub book: &'a [u8],
+    pub index: &'a [u16],
+    pub from: usize,
+    ghost indexed: { Indexed table.case.now book.now index.now from },
+}
+
+impl IndexedBook<'_> {
+    // The book record of this pair record. One with the score -1000 of the student is passed over.
+    fn tested_at(&self, pair: usize) -> Option<u16>
+        requires { (self.now.from ≤ pair) × (pair - self.now.from < length self.now.index.now)
+            × (get_or self.now.index.now (pair - self.now.from) 0 ≤ entry_count self.now.book.now) }
+        ensures { result ≡ tested self.now.book.now (get_or self.now.index.now (pair - self.now.from) 0) }
+    {
+        let i = self.index[pair - self.from].checked_sub(1)?;
+        let never = records::is_never(records::entry_at(self.book, usize::from(i)).student_score);
+        (!never).then_some(i)
     }
-    if records::never_at(book, number as usize - 1, true) {
-        0
-    } else {
-        number
+
+    // The key of book record i, that of this pair record: the tier and the student's score in one number.
+    fn key_at(&self, pair: usize, i: usize) -> u32
+        requires { (pair < row_count self.now.table.case.now) × (i < entry_count self.now.book.now) }
+        ensures { result ≡ (row_at self.now.table.case.now pair).third * 65536 + (entry_at self.now.book.now i).student_score }
+    {
+        let tier = records::row_at(self.table.case, pair).third;
+        let score = records::entry_at(self.book, i).student_score;
+        u32::from(tier) * 65536 + u32::from(records::raised(score))
     }
-}
 
-fn joined(tier: u16, score: u16) -> u32
-    ensures { result ≡ tier * 65536 + score }
-{
-    tier as u32 * 65536 + score as u32
-}
-
-// The key of book record i, that of pair record p.
-fn key_at(case: &[u8], book: &[u8], p: usize, i: usize) -> u32
-    requires { (p < row_count case.now) × (i < entry_count book.now) }
-    ensures { result ≡ (row_at case.now p).third * 65536 + (entry_at book.now i).student_score }
-{
-    joined(
-        records::third_at(case, p),
-        records::biased_at(book, i, true),
-    )
-}
-
-// Two of student s's book records share a slot, so they may tie. Where none do none tie.
-fn shares(case: &[u8], book: &[u8], index: &[u16], table: &[u64], from: usize, s: usize) -> bool
-    requires indexed { Indexed case.now book.now index.now from }
-    requires tabled { Tabled case.now table.now }
-    requires le_s { (1 ≤ s) × (s ≤ 512) }
-    ensures { result ≡ false → (low : ℕ) → Lowered case.now book.now (λ i j. (entry_at book.now i).student ≡ s) low low }
-{
-    let own = tables::pairs_of(case, table, s);
-    let mut seen = [0u64; 128];
-    let end = own.first + own.many;
-    let mut p = own.first;
-    while p < end {
-        let number = tested_at(book, index, from, p);
-        if number < 1 {
-            p += 1;
-        } else {
-            let key = key_at(case, book, p, number as usize - 1);
-            if bits::met(&mut seen, wide_slot(key)) {
+    // Two of student s's book records share a slot, so they may tie. Where none do none tie.
+    fn shares(&self, s: usize) -> bool
+        requires { (1 ≤ s) × (s ≤ 512) }
+        ensures { result ≡ false → (low : ℕ) → Lowered self.now.table.case.now self.now.book.now (λ i j. (entry_at self.now.book.now i).student ≡ s) low low }
+    {
+        let mut seen = [0u64; 128];
+        let own = self.table.pairs_of(s);
+        for pair in own {
+            let Some(i) = self.tested_at(pair) else {
+                continue;
+            };
+            let key = self.key_at(pair, usize::from(i));
+            if bits::met(&mut seen, slot_of::<128, 16>(key)) {
                 return true;
             }
-            p += 1;
         }
+        false
     }
-    false
-}
 
-// Lowers `low` by the book records of student s. The records of her pairs stand together.
-fn tie_of(
-    case: &[u8],
-    book: &[u8],
-    index: &[u16],
-    table: &[u64],
-    from: usize,
-    s: usize,
-    low: usize,
-) -> usize
-    requires indexed { Indexed case.now book.now index.now from }
-    requires tabled { Tabled case.now table.now }
-    requires le_s { (1 ≤ s) × (s ≤ 512) }
-    ensures { Lowered case.now book.now (λ i j. (entry_at book.now i).student ≡ s) low result }
-{
-    let own = tables::pairs_of(case, table, s);
-    let mut keys = [0u32; 64];
-    let mut entries = [0u16; 64];
-    let mut seen = [0u64; 64];
-    let mut after = low;
-    let mut m = 0;
-    let mut k = 0;
-    while k < own.many {
-        let number = tested_at(book, index, from, own.first + k);
-        if number < 1 {
-            k += 1;
-        } else {
-            let i = number - 1;
-            let key = key_at(case, book, own.first + k, i as usize);
-            after = lower_if_met(&keys, &entries, m, &mut seen, key, i, after);
-            keys[m] = key;
-            entries[m] = i;
+    // Lowers `low` by the book records of student s. The records of her pairs stand together.
+    fn tie_of(&self, s: usize, low: usize) -> usize
+        requires { (1 ≤ s) × (s ≤ 512) }
+        ensures { Lowered self.now.table.case.now self.now.book.now (λ i j. (entry_at self.now.book.now i).student ≡ s) low result }
+    {
+        // The first m are noted: memory is fixed, so an array and a count and no Vec.
+        let mut noted = [Keyed { key: 0, entry: 0 }; 64];
+        let mut m = 0;
+        let mut seen = [0u64; 64];
+        let mut after = low;
+        let pairs = self.table.pairs_of(s);
+        for pair in pairs {
+            let Some(entry) = self.tested_at(pair) else {
+                continue;
+            };
+            let key = self.key_at(pair, usize::from(entry));
+            let this = Keyed { key, entry };
+            after = lower_if_met(&noted[..m], this, &mut seen, after);
+            noted[m] = this;
             m += 1;
-            k += 1;
         }
+        after
     }
-    after
-}
 
-// The first record that ties with an earlier one, or how many there are.
-pub fn first_tie(
-    case: &[u8],
-    book: &[u8],
-    index: &[u16],
-    table: &[u64],
-    students: usize,
-    workshops: usize,
-) -> usize
-    requires indexed { Indexed case.now book.now index.now (students + workshops) }
-    requires tabled { Tabled case.now table.now }
-    requires students_value { (students ≡ (market_in case.now).students) × (workshops ≡ (market_in case.now).workshops) }
-    ensures { result ≡ or_end (entry_count book.now)
-        (first_bad (bad_tie (rows case.now) (entries book.now)) (entry_count book.now)) }
-{
-    let from = students + workshops;
-    let mut low = records::entry_count(book.len());
-    let mut s = 0;
-    while s < students {
-        if shares(case, book, index, table, from, s + 1) {
-            low = tie_of(case, book, index, table, from, s + 1, low);
-            s += 1;
-        } else {
-            s += 1;
+    // The first record that ties with an earlier one.
+    // `end` is above every record, so that the lowest needs no case for none.
+    pub fn first_tie(&self, students: usize) -> Option<usize>
+        requires { students ≡ (market_in self.now.table.case.now).students }
+        ensures { result ≡ first_bad (bad_tie (rows self.now.table.case.now) (entries self.now.book.now)) (entry_count self.now.book.now) }
+    {
+        let end = records::entry_count(self.book.len());
+        let mut low = end;
+        for s in 1..=students {
+            if self.shares(s) {
+                low = self.tie_of(s, low);
+            }
         }
+        (low < end).then_some(low)
     }
-    low
 }

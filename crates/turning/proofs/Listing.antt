@@ -5,11 +5,11 @@ use mathlib.Core.Logic.{◌⊎◌, inl, inr, ⊎_elim}
 use mathlib.Core.Bool.{Bool, true, false}
 use mathlib.Core.List.{List}
 use native.Mathlib.Omega.{arith}
-use lib.ListN.{length, get_or, set, length-set}
-use lib.Seq.{get_or-set_same, get_or-set_other}
+use lib.ListN.{length, get_or, set, take, length-set}
+use lib.Seq.{length-take-le, get_or-take, get_or-set_same, get_or-set_other}
+use Rattle.std.specs.Int.{from_bool}
 use Rattle.base.specs.Lists.{one, count}
 use Rattle.base.proofs.Tests.{less?, is_false, never, and_left}
-use Rattle.base.proofs.Counting.{count_le}
 use Rattle.lgs.specs.Market.{Market, Results}
 use Rattle.format.specs.Layout.{row_at, row_count}
 use Rattle.format.specs.Engine.{market_in}
@@ -20,7 +20,7 @@ use Rattle.tables.proofs.Reading.{places_rise}
 use Rattle.model.specs.Turn.{due_at, round_to}
 use Rattle.lookup.specs.Clean.{PairAt}
 use Rattle.turning.specs.Round.{in_tier, TierListed}
-use Rattle.turning.proofs.Due.{due_tier, tier_pair, pair_second}
+use Rattle.turning.proofs.Due.{due_tier, tier_pair, pair_second, here_paired, here_place}
 use Rattle.turning.proofs.Rounds.{Rounding, round_start, count_to, skipped}
 
 -- those of 1 to k that pass have their values at places 0, 1, .. of the list; the next is written
@@ -62,18 +62,23 @@ module _ (case : List ℕ) (s t : ℕ) (pairs : List ℕ) where
         pair = λ v h p. ⊎_elim (λ (q : v < a). i.pair v q p) (λ (q : a ≤ v). never p (none (suc v) (omega arith) (omega arith))) (less? v a);
       }
 
--- her first k pairs, from record `first` on, have been gone over; they are those with the workshops 1 to `up_to`
-pub record Listing (case : List ℕ) (s t first : ℕ) (old pairs : List ℕ) (n k : ℕ) : Type 0 where
+-- what a test counts
+pub from_bool_one : (b : Bool) → from_bool b ≡ one b
+from_bool_one true = refl
+from_bool_one false = refl
+
+-- her pairs from record `first` up to record `pair` have been gone over; they are those with the workshops 1 to `up_to`
+pub record Listing (case : List ℕ) (s t first : ℕ) (old pairs : List ℕ) (n pair : ℕ) : Type 0 where
   pub up_to : ℕ
   pub listed : TierListed case s t up_to n pairs
   pub hers : (up_to ≡ 0) ⊎ ((market_in case).paired s up_to ≡ true)
-  pub left : (w : ℕ) → (market_in case).paired s w ≡ true → up_to < w → first + k ≤ pair_place case s w
-  pub done : (w : ℕ) → (market_in case).paired s w ≡ true → w ≤ up_to → pair_place case s w < first + k
-  pub few : n ≤ k
+  pub left : (w : ℕ) → (market_in case).paired s w ≡ true → up_to < w → pair ≤ pair_place case s w
+  pub done : (w : ℕ) → (market_in case).paired s w ≡ true → w ≤ up_to → pair_place case s w < pair
+  pub few : first + n ≤ pair
   pub same : length pairs ≡ length old
 
 module _ (case table : List ℕ) (T : Tabled case table) (s t first many : ℕ) (S : Stretch case s first many) (old : List ℕ) where
-  pub listing_start : Listing case s t first old old 0 0
+  pub listing_start : Listing case s t first old old 0 first
   listing_start =
       record {
         up_to = 0;
@@ -85,13 +90,13 @@ module _ (case table : List ℕ) (T : Tabled case table) (s t first many : ℕ) 
         same = refl;
       }
 
-  module _ (pairs : List ℕ) (n k : ℕ) (i : Listing case s t first old pairs n k) where
+  module _ (pairs : List ℕ) (n pair : ℕ) (i : Listing case s t first old pairs n pair) where
     -- a workshop of the tier has a pair with her
     unpaired : (w : ℕ) → ((market_in case).paired s w ≡ true → ⊥) → in_tier (market_in case) s t w ≡ false
     unfolding in_tier
     unpaired w f = is_false _ (λ e. f (and_left ((market_in case).paired s w) _ e))
 
-    pub listing_end : many ≤ k → (m : ℕ) → ((w : ℕ) → (market_in case).paired s w ≡ true → w ≤ m) → TierListed case s t m n pairs
+    pub listing_end : first + many ≤ pair → (m : ℕ) → ((w : ℕ) → (market_in case).paired s w ≡ true → w ≤ m) → TierListed case s t m n pairs
     listing_end h m named =
         list_on case s t pairs i.up_to m n within
         (λ w l u. unpaired w (λ p. omega (arith, i.left w p l, S.all w p)))
@@ -100,12 +105,15 @@ module _ (case table : List ℕ) (T : Tabled case table) (s t first many : ℕ) 
         within : i.up_to ≤ m
         within = ⊎_elim (λ (e : i.up_to ≡ 0). omega arith) (λ (p : (market_in case).paired s i.up_to ≡ true). named i.up_to p) i.hers
 
-    module _ (l : k < many) (w : ℕ) (e : w ≡ workshop_in case (first + k)) where
-      hers_at : (market_in case).paired s w ≡ true
-      hers_at = rw e (S.paired k l)
+    module _ (f : first ≤ pair) (l : pair < first + many) where
+      abbrev w : ℕ
+      w = workshop_in case pair
 
-      place_at : pair_place case s w ≡ first + k
-      place_at = rw e (S.place k l)
+      hers_at : (market_in case).paired s w ≡ true
+      hers_at = here_paired case s first many S pair f l
+
+      place_at : pair_place case s w ≡ pair
+      place_at = here_place case s first many S pair f l
 
       from_one_lem : 1 ≤ w
       from_one_lem = (T.named s w hers_at).1.0
@@ -125,11 +133,11 @@ module _ (case table : List ℕ) (T : Tabled case table) (s t first many : ℕ) 
           i.listed
 
       pub listing_more : (x : ℕ) → n < length pairs → x ≡ one (in_tier (market_in case) s t w)
-          → Listing case s t first old (set pairs n (first + k)) (n + x) (k + 1)
+          → Listing case s t first old (set pairs n pair) (n + x) (pair + 1)
       listing_more x room f =
           record {
             up_to = w;
-            listed = rw d at (list_more case s t pairs (w - 1) n between room (first + k) x (rw d (sym place_at)) (rw d f));
+            listed = rw d at (list_more case s t pairs (w - 1) n between room pair x (rw d (sym place_at)) (rw d f));
             hers = inr hers_at;
             left = λ v p a. omega (arith, places_rise case table T s w v hers_at p a, place_at);
             done = λ v p a.
@@ -137,7 +145,7 @@ module _ (case table : List ℕ) (T : Tabled case table) (s t first many : ℕ) 
                 (λ (q : w ≤ v). let y : v ≡ w = omega arith in rw y (omega (arith, place_at)))
                 (less? v w);
             few = omega (arith, i.few, one_few (in_tier (market_in case) s t w));
-            same = length-set pairs n (first + k) ∙ i.same;
+            same = length-set pairs n pair ∙ i.same;
           }
         where
           d : suc (w - 1) ≡ w
@@ -222,16 +230,25 @@ pub record Coming (case : List ℕ) (B : Results) (seats : List ℕ) (s t set he
   pub pair : p ≡ pair_place case s w
   pub so : Rounding (market_in case) B seats s t set held old visits total openings fares at
 
-module _ (case : List ℕ) (B : Results) (seats : List ℕ) (s t set held m n : ℕ) (pairs old : List ℕ) where
+-- the used head of the list is a list of them
+pub listed_head : (case : List ℕ) (s t m n : ℕ) (pairs : List ℕ) → n ≤ length pairs → TierListed case s t m n pairs
+    → TierListed case s t m (length (take n pairs)) (take n pairs)
+unfolding count
+listed_head case s t m n pairs room l =
+    record {
+      many = length-take-le n pairs room ∙ l.many;
+      pair = λ v a p.
+          get_or-take n pairs (count (in_tier (market_in case) s t) v) 0
+          (omega (arith, l.many, count_to (in_tier (market_in case) s t) (suc v) m a, ap one p))
+          ∙ l.pair v a p;
+    }
+
+module _ {case : List ℕ} {B : Results} {seats : List ℕ} {s t set held m n : ℕ} {pairs old : List ℕ} where
   pub going_start : TierListed case s t m n pairs → Going case B seats s t set held m n pairs old old held set 0 0
   unfolding count
-  going_start l = record { listed = l; done = 0; within = omega arith; place = refl; so = round_start (market_in case) B seats s t set held old }
+  going_start l = record { listed = l; done = 0; within = omega arith; place = refl; so = round_start }
 
-  module _ (visits : List ℕ) (total openings fares k : ℕ) (g : Going case B seats s t set held m n pairs old visits total openings fares k) where
-    -- there are no more places than workshops
-    pub going_few : n ≤ m
-    going_few = omega (arith, g.listed.many, count_le (in_tier (market_in case) s t) m)
-
+  module _ {visits : List ℕ} {total openings fares k : ℕ} (g : Going case B seats s t set held m n pairs old visits total openings fares k) where
     pub going_end : n ≤ k → Rounding (market_in case) B seats s t set held old visits total openings fares m
     going_end l =
         round_passed (market_in case) B seats s t set held old visits total openings fares g.done m g.within

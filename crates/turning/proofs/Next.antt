@@ -1,5 +1,5 @@
 -- The next student by the links: she is the first, by stage and number, of those who come after the last (model: Stages).
-use Prim.Native.Nat.{ℕ, ◌+◌, ◌≤◌, ◌<◌}
+use Prim.Native.Nat.{ℕ, zero, suc, ◌≤◌, ◌<◌}
 use mathlib.Core.Path.{◌≡◌, refl, sym, ◌∙◌}
 use mathlib.Core.Logic.{◌⊎◌, inl, inr, ⊎_elim}
 use mathlib.Core.Bool.{true}
@@ -11,31 +11,24 @@ use Rattle.model.specs.Store.{comes_after, next_in}
 use Rattle.model.proofs.Stages.{Before, before_after, after_before, next_first, next_none}
 use Rattle.tables.specs.Table.{next_of, head_of, Following, Linked}
 use Rattle.lookup.specs.Clean.{Clean}
+use Rattle.seating.specs.Seats.{named}
 use Rattle.turning.specs.Next.{Ordered, FirstAfter}
+use Rattle.std.specs.Prelude.{Option, unwrap_or}
 
 -- a clean case has its students in order
-pub ordered : (case book index table : List ℕ) (n m : ℕ) → Clean case book index table n m → Ordered case table
-ordered case book index table n m c =
-    let e : (market_in case).students ≡ n = c.students in
+pub ordered : {case book index table : List ℕ} {n m : ℕ} → Clean case book index table n m → Ordered case table
+ordered c =
     record {
       sized = c.tabled.sized;
-      many = omega (arith, c.many_students);
-      student = λ t f g. c.student t f (omega arith);
-      linked = rw e c.linked;
+      many = omega (arith, c.students, c.many_students);
+      student = λ t a b. c.student t a (omega (arith, c.students, b));
+      linked = rw c.students c.linked;
     }
 
--- ---- the first stage that has a student: those passed have none
-pub first_found : (table : List ℕ) (stage t r : ℕ) → stage < t → t ≤ 512 → r ≡ head_of table t → 0 < r
-    → ((u : ℕ) → stage < u → u < t → head_of table u ≡ 0) → FirstAfter table stage r
-first_found table stage t r a b e pos bare = record { none = λ z. absurd (omega arith); some = λ p. (t, a, b, sym e, bare) }
-
-pub first_none : (table : List ℕ) (stage t : ℕ) → 512 < t → ((u : ℕ) → stage < u → u < t → head_of table u ≡ 0) → FirstAfter table stage 0
-first_none table stage t a bare = record { none = λ z u f g. bare u f (omega arith); some = λ p. absurd (omega arith) }
-
-pub passed_on : (table : List ℕ) (stage t r : ℕ) → r ≡ head_of table t → r ≤ 0 → ((u : ℕ) → stage < u → u < t → head_of table u ≡ 0)
-    → (u : ℕ) → stage < u → u < t + 1 → head_of table u ≡ 0
-passed_on table stage t r e z bare u a b =
-    ⊎_elim (λ (q : u < t). bare u a q) (λ (q : t ≤ u). let d : u ≡ t = omega arith in rw d (omega arith)) (less? u t)
+-- the number that a named one has
+pub named_number : (o : Option ℕ) (n : ℕ) → o ≡ named n → unwrap_or o 0 ≡ n
+named_number o zero e = rw e
+named_number o (suc n) e = rw e
 
 -- ---- the first of the students 1 to n after s
 module _ (case table : List ℕ) (n : ℕ) (links : Linked case table n) (s : ℕ) where

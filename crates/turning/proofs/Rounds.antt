@@ -17,6 +17,7 @@ use Rattle.lgs.specs.Rule.{Interview, unopened}
 use Rattle.lgs.specs.Fares.{fares_of}
 use Rattle.format.specs.Buffers.{flat}
 use Rattle.model.specs.Turn.{RoundSoFar, due_at, round_at, round_to, put_at, with_member}
+use Rattle.std.specs.Prelude.{Some, None}
 use Rattle.turning.specs.Round.{round_of}
 use Rattle.turning.specs.declared.Round.{Round}
 use Rattle.turning.proofs.Visits.{put_more, put_none, put_length, flat_length, flat_snoc}
@@ -111,19 +112,19 @@ pub record Rounding (M : Market) (B : Results) (seats : List ℕ) (s t set held 
 abbrev pub Answers : Market → Round → List ℕ → ℕ → RoundSoFar → List ℕ → Type 0
 Answers M r visits held o old = (r ≡ round_of M held o) × (visits ≡ put_at (2 * held) (flat o.interviews) old)
 
-module _ (M : Market) (B : Results) (seats : List ℕ) (s t set held : ℕ) (old : List ℕ) where
+module _ {M : Market} {B : Results} {seats : List ℕ} {s t set held : ℕ} {old : List ℕ} where
   pub round_start : Rounding M B seats s t set held old old held set 0 0
   unfolding round_to flat
   round_start = record { all = omega arith; sets = refl; paid = sym (fares_none M); on = refl; written = sym (put_none old (2 * held)) }
 
-  module _ (visits : List ℕ) (total openings fares k n : ℕ) (r : Rounding M B seats s t set held old visits total openings fares k) where
+  module _ {visits : List ℕ} {total openings fares k : ℕ} (n : ℕ) (r : Rounding M B seats s t set held old visits total openings fares k) where
     -- the round is over
     pub round_end : k ≡ n
-        → Answers M (record { count = total; openings = openings; missing = 0; fares = fares }) visits held (round_to M B seats s t set n) old
+        → Answers M (record { count = total; openings = openings; missing = None; fares = fares }) visits held (round_to M B seats s t set n) old
     round_end e = rw (← e) (same, r.written)
       where
-        same : record { count = total; openings = openings; missing = 0; fares = fares } ≡ round_of M held (round_to M B seats s t set k)
-        same = cc (r.all, r.sets, r.on, r.paid)
+        same : record { count = total; openings = openings; missing = None; fares = fares } ≡ round_of M held (round_to M B seats s t set k)
+        same = rw (r.all, r.sets, r.on, r.paid)
 
     module _ (room : 2 * (held + count (due_at M B seats s t) n) ≤ length old) where
       pub round_length : k ≤ n → length visits ≡ length old
@@ -179,7 +180,7 @@ module _ (M : Market) (B : Results) (seats : List ℕ) (s t set held : ℕ) (old
 
           -- it is missing, and the round stops
           pub round_missing : B.met s w ≡ false
-              → Answers M (record { count = total; openings = openings; missing = w; fares = fares }) visits held (round_to M B seats s t set n) old
+              → Answers M (record { count = total; openings = openings; missing = Some w; fares = fares }) visits held (round_to M B seats s t set n) old
           round_missing m = rw whole (same, r.written)
             where
               q : round_to M B seats s t set (suc k) ≡ record
@@ -190,11 +191,11 @@ module _ (M : Market) (B : Results) (seats : List ℕ) (s t set held : ℕ) (old
                   { interviews = (round_to M B seats s t set k).interviews; openings = (round_to M B seats s t set k).openings; missing = suc k }
               whole = stays M B seats s t set (suc k) n l (λ z. let y : suc k ≡ 0 = rw q at z in omega arith) ∙ q
 
-              same : ◌≡◌ {A = Round} (record { count = total; openings = openings; missing = w; fares = fares })
+              same : ◌≡◌ {A = Round} (record { count = total; openings = openings; missing = Some w; fares = fares })
                   (record {
                     count = held + length (round_to M B seats s t set k).interviews;
                     openings = (round_to M B seats s t set k).openings;
-                    missing = suc k;
+                    missing = Some (suc k);
                     fares = fares_of M (round_to M B seats s t set k).interviews;
                   })
               same = rw (r.all, r.sets, r.paid, e)

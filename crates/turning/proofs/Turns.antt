@@ -30,6 +30,8 @@ use Rattle.model.proofs.Storage.{part_inside}
 use Rattle.model.proofs.Parts.{last_at}
 use Rattle.seating.proofs.Laws.{positive, last_none}
 use Rattle.lookup.specs.Clean.{Clean}
+use Rattle.std.specs.Prelude.{Some, None}
+use Rattle.seating.specs.Seats.{named}
 use Rattle.turning.specs.Round.{SeatsAt, SeatedAll, round_of}
 use Rattle.turning.specs.declared.Round.{Round}
 
@@ -151,22 +153,35 @@ unfolding apply_to
 apply_visits M B visits seats k r zero = refl
 apply_visits M B visits seats k r (suc c) = refl
 
+-- what a number names
+pub named_none : (n : ℕ) → named n ≡ None → n ≡ 0
+named_none zero h = refl
+named_none (suc n) h = absurd (cc)
+
+pub named_is : (n w : ℕ) → named n ≡ Some w → (n ≡ w) × (n ≡ 0 → ⊥)
+named_is zero w h = absurd (cc)
+named_is (suc n) w h = (cc, λ z. omega arith)
+
 -- the run after a round
 module _ (M : Market) (B : Results) (r : Run) (o : Round) (s : RoundSoFar) (e : o ≡ round_of M r.count s) where
-  pub round_over : o.missing ≡ 0
+  pub round_over : o.missing ≡ None
       → record { hand = r.hand; last = r.last; lost = 0; count = o.count; student = 0; workshop = 0; fares = r.fares + o.fares } ≡ after_round M B r s
   unfolding after_round
   round_over h =
-      let z : s.missing ≡ 0 = rw e at h in
+      let z : s.missing ≡ 0 = named_none s.missing (rw e at h) in
       rw (e, eq-eqb s.missing 0 z)
 
-  pub round_stopped : (o.missing ≡ 0 → ⊥)
-      → record { hand = 0; last = r.last; lost = 0; count = o.count; student = r.hand; workshop = o.missing; fares = r.fares + o.fares }
+  pub round_stopped : (w : ℕ) → o.missing ≡ Some w
+      → record { hand = 0; last = r.last; lost = 0; count = o.count; student = r.hand; workshop = w; fares = r.fares + o.fares }
       ≡ after_round M B r s
   unfolding after_round
-  round_stopped h =
-      let z : s.missing ≡ 0 → ⊥ = rw e at h in
-      rw (e, ne_eqb s.missing 0 z)
+  round_stopped w h =
+      let z : (s.missing ≡ w) × (s.missing ≡ 0 → ⊥) = named_is s.missing w (rw e at h) in
+      rw (e, ← z.0, ne_eqb s.missing 0 z.1)
+
+-- the count of a set tells whether it is empty
+pub count_test : (n c : ℕ) → n < 2 ^ 64 → c ≡ count (member n) 64 → eqb c 0 ≡ eqb n 0
+count_test n c h e = same_eq c 0 n 0 (λ z. count_empty n h (sym e ∙ z)) (λ z. e ∙ empty_count n z)
 
 -- ---- the best of what is open is one of them, or 0
 best_of_lem : (M : Market) (B : Results) (s : ℕ) (P : ℕ → Type 0) (x : ℕ) (xs : List ℕ) → P x → ((y : ℕ) → Mem y xs → P y) → P (best M B s x xs)
@@ -188,7 +203,3 @@ module _ (M : Market) (B : Results) (s set : ℕ) (P : ℕ → Type 0) (z : P 0)
       go : (l : List ℕ) → ((y : ℕ) → Mem y l → P y) → P (elim l [ [] ↦ 0 | x ∷ xs ↦ best M B s x xs ])
       go [] g = z
       go (x ∷ xs) g = best_of_lem M B s P x xs (g x (here refl)) (λ y m. g y (later m))
-
--- the count of a set tells whether it is empty
-pub count_test : (n c : ℕ) → n < 2 ^ 64 → c ≡ count (member n) 64 → eqb c 0 ≡ eqb n 0
-count_test n c h e = same_eq c 0 n 0 (λ z. count_empty n h (sym e ∙ z)) (λ z. e ∙ empty_count n z)

@@ -3,13 +3,17 @@ use Rattle.std.specs.Prelude.{ℕ, suc, ◌+◌, ◌≤◌, ◌<◌, ◌≡◌, 
 use Rattle.base.specs.Lists.{count}
 use Rattle.lgs.specs.Market.{Market, Results, seats_of, seats_before, all_seats}
 use Rattle.lgs.specs.Fares.{fares_of}
-use Rattle.format.specs.Engine.{market_in}
-use Rattle.records.specs.Records.{pair_place}
+use Rattle.format.specs.Engine.{market_in, results_in}
+use Rattle.base.specs.Words.{biased}
+use Rattle.format.specs.Layout.{ends_in_never}
+use Rattle.records.specs.Records.{pair_place, entry_of}
+use Rattle.records.specs.declared.Entry.{Entry}
 use Rattle.model.specs.Store.{part, last_of}
 use Rattle.model.specs.Turn.{RoundSoFar}
 use Rattle.model.specs.Ready.{Booked, InOrder}
 use Rattle.lookup.specs.Clean.{WorkshopAt, PairAt}
 use Rattle.turning.specs.declared.Round.{Round}
+use Rattle.seating.specs.Seats.{named}
 
 -- with n students: the part of workshop w is there, and whoever has its last seat has a pair with it
 pub record SeatsAt (case seats : List ℕ) (n w : ℕ) : Type 0 where
@@ -28,7 +32,7 @@ pub record SeatedAll (M : Market) (B : Results) (seats : List ℕ) : Type 0 wher
 -- the code's answer, where `count` interviews were held before
 abbrev pub round_of : Market → ℕ → RoundSoFar → Round
 round_of M count o =
-    record { count = count + length o.interviews; openings = o.openings; missing = o.missing; fares = fares_of M o.interviews }
+    record { count = count + length o.interviews; openings = o.openings; missing = named o.missing; fares = fares_of M o.interviews }
 
 -- workshop w is of tier t for the student
 unfoldable pub in_tier : Market → ℕ → ℕ → ℕ → Bool
@@ -39,3 +43,8 @@ in_tier M s t w = M.paired s w && eqb (M.student_tier s w) t
 pub record TierListed (case : List ℕ) (s t m n : ℕ) (pairs : List ℕ) : Type 0 where
   pub many : n ≡ count (in_tier (market_in case) s t) m
   pub pair : (v : ℕ) → v < m → in_tier (market_in case) s t (suc v) ≡ true → get_or pairs (count (in_tier (market_in case) s t) v) 0 ≡ pair_place case s (suc v)
+
+-- `entry` is what the book says of the interview of student s and workshop w
+pub record Says (book : List ℕ) (s w : ℕ) (entry : Entry) : Type 0 where
+  pub never : (results_in book).never s w ≡ ends_in_never (entry_of entry)
+  pub mark : (results_in book).workshop_score w s ≡ biased entry.workshop_score

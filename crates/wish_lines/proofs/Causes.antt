@@ -4,7 +4,7 @@ use mathlib.Core.Path.{◌≡◌, refl, sym, ap, ◌∙◌, subst}
 use mathlib.Core.Logic.{⊎_elim, ◌↔◌}
 use mathlib.Core.Bool.{true, false}
 use mathlib.Core.List.{List, [], ◌∷◌, ◌++◌, flat_map, append_assoc}
-use mathlib.Core.Option.{some, none}
+use Rattle.std.specs.Prelude.{Some, None}
 use native.Mathlib.Omega.{arith}
 use borrow.Author.Tests.{eq-eqb, ne_eqb, eqb-true, eqb-false}
 use lib.Dec.{eqb}
@@ -54,14 +54,14 @@ module _ (M : Market) where
 
       by_line : (p : Parsed) → read_line t ≡ p → ((u : List ℕ) → Says n (suc k) u (read_from M n (suc k) u))
           → Says (suc n) k t (line_then M k p (read_from M n (suc k)))
-      by_line none e ih =
+      by_line None e ih =
           at_once (suc n) k t 14
           (departs less
           (λ l u f s q.
-          let r : none ≡ some (l, u) = sym e ∙ (ap read_line q ∙ read_complete l u f) in
+          let r : None ≡ Some (l, u) = sym e ∙ (ap read_line q ∙ read_complete l u f) in
           let z : ◌≡◌ {A = ℕ} 0 1 = cc in
           omega arith))
-      by_line (some (l, u)) e ih =
+      by_line (Some (l, u)) e ih =
           let r : (t ≡ line_text l ++ u) × Formed l = read_sound t l u e in
           ⊎_elim
           (λ (c : eqb l.student (suc k) ≡ true).
@@ -99,8 +99,8 @@ module _ (M : Market) where
   no_line n k t h = by_line (read_line t) refl
     where
       by_line : (p : Parsed) → read_line t ≡ p → line_then M k p (read_from M n (suc k)) ≡ refused 14 k
-      by_line none e = refl
-      by_line (some (l, u)) e =
+      by_line None e = refl
+      by_line (Some (l, u)) e =
           let r : (t ≡ line_text l ++ u) × Formed l = read_sound t l u e in
           rw (ne_eqb l.student (suc k) (λ q. h l u r.1 q r.0))
 

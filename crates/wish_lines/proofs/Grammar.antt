@@ -7,7 +7,8 @@ use mathlib.Core.List.{List, [], ◌∷◌, ◌++◌, flat_map, flatten}
 use mathlib.Core.List.Memᴰ.{head as here}
 use mathlib.Core.List.Memᴰ.{tail as later}
 use mathlib.Core.List.{Memᴰ as Mem}
-use mathlib.Core.Option.{some, none, some-injective}
+use Rattle.std.specs.Prelude.{Some, None}
+use Rattle.std.proofs.lemmas.Option.{same_Some}
 use native.Mathlib.Omega.{arith}
 use borrow.Author.Tests.{eq-eqb, eqb-true}
 use lib.Dec.{eqb}
@@ -30,28 +31,28 @@ unfolding times
 has_group l f = some_group l.groups f.none
 
 -- Completeness
-pub read_complete : (l : Line) (t : List ℕ) → Formed l → read_line (line_text l ++ t) ≡ some (l, t)
+pub read_complete : (l : Line) (t : List ℕ) → Formed l → read_line (line_text l ++ t) ≡ Some (l, t)
 unfolding read_line
 read_complete l t f =
     rw (scan_line l t f.student (has_group l f) f.groups) (rw (eq-eqb (times 0 l) 1 f.none))
 
 -- Soundness
-pub read_sound : (t : List ℕ) (l : Line) (rest : List ℕ) → read_line t ≡ some (l, rest) → (t ≡ line_text l ++ rest) × Formed l
+pub read_sound : (t : List ℕ) (l : Line) (rest : List ℕ) → read_line t ≡ Some (l, rest) → (t ≡ line_text l ++ rest) × Formed l
 unfolding read_line
 read_sound t l rest e = go (scan t start) refl e
   where
-    go : (p : Parsed) → scan t start ≡ p → once_none p ≡ some (l, rest) → (t ≡ line_text l ++ rest) × Formed l
-    go none q e = let z : ◌≡◌ {A = ℕ} 0 1 = cc in absurd (omega arith)
-    go (some (k, u)) q e =
+    go : (p : Parsed) → scan t start ≡ p → once_none p ≡ Some (l, rest) → (t ≡ line_text l ++ rest) × Formed l
+    go None q e = let z : ◌≡◌ {A = ℕ} 0 1 = cc in absurd (omega arith)
+    go (Some (k, u)) q e =
         ⊎_elim
         (λ (c : eqb (times 0 k) 1 ≡ true).
-        let r : ◌≡◌ {A = Line × List ℕ} (k, u) (l, rest) = some-injective (k, u) (l, rest) (rw c at e) in
+        let r : ◌≡◌ {A = Line × List ℕ} (k, u) (l, rest) = same_Some (k, u) (l, rest) (rw c at e) in
         let kl : k ≡ l = ap (λ x. x.0) r in
         let ur : u ≡ rest = ap (λ x. x.1) r in
         let R : Read t k u = line_sound t k u q in
         rw (← kl, ← ur)
         (R.text, record { student = R.whole.student; groups = R.whole.groups; none = eqb-true (times 0 k) 1 c }))
-        (λ (c : eqb (times 0 k) 1 ≡ false). let f : none ≡ some (l, rest) = rw c at e in let z : ◌≡◌ {A = ℕ} 0 1 = cc in absurd (omega arith))
+        (λ (c : eqb (times 0 k) 1 ≡ false). let f : None ≡ Some (l, rest) = rw c at e in let z : ◌≡◌ {A = ℕ} 0 1 = cc in absurd (omega arith))
         (bool_cases (eqb (times 0 k) 1))
 
 -- "exactly when"
@@ -63,12 +64,12 @@ reads t l rest = (read_sound t l rest, λ r. rw r.0 (read_complete l rest r.1))
 pub line_unique : OneReading
 line_unique l l' t t' f f' e =
     let r : ◌≡◌ {A = Line × List ℕ} (l, t) (l', t') =
-    some-injective (l, t) (l', t') (sym (read_complete l t f) ∙ (ap read_line e ∙ read_complete l' t' f')) in
+    same_Some (l, t) (l', t') (sym (read_complete l t f) ∙ (ap read_line e ∙ read_complete l' t' f')) in
     (ap (λ x. x.0) r, ap (λ x. x.1) r)
 
 no_line : (l : Line) (t : List ℕ) → Formed l → line_text l ++ t ≡ [] → ⊥
 unfolding read_line scan
-no_line l t f e = let q : read_line [] ≡ some (l, t) = sym (ap read_line e) ∙ read_complete l t f in let z : ◌≡◌ {A = ℕ} 0 1 = cc in omega arith
+no_line l t f e = let q : read_line [] ≡ Some (l, t) = sym (ap read_line e) ∙ read_complete l t f in let z : ◌≡◌ {A = ℕ} 0 1 = cc in omega arith
 
 abbrev pub AllFormed : List Line → Type 0
 AllFormed ls = (l : Line) → Mem l ls → Formed l

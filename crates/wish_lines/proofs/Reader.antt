@@ -7,7 +7,7 @@ use mathlib.Core.List.{List, [], ◌∷◌, ◌++◌, map, flat_map, append_asso
 use mathlib.Core.List.Memᴰ.{head as here}
 use mathlib.Core.List.Memᴰ.{tail as later}
 use mathlib.Core.List.{Memᴰ as Mem}
-use mathlib.Core.Option.{some}
+use Rattle.std.specs.Prelude.{Some}
 use native.Mathlib.Omega.{arith}
 use borrow.Author.Tests.{ne_eqb, lt-ltb, le-leb}
 use lib.Dec.{ltb}
@@ -34,7 +34,7 @@ scan_on : (b : ℕ) (t : List ℕ) (σ σ' : State) → step σ b ≡ on σ' →
 unfolding scan
 scan_on b t σ σ' e = rw e
 
-scan_done : (b : ℕ) (t : List ℕ) (σ : State) (l : Line) → step σ b ≡ done l → scan (b ∷ t) σ ≡ some (l, t)
+scan_done : (b : ℕ) (t : List ℕ) (σ : State) (l : Line) → step σ b ≡ done l → scan (b ∷ t) σ ≡ Some (l, t)
 unfolding scan
 scan_done b t σ l e = rw e
 
@@ -160,7 +160,7 @@ module _ (s : ℕ) where
   scan_groups : (hs gs : List (List ℕ)) (g t : List ℕ)
       → 1 ≤ length g
       → ((h : List ℕ) → Mem h hs → 1 ≤ length h)
-      → scan (flat_map (λ u. 44 ∷ u) (map group_text hs) ++ (10 ∷ t)) (behind s gs g) ≡ some (record { student = s; groups = gs ++ (g ∷ hs) }, t)
+      → scan (flat_map (λ u. 44 ∷ u) (map group_text hs) ++ (10 ∷ t)) (behind s gs g) ≡ Some (record { student = s; groups = gs ++ (g ∷ hs) }, t)
   unfolding flat_map
   scan_groups [] gs g t l all = scan_done 10 t (behind s gs g) _ (end_behind gs g l)
   scan_groups (h ∷ hs) gs g t l all =
@@ -168,7 +168,7 @@ module _ (s : ℕ) where
       ∙ rw (append_assoc (group_text h) (flat_map (λ u. 44 ∷ u) (map group_text hs)) (10 ∷ t))
       (scan_group (gs ++ (g ∷ [])) h _ (all h (here refl))
       ∙ (scan_groups hs (gs ++ (g ∷ [])) h t (all h (here refl)) (λ k m. all k (later m))
-      ∙ ap (λ (ks : List (List ℕ)). some (record { student = s; groups = ks }, t)) (append_snoc gs g (h ∷ hs))))
+      ∙ ap (λ (ks : List (List ℕ)). Some (record { student = s; groups = ks }, t)) (append_snoc gs g (h ∷ hs))))
 
   colon_behind : step (number s) 58 ≡ on (colon s)
   unfolding step
@@ -181,7 +181,7 @@ module _ (s : ℕ) where
   scan_all : (gs : List (List ℕ)) (t : List ℕ)
       → 1 ≤ length gs
       → ((h : List ℕ) → Mem h gs → 1 ≤ length h)
-      → scan (joined (map group_text gs) ++ (10 ∷ t)) (group s []) ≡ some (record { student = s; groups = gs }, t)
+      → scan (joined (map group_text gs) ++ (10 ∷ t)) (group s []) ≡ Some (record { student = s; groups = gs }, t)
   unfolding joined
   scan_all [] t l all = absurd (omega arith)
   scan_all (g ∷ gs) t l all =
@@ -195,7 +195,7 @@ pub scan_line : (l : Line) (t : List ℕ)
     → 1 ≤ l.student
     → 1 ≤ length l.groups
     → ((g : List ℕ) → Mem g l.groups → 1 ≤ length g)
-    → scan (line_text l ++ t) start ≡ some (l, t)
+    → scan (line_text l ++ t) start ≡ Some (l, t)
 unfolding line_text
 scan_line l t one some_group all =
     simp append_assoc

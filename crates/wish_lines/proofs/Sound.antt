@@ -8,7 +8,8 @@ use mathlib.Core.List.Memᴰ.{append_cases}
 use mathlib.Core.List.Memᴰ.{eq_of_singleton}
 use mathlib.Core.List.Memᴰ.{not-nil}
 use mathlib.Core.List.{Memᴰ as Mem}
-use mathlib.Core.Option.{some, some-injective}
+use Rattle.std.specs.Prelude.{Some}
+use Rattle.std.proofs.lemmas.Option.{same_Some}
 use native.Mathlib.Omega.{arith}
 use borrow.Author.Tests.{eqb-true, leb-true, ltb-true}
 use lib.Dec.{eqb, ltb, leb}
@@ -222,15 +223,15 @@ pub record Read (t : List ℕ) (l : Line) (rest : List ℕ) : Type 0 where
   pub whole : Whole l.student l.groups
   pub groups : 1 ≤ length l.groups
 
-scan_sound : (t : List ℕ) (σ : State) (l : Line) (rest : List ℕ) → Good σ → scan t σ ≡ some (l, rest) → Read (shown σ ++ t) l rest
+scan_sound : (t : List ℕ) (σ : State) (l : Line) (rest : List ℕ) → Good σ → scan t σ ≡ Some (l, rest) → Read (shown σ ++ t) l rest
 unfolding scan
 scan_sound [] σ l rest good e = let z : ◌≡◌ {A = ℕ} 0 1 = cc in absurd (omega arith)
 scan_sound (b ∷ t) σ l rest good e =
     by_step (step σ b) (step_sound σ b good) (λ σ'. scan_sound t σ' l rest) e
   where
     by_step : (r : Step) → Sound (shown σ) b r
-        → ((σ' : State) → Good σ' → scan t σ' ≡ some (l, rest) → Read (shown σ' ++ t) l rest)
-        → proceed r (scan t) t ≡ some (l, rest)
+        → ((σ' : State) → Good σ' → scan t σ' ≡ Some (l, rest) → Read (shown σ' ++ t) l rest)
+        → proceed r (scan t) t ≡ Some (l, rest)
         → Read (shown σ ++ (b ∷ t)) l rest
     by_step (on σ') sound more e =
         let r : Read (shown σ' ++ t) l rest = more σ' sound.1 e in
@@ -240,7 +241,7 @@ scan_sound (b ∷ t) σ l rest good e =
           groups = r.groups;
         }
     by_step (done k) sound more e =
-        let r : ◌≡◌ {A = Line × List ℕ} (k, t) (l, rest) = some-injective (k, t) (l, rest) e in
+        let r : ◌≡◌ {A = Line × List ℕ} (k, t) (l, rest) = same_Some (k, t) (l, rest) e in
         let p : k ≡ l = ap (λ x. x.0) r in
         let q : t ≡ rest = ap (λ x. x.1) r in
         rw (← p, ← q)
@@ -251,5 +252,5 @@ scan_sound (b ∷ t) σ l rest good e =
         })
     by_step wrong sound more e = let z : ◌≡◌ {A = ℕ} 0 1 = cc in absurd (omega arith)
 
-pub line_sound : (t : List ℕ) (l : Line) (rest : List ℕ) → scan t start ≡ some (l, rest) → Read t l rest
+pub line_sound : (t : List ℕ) (l : Line) (rest : List ℕ) → scan t start ≡ Some (l, rest) → Read t l rest
 line_sound t l rest e = scan_sound t start l rest tt e

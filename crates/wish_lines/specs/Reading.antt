@@ -1,7 +1,6 @@
 -- How a text of wish lines is read, against the pairs of a market: byte by byte, and line by line. 14 and 15 by the grammar alone stand last.
-use Rattle.std.specs.Prelude.{ℕ, zero, suc, ◌+◌, ◌-◌, ◌*◌, ◌<◌, ◌≡◌, ◌↔◌, Bool, true, false, cond, not, ◌&&◌, ◌||◌, length, eqb, ltb, leb}
+use Rattle.std.specs.Prelude.{ℕ, zero, suc, ◌+◌, ◌-◌, ◌*◌, ◌<◌, ◌≡◌, ◌↔◌, Bool, true, false, cond, not, ◌&&◌, ◌||◌, length, eqb, ltb, leb, Option, Some, None}
 use mathlib.Core.List.{List, [], ◌∷◌, ◌++◌, flatten}
-use Rattle.std.proofs.Math.Option.{Option, some, none}
 use Rattle.base.specs.Lists.{any, upto}
 use Rattle.lgs.specs.Market.{Market}
 use Rattle.wish_lines.specs.Lines.{Line, line_text, lines_text, times, Formed}
@@ -65,17 +64,17 @@ Parsed = Option (Line × List ℕ)
 
 abbrev pub proceed : Step → (State → Parsed) → List ℕ → Parsed
 proceed (on σ) more t = more σ
-proceed (done l) more t = some (l, t)
-proceed wrong more t = none
+proceed (done l) more t = Some (l, t)
+proceed wrong more t = None
 
 unfoldable pub scan : List ℕ → State → Parsed
-scan [] σ = none
+scan [] σ = None
 scan (b ∷ t) σ = proceed (step σ b) (scan t) t
 
 -- "`-` for none exactly once"
 abbrev pub once_none : Parsed → Parsed
-once_none none = none
-once_none (some (l, t)) = cond (eqb (times 0 l) 1) (some (l, t)) none
+once_none None = None
+once_none (Some (l, t)) = cond (eqb (times 0 l) 1) (Some (l, t)) None
 
 -- the first line of a text, and the rest
 unfoldable pub read_line : List ℕ → Parsed
@@ -83,7 +82,7 @@ read_line t = once_none (scan t start)
 
 -- reading is exactly the grammar: the line that is read is of the form, and the text begins with it
 abbrev pub ReadsForm : Type 0
-ReadsForm = (t : List ℕ) (l : Line) (rest : List ℕ) → (read_line t ≡ some (l, rest)) ↔ ((t ≡ line_text l ++ rest) × Formed l)
+ReadsForm = (t : List ℕ) (l : Line) (rest : List ℕ) → (read_line t ≡ Some (l, rest)) ↔ ((t ≡ line_text l ++ rest) × Formed l)
 
 -- a text begins with at most one line
 abbrev pub OneReading : Type 0
@@ -107,8 +106,8 @@ with_line l (refused c i) = refused c i
 
 -- "in each line 14 and then 15 before the next line": `more` reads the next lines
 abbrev pub line_then : Market → ℕ → Parsed → (List ℕ → Reading) → Reading
-line_then M k none more = refused 14 k
-line_then M k (some (l, t)) more =
+line_then M k None more = refused 14 k
+line_then M k (Some (l, t)) more =
     let rest = more t in
     cond (eqb l.student (suc k)) (cond (misnamed M l) (refused 15 k) (with_line l rest)) (refused 14 k)
 

@@ -11,7 +11,8 @@ use mathlib.Core.List.{Memᴰ as Mem}
 use mathlib.Core.List.Memᴰ.{append_left as in_left}
 use mathlib.Core.List.Memᴰ.{append_right as in_right}
 use mathlib.Core.List.Memᴰ.{of_map}
-use mathlib.Core.Option.{Option, some, none, some-injective}
+use Rattle.std.specs.Prelude.{Option, Some, None}
+use Rattle.std.proofs.lemmas.Option.{same_Some}
 use native.Mathlib.Omega.{arith}
 use lib.ListN.{length, get_or, take, length-map, get_or-eq_default}
 use Rattle.base.specs.Lists.{tally, total}
@@ -47,14 +48,14 @@ in_take (suc n) [] x m = absurd (not-nil m)
 in_take (suc n) (y ∷ xs) x m = ⊎_elim (λ e. here e) (λ k. later (in_take n xs x k)) (cases_cons m)
 
 -- where one cause is left, its number is given
-only_last : (c : Cause) (k i : ℕ) → first_cause (c ∷ []) ≡ some (k, i) → k ≡ c.0
+only_last : (c : Cause) (k i : ℕ) → first_cause (c ∷ []) ≡ Some (k, i) → k ≡ c.0
 only_last c k i e = go (finds c.1) refl
   where
     go : (o : Option ℕ) → finds c.1 ≡ o → k ≡ c.0
-    go none f = let z : ◌≡◌ {A = Option (ℕ × ℕ)} none (some (k, i)) = rw (f, first_cause) at e in let y : ◌≡◌ {A = ℕ} 0 1 = cc in absurd (omega arith)
-    go (some h) f =
-        let z : ◌≡◌ {A = Option (ℕ × ℕ)} (some (c.0, h)) (some (k, i)) = rw (f, first_cause) at e in
-        let p : ◌≡◌ {A = ℕ × ℕ} (c.0, h) (k, i) = some-injective (c.0, h) (k, i) z in
+    go None f = let z : ◌≡◌ {A = Option (ℕ × ℕ)} None (Some (k, i)) = rw (f, first_cause) at e in let y : ◌≡◌ {A = ℕ} 0 1 = cc in absurd (omega arith)
+    go (Some h) f =
+        let z : ◌≡◌ {A = Option (ℕ × ℕ)} (Some (c.0, h)) (Some (k, i)) = rw (f, first_cause) at e in
+        let p : ◌≡◌ {A = ℕ × ℕ} (c.0, h) (k, i) = same_Some (c.0, h) (k, i) z in
         sym (ap (λ q. q.0) p)
 
 -- what goes by all seats
@@ -174,7 +175,8 @@ module _ (case : List ℕ) (nothing : NothingFound (case_causes case)) (text : L
       fun_ext (λ i.
       rw (
         new_rows ls case nothing,
-        any_new ls (is_pair (get_or es i _).student (get_or es i _).workshop) (unseen ls (is_pair (get_or es i _).student (get_or es i _).workshop) (λ r x. refl))
+        any_new ls (is_pair (get_or es i _).student (get_or es i _).workshop)
+            (unseen ls (is_pair (get_or es i _).student (get_or es i _).workshop) (λ r x. refl))
             (rows case),
       ))
 

@@ -6,7 +6,7 @@ use mathlib.Core.List.{List, [], ◌++◌}
 use mathlib.Core.List.Memᴰ.{append_left as in_left}
 use mathlib.Core.List.Memᴰ.{append_right as in_right}
 use mathlib.Core.List.Memᴰ.{head as here}
-use mathlib.Core.Option.{Option, some, none}
+use Rattle.std.specs.Prelude.{Option, Some, None}
 use native.Mathlib.Omega.{arith}
 use lib.ListN.{length, drop}
 use lib.Seq.{take-append_seam}
@@ -54,30 +54,30 @@ module _ (case : List ℕ) (needed room : ℕ) where
   abbrev tested : List Cause
   tested = lent_causes case needed room
 
-  pub first_case : (k i : ℕ) → first_cause (case_causes case) ≡ some (k, i) → first_cause tested ≡ some (k, i)
+  pub first_case : (k i : ℕ) → first_cause (case_causes case) ≡ Some (k, i) → first_cause tested ≡ Some (k, i)
   unfolding lent_causes
   first_case k i e = first_left (case_causes case) _ (k, i) e
 
-  pub first_room : first_cause (case_causes case) ≡ none → room < needed → first_cause tested ≡ some (6, 0)
+  pub first_room : first_cause (case_causes case) ≡ None → room < needed → first_cause tested ≡ Some (6, 0)
   unfolding lent_causes
   first_room e l = first_right (case_causes case) _ e ∙ rw (lt-ltb room needed l)
 
-  pub first_none : first_cause (case_causes case) ≡ none → needed ≤ room → first_cause tested ≡ none
+  pub first_none : first_cause (case_causes case) ≡ None → needed ≤ room → first_cause tested ≡ None
   unfolding lent_causes
   first_none e l = first_right (case_causes case) _ e ∙ rw (le-ltb room needed l)
 
   -- what the first cause says
   data Way : Option (ℕ × ℕ) → Type 0 where
-    by_case : (k i : ℕ) → first_cause (case_causes case) ≡ some (k, i) → Way (some (k, i))
-    by_room : first_cause (case_causes case) ≡ none → room < needed → Way (some (6, 0))
-    by_work : first_cause (case_causes case) ≡ none → needed ≤ room → Way none
+    by_case : (k i : ℕ) → first_cause (case_causes case) ≡ Some (k, i) → Way (Some (k, i))
+    by_room : first_cause (case_causes case) ≡ None → room < needed → Way (Some (6, 0))
+    by_work : first_cause (case_causes case) ≡ None → needed ≤ room → Way None
 
   way : Way (first_cause tested)
   way = by_case_lem (first_cause (case_causes case)) refl
     where
       by_case_lem : (o : Option (ℕ × ℕ)) → first_cause (case_causes case) ≡ o → Way (first_cause tested)
-      by_case_lem (some (k, i)) e = rw (first_case k i e) (by_case k i e)
-      by_case_lem none e = ⊎_elim (λ l. rw (first_room e l) (by_room e l)) (λ u. rw (first_none e u) (by_work e u)) (less? room needed)
+      by_case_lem (Some (k, i)) e = rw (first_case k i e) (by_case k i e)
+      by_case_lem None e = ⊎_elim (λ l. rw (first_room e l) (by_room e l)) (λ u. rw (first_none e u) (by_work e u)) (less? room needed)
 
   case_none : NothingFound tested → NothingFound (case_causes case)
   unfolding lent_causes
@@ -89,7 +89,7 @@ module _ (case : List ℕ) (needed room : ℕ) where
       ⊎_elim (λ (l : room < needed). absurd (nothing _ (in_right (case_causes case) (here refl)) 0 (lt-ltb room needed l, refl))) (λ u. u) (less? room needed)
 
   -- 6 comes from the room alone
-  six : (i : ℕ) (o : Option (ℕ × ℕ)) → Way o → o ≡ some (6, i) → (i ≡ 0) × NothingFound (case_causes case) × (room < needed)
+  six : (i : ℕ) (o : Option (ℕ × ℕ)) → Way o → o ≡ Some (6, i) → (i ≡ 0) × NothingFound (case_causes case) × (room < needed)
   unfolding case_causes any
   six i o (by_case k j e) q =
       let z : ◌≡◌ {A = ℕ × ℕ} (k, j) (6, i) = cc in
@@ -100,20 +100,20 @@ module _ (case : List ℕ) (needed room : ℕ) where
 -- ---- the answers
 
 module _ (case : List ℕ) (room : ℕ) where
-  pub write_found : (k i : ℕ) → first_cause (write_causes case room) ≡ some (k, i) → write_wishes case room ≡ ungiven k i
+  pub write_found : (k i : ℕ) → first_cause (write_causes case room) ≡ Some (k, i) → write_wishes case room ≡ ungiven k i
   unfolding write_wishes unless_found
   write_found k i e = rw e
 
-  pub write_given : first_cause (write_causes case room) ≡ none → write_wishes case room ≡ given (wish_text (market_in case))
+  pub write_given : first_cause (write_causes case room) ≡ None → write_wishes case room ≡ given (wish_text (market_in case))
   unfolding write_wishes unless_found
   write_given e = rw e
 
   module _ (text : List ℕ) where
-    pub read_found : (k i : ℕ) → first_cause (read_causes case room) ≡ some (k, i) → read_wishes case text room ≡ ungiven k i
+    pub read_found : (k i : ℕ) → first_cause (read_causes case room) ≡ Some (k, i) → read_wishes case text room ≡ ungiven k i
     unfolding read_wishes unless_found
     read_found k i e = rw e
 
-    pub read_worked : first_cause (read_causes case room) ≡ none → read_wishes case text room ≡ copy_for case (read_lines (market_in case) text)
+    pub read_worked : first_cause (read_causes case room) ≡ None → read_wishes case text room ≡ copy_for case (read_lines (market_in case) text)
     unfolding read_wishes unless_found
     read_worked e = rw e
 
@@ -135,8 +135,8 @@ pub write_promised : (case : List ℕ) (room : ℕ) → WritePromised case room 
 write_promised case room = go (first_cause (write_causes case room)) refl
   where
     go : (o : Option (ℕ × ℕ)) → first_cause (write_causes case room) ≡ o → WritePromised case room (write_wishes case room)
-    go (some (k, i)) e = rw (write_found case room k i e) (table_some (write_causes case room) k i e)
-    go none e =
+    go (Some (k, i)) e = rw (write_found case room k i e) (table_some (write_causes case room) k i e)
+    go None e =
         let nothing : NothingFound (write_causes case room) = table_none (write_causes case room) e in
         rw (write_given case room e) (nothing, refl, text_fits case (write_case case room nothing))
 
@@ -157,8 +157,8 @@ read_promised case text room = go (first_cause (read_causes case room)) refl
     by_lines nothing (refused k i) e = inr (nothing, (refused_exactly (market_in case) text k i).0 e)
 
     go : (o : Option (ℕ × ℕ)) → first_cause (read_causes case room) ≡ o → ReadPromised case text room (read_wishes case text room)
-    go (some (k, i)) e = rw (read_found case room text k i e) (inl (table_some (read_causes case room) k i e))
-    go none e = rw (read_worked case room text e) (by_lines (table_none (read_causes case room) e) (read_lines (market_in case) text) refl)
+    go (Some (k, i)) e = rw (read_found case room text k i e) (inl (table_some (read_causes case room) k i e))
+    go None e = rw (read_worked case room text e) (by_lines (table_none (read_causes case room) e) (read_lines (market_in case) text) refl)
 
 -- ---- the promises of their own
 
@@ -174,8 +174,8 @@ written : (case text : List ℕ) (room : ℕ) → write_wishes case room ≡ giv
 written case text room e = go (first_cause (write_causes case room)) refl
   where
     go : (o : Option (ℕ × ℕ)) → first_cause (write_causes case room) ≡ o → NothingFound (write_causes case room) × (text ≡ wish_text (market_in case))
-    go (some (k, i)) f = let z : ungiven k i ≡ given text = sym (write_found case room k i f) ∙ e in let y : ◌≡◌ {A = ℕ} 0 1 = cc in absurd (omega arith)
-    go none f = (table_none (write_causes case room) f, given_same text _ (sym e ∙ write_given case room f))
+    go (Some (k, i)) f = let z : ungiven k i ≡ given text = sym (write_found case room k i f) ∙ e in let y : ◌≡◌ {A = ℕ} 0 1 = cc in absurd (omega arith)
+    go None f = (table_none (write_causes case room) f, given_same text _ (sym e ∙ write_given case room f))
 
 -- the copy of a case needs as much room for its lines
 room_copied : (case : List ℕ) (ls : List Line) → NothingFound (case_causes case) → (market_in (wished ls case)).students ≡ (market_in case).students
@@ -197,7 +197,7 @@ read_into_another case case' text room copy_room again e nothing' students pairs
     read_too M (market_in case') (ranged case N) (ranged case' N') students pairs text ls (ap (read_lines M) w.1 ∙ read_back_lem M (ranged case N)) in
     let kept : CopyOf case' copy ls = copy_of case' N' text ls back in
     let same : SameWishes M (market_in copy) = written_copy case N case' N' students pairs in
-    let first : first_cause (write_causes copy again) ≡ none =
+    let first : first_cause (write_causes copy again) ≡ None =
     first_none copy (text_room copy) again (none_table (case_causes copy) kept.valid) (omega (arith, room_copied case' ls N' kept.rest.students)) in
     let lines : wish_text M ≡ wish_text (market_in copy) = (equal_lines M (market_in copy) (ranged case N) (ranged copy kept.valid)).1 same in (
       copy,
@@ -211,7 +211,7 @@ pub write_then_read : WriteThenRead
 unfolding write_causes read_causes
 write_then_read case text room copy_room e enough =
     let w = written case text room e in
-    let first : first_cause (read_causes case copy_room) ≡ none =
+    let first : first_cause (read_causes case copy_room) ≡ None =
     first_none case (length case) copy_room (none_table (case_causes case) (write_case case room w.0)) enough in
     read_into_another case case text room copy_room room e (table_none (read_causes case copy_room) first) refl (λ s v. refl)
     (room_enough case (text_room case) room w.0)
@@ -271,8 +271,8 @@ any_order case rest room ls ls' f o = go (first_cause (read_causes case room)) r
   where
     go : (r : Option (ℕ × ℕ)) → first_cause (read_causes case room) ≡ r
         → read_wishes case (lines_text ls ++ rest) room ≡ read_wishes case (lines_text ls' ++ rest) room
-    go (some (k, i)) e = read_found case room (lines_text ls ++ rest) k i e ∙ sym (read_found case room (lines_text ls' ++ rest) k i e)
-    go none e =
+    go (Some (k, i)) e = read_found case room (lines_text ls ++ rest) k i e ∙ sym (read_found case room (lines_text ls' ++ rest) k i e)
+    go None e =
         let R = ranged case (read_case case room (table_none (read_causes case room) e)) in
         read_worked case room (lines_text ls ++ rest) e ∙ (read_alike case rest R ls ls' f o ∙ sym (read_worked case room (lines_text ls' ++ rest) e))
 
@@ -313,19 +313,19 @@ wishes_six =
     six_written case room i e = go (first_cause (write_causes case room)) refl
       where
         go : (o : Option (ℕ × ℕ)) → first_cause (write_causes case room) ≡ o → (i ≡ 0) × NothingFound (case_causes case) × (room < text_room case)
-        go (some (k, j)) f =
+        go (Some (k, j)) f =
             let z : ◌≡◌ {A = ℕ × ℕ} (k, j) (6, i) = ap number (sym (write_found case room k j f) ∙ e) in
-            six case (text_room case) room i (first_cause (write_causes case room)) (way case (text_room case) room) (f ∙ ap some z)
-        go none f = let z : given _ ≡ ungiven 6 i = sym (write_given case room f) ∙ e in let y : ◌≡◌ {A = ℕ} 0 1 = cc in absurd (omega arith)
+            six case (text_room case) room i (first_cause (write_causes case room)) (way case (text_room case) room) (f ∙ ap Some z)
+        go None f = let z : given _ ≡ ungiven 6 i = sym (write_given case room f) ∙ e in let y : ◌≡◌ {A = ℕ} 0 1 = cc in absurd (omega arith)
 
     six_read : (case text : List ℕ) (room i : ℕ) → read_wishes case text room ≡ ungiven 6 i → (i ≡ 0) × NothingFound (case_causes case) × (room < length case)
     six_read case text room i e = go (first_cause (read_causes case room)) refl
       where
         go : (o : Option (ℕ × ℕ)) → first_cause (read_causes case room) ≡ o → (i ≡ 0) × NothingFound (case_causes case) × (room < length case)
-        go (some (k, j)) f =
+        go (Some (k, j)) f =
             let z : ◌≡◌ {A = ℕ × ℕ} (k, j) (6, i) = ap number (sym (read_found case room text k j f) ∙ e) in
-            six case (length case) room i (first_cause (read_causes case room)) (way case (length case) room) (f ∙ ap some z)
-        go none f = absurd (line_number ((lines_refused case text room 6 i (table_none (read_causes case room) f)).0 e).fault refl)
+            six case (length case) room i (first_cause (read_causes case room)) (way case (length case) room) (f ∙ ap Some z)
+        go None f = absurd (line_number ((lines_refused case text room 6 i (table_none (read_causes case room) f)).0 e).fault refl)
 
 -- a buffer with these bytes at its head
 kept : (o : WishesOutcome) (out : List ℕ) → ((t : List ℕ) → o ≡ given t → length t ≤ length out) → BufferKept o out
@@ -362,9 +362,9 @@ wishes_kept = record {
     by_read case text copy t e = go (first_cause (read_causes case (length copy))) refl
       where
         go : (o : Option (ℕ × ℕ)) → first_cause (read_causes case (length copy)) ≡ o → length t ≤ length copy
-        go (some (k, j)) f = let z : ungiven k j ≡ given t = sym (read_found case (length copy) text k j f) ∙ e in let y : ◌≡◌ {A = ℕ} 0 1 = cc in absurd
+        go (Some (k, j)) f = let z : ungiven k j ≡ given t = sym (read_found case (length copy) text k j f) ∙ e in let y : ◌≡◌ {A = ℕ} 0 1 = cc in absurd
             (omega arith)
-        go none f =
+        go None f =
             let nothing : NothingFound (read_causes case (length copy)) = table_none (read_causes case (length copy)) f in
             let r = (read_lines_exactly case text t (length copy) nothing).0 e in
             let long = copy_length case (read_case case (length copy) nothing) text r.0 (lines_are (market_in case) text r.0 r.1) in

@@ -7,7 +7,7 @@ use mathlib.Core.List.{List, map}
 use native.Mathlib.Omega.{arith}
 use borrow.Author.Tests.{eq-eqb, ne_eqb, le-leb, lt-leb}
 use lib.Dec.{eqb, leb}
-use lib.ListN.{length, get_or, set, length-set, length-map}
+use lib.ListN.{length, get_or, set, drop, length-set, length-map, get_or-append, get_or-eq_default}
 use lib.Seq.{ext_get_or, get_or-set_same, get_or-set_other}
 use Rattle.base.specs.Lists.{tabulate}
 use Rattle.base.proofs.Tests.{eq?, less?, and_make}
@@ -49,6 +49,66 @@ pairs_on case group first k old copy e =
 
 pub third_long : (copy : List ℕ) (i x : ℕ) → length (with_third_at copy i x) ≡ length copy
 third_long copy i x = length-set (set copy (16 * i + 6) (x % 256)) (16 * i + 7) (x / 256) ∙ length-set copy (16 * i + 6) (x % 256)
+
+-- what begins with the case has its bytes
+pub head_bytes : (case old : List ℕ) → ((i : ℕ) → get_or (with_head case old) i 0 < 256) → Bytes case
+head_bytes case old f =
+    record {
+      below = λ i.
+          ⊎_elim (λ (l : i < length case). rw (get_or-append case (drop (length case) old) 0 i l) at (f i))
+          (λ (u : length case ≤ i). omega (arith, get_or-eq_default case 0 u))
+          (less? i (length case));
+    }
+
+-- the records of the student's pairs before `next` have their groups; `stop` is behind her last
+pub record PairsTo (case groups : List ℕ) (s next stop : ℕ) (old copy : List ℕ) : Type 0 where
+  pub first : ℕ
+  pub pairs : Stretch case s first (stop - first)
+  pub order : (first ≤ next) × (next ≤ stop)
+  pub put : copy ≡ with_pairs case (λ x. get_or groups x 0) first (next - first) old
+  pub sized : length copy ≡ length old
+
+pub pairs_start : (case groups : List ℕ) (s first stop : ℕ) (old : List ℕ) → Stretch case s first (stop - first) → first ≤ stop
+    → PairsTo case groups s first stop old old
+pairs_start case groups s first stop old S l =
+    let none : first - first ≡ 0 = omega arith in
+    record {
+      first = first;
+      pairs = S;
+      order = (omega arith, l);
+      put = rw none (pairs_none case (λ x. get_or groups x 0) first old);
+      sized = refl;
+    }
+
+-- the pair whose record is next
+module _ (case groups : List ℕ) (s next stop : ℕ) (old copy : List ℕ) (I : PairsTo case groups s next stop old copy) (l : next < stop) where
+  here : I.first + (next - I.first) ≡ next
+  here = omega (arith, I.order)
+
+  pub next_inside : next < row_count case
+  next_inside = rw here at (I.pairs.inside (next - I.first) (omega (arith, I.order)))
+
+  pub next_paired : (market_in case).paired s (row_at case next).second ≡ true
+  next_paired = rw here at (I.pairs.paired (next - I.first) (omega (arith, I.order)))
+
+  pub pairs_next : (next' stop' x : ℕ) (copy' : List ℕ) → next' ≡ next + 1 → stop' ≡ stop → x ≡ get_or groups (row_at case next).second 0
+      → copy' ≡ with_third_at copy next x → PairsTo case groups s next' stop' old copy'
+  pairs_next next' stop' x copy' n m g e =
+      let more : next - I.first + 1 ≡ next' - I.first = omega (arith, I.order) in
+      let put = pairs_on case (λ x. get_or groups x 0) I.first (next - I.first) old copy I.put in
+      record {
+        first = I.first;
+        pairs = rw m I.pairs;
+        order = omega (arith, I.order);
+        put = e ∙ (ap (with_third_at copy next) g ∙ rw (here, more) at put);
+        sized = ap length e ∙ (third_long copy next x ∙ I.sized);
+      }
+
+pub pairs_end : (case groups : List ℕ) (s next stop : ℕ) (old copy : List ℕ) (I : PairsTo case groups s next stop old copy) → stop - next ≡ 0
+    → copy ≡ with_pairs case (λ x. get_or groups x 0) I.first (stop - I.first) old
+pairs_end case groups s next stop old copy I l =
+    let whole : next - I.first ≡ stop - I.first = omega (arith, I.order) in
+    rw whole at I.put
 
 -- ---- the copy by its records
 
@@ -283,7 +343,8 @@ module _ (case : List ℕ) (nothing : NothingFound (case_causes case)) (ls : Lis
 
   rows_same : {f g : ℕ → Row} → ((i : ℕ) → i < row_count case → f i ≡ g i) → tabulate f (row_count case) ≡ tabulate g (row_count case)
   rows_same {f} {g} h =
-      ext_get_or no_row (tabulate f (row_count case)) (tabulate g (row_count case)) (tabulate_length f (row_count case) ∙ sym (tabulate_length g (row_count case)))
+      ext_get_or no_row (tabulate f (row_count case)) (tabulate g (row_count case))
+      (tabulate_length f (row_count case) ∙ sym (tabulate_length g (row_count case)))
       (λ j u.
       let q : j < row_count case = omega (arith, tabulate_length f (row_count case)) in
       tabulate_at f (row_count case) j no_row q ∙ (h j q ∙ sym (tabulate_at g (row_count case) j no_row q)))

@@ -1,7 +1,6 @@
 -- The two parts for wish lines (document 02, Paper 6): "turn lines into the students' groups and line groups in a copy of the case .., and turn a case back
 -- into lines". Their causes, their answers, and the lent buffer after them. Both put bytes at the head of one lent buffer: a text, or a copy of the case.
-use Rattle.std.specs.Prelude.{ℕ, ◌+◌, ◌*◌, List, [], ◌∷◌, ◌++◌, length, ltb}
-use Rattle.std.proofs.Math.Option.{Option, some, none}
+use Rattle.std.specs.Prelude.{ℕ, ◌+◌, ◌*◌, List, [], ◌∷◌, ◌++◌, length, ltb, Option, Some, None}
 use Rattle.base.specs.Lists.{tally}
 use Rattle.format.specs.Layout.{rows, of_kind}
 use Rattle.format.specs.Causes.{Cause, whole, first_cause}
@@ -37,8 +36,8 @@ read_causes case room = lent_causes case (length case) room
 -- ---- The answers.
 
 unfoldable pub unless_found : Option (ℕ × ℕ) → WishesOutcome → WishesOutcome
-unless_found (some r) o = ungiven r.0 r.1
-unless_found none o = o
+unless_found (Some r) o = ungiven r.0 r.1
+unless_found None o = o
 
 -- a case's lines, or a refusal
 unfoldable pub write_wishes : List ℕ → ℕ → WishesOutcome

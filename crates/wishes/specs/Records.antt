@@ -1,5 +1,5 @@
 -- What the code does to the lent copy, and what it finds of a text: byte by byte and line by line.
-use Rattle.std.specs.Prelude.{ℕ, zero, suc, ◌+◌, ◌-◌, ◌*◌, ◌/◌, ◌%◌, ◌<◌, ◌≡◌, List, get_or, set}
+use Rattle.std.specs.Prelude.{ℕ, zero, suc, ◌+◌, ◌-◌, ◌*◌, ◌/◌, ◌%◌, ◌<◌, ◌≡◌, List, get_or, set, Result, Ok, Err}
 use Rattle.lgs.specs.Market.{Market}
 use Rattle.format.specs.Layout.{row_at}
 use Rattle.tables.specs.Table.{Stretch}
@@ -7,7 +7,8 @@ use Rattle.wish_lines.specs.Lines.{Line, position}
 use Rattle.wish_lines.specs.Reading.{read, refused, read_lines}
 use Rattle.wish_lines.specs.Wishes.{Option?}
 use Rattle.wishes.specs.Copy.{groups_in}
-use Rattle.wishes.specs.declared.Verdict.{Verdict}
+use Rattle.api.specs.declared.Refusal.{Refusal}
+use Rattle.api.specs.Causes.{number_of}
 
 -- record i with another third field
 abbrev pub with_third_at : List ℕ → ℕ → ℕ → List ℕ
@@ -29,8 +30,7 @@ pub record StudentPut (case groups : List ℕ) (s : ℕ) (old new : List ℕ) : 
 abbrev pub AllNoted : Market → List Line → List ℕ → Type 0
 AllNoted M ls groups = (k x : ℕ) → k < M.students → Option? M (suc k) x → get_or groups (65 * k + x) 0 ≡ position (groups_in ls (suc k)) x
 
--- a text is read, and its groups are noted; or the cause is not 0 and it is refused so
-abbrev pub Judged : Market → List ℕ → Verdict → List ℕ → Type 0
-Judged M text v groups =
-    (v.cause ≡ 0 → (ls : List Line) × (read_lines M text ≡ read ls) × AllNoted M ls groups)
-    × ((v.cause ≡ 0 → ⊥) → read_lines M text ≡ refused v.cause v.place)
+-- a text that is not refused is read, and its groups are noted; one that is refused is refused so
+abbrev pub Judged : Market → List ℕ → Result (Unit {0}) Refusal → List ℕ → Type 0
+Judged M text (Ok none) groups = (ls : List Line) × (read_lines M text ≡ read ls) × AllNoted M ls groups
+Judged M text (Err r) groups = read_lines M text ≡ refused (number_of r.cause) r.place

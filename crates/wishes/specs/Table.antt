@@ -13,7 +13,8 @@ use Rattle.wishes.specs.Outcome.{WishesOutcome, given, ungiven, write_wishes, re
 unfoldable pub grouped_k : List ℕ → List ℕ → List ℕ → List ℕ
 grouped_k a b c =
     case_of (numbered 1 1 (get_or a 2 0) ∷ numbered 2 2 (get_or b 2 0) ∷ numbered 3 2 (get_or c 2 0) ∷ []) (workshops_k 1 1 3)
-    (f4 1 1 (get_or a 0 0) 1 ∷ f4 1 2 (get_or a 1 0) 1 ∷ f4 2 1 (get_or b 0 0) 2 ∷ f4 2 2 (get_or b 1 0) 2 ∷ f4 3 1 (get_or c 0 0) 2 ∷ f4 3 2 (get_or c 1 0) 2 ∷ [])
+    (f4 1 1 (get_or a 0 0) 1 ∷ f4 1 2 (get_or a 1 0) 1 ∷ f4 2 1 (get_or b 0 0) 2 ∷ f4 2 2 (get_or b 1 0) 2
+    ∷ f4 3 1 (get_or c 0 0) 2 ∷ f4 3 2 (get_or c 1 0) 2 ∷ [])
 
 -- a case for the paper's own line: students 1 and 2 have no pairs, and student 3 has these groups for workshops 2, 1 and 4, none, and 5
 unfoldable pub fitting : ℕ → ℕ → ℕ → ℕ → List ℕ

@@ -1,56 +1,59 @@
 -- `engine::place` meets its contract: a refusal at once, or what the run leaves.
-use Rattle.std.proofs.Common.{◌∙◌, sym, ap, subst, ℕ, length, replicate}
+use Rattle.std.proofs.Common.{◌∙◌, ap, subst, ℕ, length, replicate}
+use Rattle.std.proofs.lemmas.Result.{err_from_is_err_and}
 use Rattle.api.specs.Answered.{zero_state, lent, room_of}
-use Rattle.answering.specs.Call.{TestedInput, Runnable}
-use Rattle.answering.proofs.Composing.{answered_refused, runnable, answered_ran}
-use Rattle.engine.proofs.Blank.{blank}
+use Rattle.answering.specs.Call.{TestedInput}
+use Rattle.answering.proofs.Composing.{answered_refused, cleaned, runnable, answered_ran}
+use Rattle.tables.proofs.Laws.{blank}
 use Rattle.engine.proofs.place.Goals as goal
-use Rattle.engine.proofs.place.Goals.{After-test-checked}
+use Rattle.engine.proofs.place.Goals.{After-test}
 
 -- what the test says, in the room that was lent
-tested : (c : After-test-checked) → (let a = c.args in let t = c.test-checked in
+tested : (c : After-test) → (let a = c.args in let t = c.test in
     TestedInput a.case.now a.book.now (lent a.case.now a.book.now a.places.now a.visits.now a.seats.now a.index.now a.states.now) t.result
     t.new.seats t.new.index t.new.table)
 tested c =
     let a = c.args in
-    let t = c.test-checked in
+    let t = c.test in
     subst (λ (n : ℕ). TestedInput a.case.now a.book.now
     (room_of (length a.places.now) (length a.visits.now) (length a.seats.now) (length a.index.now) n) t.result t.new.seats t.new.index t.new.table)
-    c.clear_states.auto.states t.ensures
+    c.fill.auto.self t.ensures
 
-pub test-checked-requires : goal.test-checked-requires
-test-checked-requires c = blank
+pub test-requires : goal.test-requires
+test-requires c = blank
 
-pub run-answer-requires : goal.run-answer-requires
-run-answer-requires c =
+pub returns-in_err-counts : goal.returns-in_err-counts
+returns-in_err-counts c =
     let a = c.args in
-    let t = c.test-checked in
-    let v = c.in-Counts in
-    let cleared = c.clear_states in (
-      subst (λ (n : ℕ). Runnable a.case.now a.book.now t.new.index t.new.table a.places.now a.visits.now t.new.seats n v.students v.workshops)
-          (sym cleared.auto.states)
-          (runnable a.case.now a.book.now a.places.now a.visits.now a.seats.now a.index.now a.states.now t.result t.new.seats t.new.index t.new.table
-          (tested (goal.at.run-answer-requires c).After-test-checked) v.students v.workshops v.pairs v.is t.auto.seats t.auto.index),
-      cleared.ensures ∙ ap (λ (n : ℕ). replicate n zero_state) (sym cleared.auto.states),
-    )
+    let p = err_from_is_err_and c.from_residual.result c.from_residual.ensures.1 in
+    rw (p.1, p.2, c.fill.ensures.after (λ y e. e))
+    (answered_refused a.case.now a.book.now a.places.now a.visits.now a.seats.now a.index.now a.states.now _ _ _ _
+    (tested (goal.at.returns-in_err-counts c).After-test) _ c.in_err-counts.was)
 
-pub returns-in-Refused : goal.returns-in-Refused
-returns-in-Refused c =
+pub new-input-requires : goal.new-input-requires
+new-input-requires c =
     let a = c.args in
-    let t = c.test-checked in
-    rw c.clear_states.ensures
-    (answered_refused a.case.now a.book.now a.places.now a.visits.now a.seats.now a.index.now a.states.now t.result t.new.seats t.new.index t.new.table
-    (tested (goal.at.returns-in-Refused c).After-test-checked) c.in-Refused.cause c.in-Refused.record c.in-Refused.is)
+    cleaned a.case.now a.book.now a.places.now a.visits.now a.seats.now a.index.now a.states.now _ _ _ _
+    (tested (goal.at.new-input-requires c).After-test) c.in_ok-counts.counts c.in_ok-counts.was
 
-pub returns-in-Counts : goal.returns-in-Counts
-returns-in-Counts c =
+pub run-answer-requires-clause-runnable : goal.run-answer-requires-clause-runnable
+run-answer-requires-clause-runnable c =
     let a = c.args in
-    let t = c.test-checked in
-    let v = c.in-Counts in
+    let t = c.test in
+    let i = c.new-input.ensures in
+    rw (i.case_kept, i.book_kept, i.index_kept, c.fill.auto.self)
+    (runnable a.case.now a.book.now a.places.now a.visits.now a.seats.now a.index.now a.states.now _ _ _ _
+    (tested (goal.at.run-answer-requires-clause-runnable c).After-test) c.in_ok-counts.counts c.in_ok-counts.was t.auto.seats t.auto.index)
+
+pub returns : goal.returns
+returns c =
+    let a = c.args in
+    let t = c.test in
+    let i = c.new-input.ensures in
     let r = c.run-answer in
-    let zeros = r.ensures.1 ∙ ap (λ (n : ℕ). replicate n zero_state) c.clear_states.auto.states in
-    rw zeros
-    (answered_ran a.case.now a.book.now a.places.now a.visits.now a.seats.now a.index.now a.states.now t.result t.new.seats t.new.index t.new.table
-    (tested (goal.at.returns-in-Counts c).After-test-checked) v.students v.workshops v.pairs v.is
-    r.result r.new.places r.new.visits r.new.seats c.clear.new.s t.auto.seats r.ensures.0
-    (c.clear.ensures ∙ ap (λ (n : ℕ). replicate n 0) t.auto.index))
+    let left = rw (i.case_kept, i.book_kept) at r.ensures.ran in
+    rw (r.ensures.blank ∙ ap (λ (n : ℕ). replicate n zero_state) c.fill.auto.self)
+    (answered_ran a.case.now a.book.now a.places.now a.visits.now a.seats.now a.index.now a.states.now _ _ _ _
+    (tested (goal.at.returns c).After-test) c.in_ok-counts.counts c.in_ok-counts.was
+    r.result r.new.places r.new.visits r.new.seats c.fill-2.new.self t.auto.seats left
+    (c.fill-2.ensures.after (λ y e. e) ∙ ap (λ (n : ℕ). replicate n 0) t.auto.index))

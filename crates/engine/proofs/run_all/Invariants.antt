@@ -8,14 +8,16 @@ use Rattle.engine.proofs.Runs.{turns_left}
 use Rattle.engine.proofs.run_all.Given as goal
 
 abbrev pub invariant-loop-r : goal.invariant-loop-r
-invariant-loop-r l = record {
-  can : CanRun l.case l.book l.index l.table l.visits l.seats l.states l.r l.students l.workshops;
-  same : whole_run l.case l.book l.visits l.seats l.states l.r
-      ≡ whole_run l.case l.book l.initial.visits l.initial.seats l.initial.states l.initial.r;
-}
+invariant-loop-r l =
+    let M = market_in l.input.table.case.now in
+    let B = results_in l.input.book.now in
+    record {
+      can : CanRun M B l.visits l.seats l.states l.r;
+      same : whole_run M B l.visits l.seats l.states l.r ≡ whole_run M B l.initial.visits l.initial.seats l.initial.states l.initial.r;
+    }
 
 abbrev pub decreases-loop-r : goal.decreases-loop-r
 decreases-loop-r l =
-    let M = market_in l.case in
-    let B = results_in l.book in
+    let M = market_in l.input.table.case.now in
+    let B = results_in l.input.book.now in
     turns_left M B (fuel M B) (l.visits, (l.seats, (l.states, l.r)))

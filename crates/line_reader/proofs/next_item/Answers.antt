@@ -1,12 +1,10 @@
 -- `line_reader::next_item` meets its contract.
 use mathlib.Core.Path.{sym, ◌∙◌}
-use Rattle.line_reader.proofs.Scanning.{next_inner, next_brace, next_alone, next_none}
+use Rattle.line_reader.proofs.Scanning.{next_inner, next_brace, next_alone}
 use Rattle.line_reader.proofs.next_item.Goals as goal
 
 pub returns-then-within : goal.returns-then-within
-returns-then-within c =
-    let a = c.args in
-    rw c.in_braces.ensures (next_inner a.text.now a.i a.within c.if-within.true)
+returns-then-within c = let a = c.args in rw c.in_braces.ensures (next_inner a.text.now a.i a.within c.if-within.true)
 
 pub returns-then-stands : goal.returns-then-stands
 returns-then-stands c =
@@ -14,18 +12,16 @@ returns-then-stands c =
     rw c.in_braces-then-stands.ensures
     (next_brace a.text.now a.i a.within c.if-within.false (sym c.stands.ensures ∙ c.if-stands.true))
 
-pub returns-then-x : goal.returns-then-x
-returns-then-x c =
+pub returns-in_err-value : goal.returns-in_err-value
+returns-in_err-value c =
     let a = c.args in
-    let bare = sym c.stands.ensures ∙ c.if-stands.false in
-    let x = c.item_at-x in
-    rw c.behind_group.ensures
-    (next_alone a.text.now a.i a.within c.if-within.false bare x.result x.ensures c.if-x.true)
+    rw c.from_residual.ensures
+    (rw (sym c.item_at.ensures ∙ c.in_err-value.was) at
+    (next_alone a.text.now a.i a.within c.if-within.false (sym c.stands.ensures ∙ c.if-stands.false)))
 
 pub returns : goal.returns
 returns c =
     let a = c.args in
-    let bare = sym c.stands.ensures ∙ c.if-stands.false in
-    let x = c.item_at-x in
-    rw c.make_turn.ensures
-    (next_none a.text.now a.i a.within c.if-within.false bare x.result x.ensures c.if-x.false)
+    rw c.behind_group.ensures
+    (rw (sym c.item_at.ensures ∙ c.in_ok-value.was) at
+    (next_alone a.text.now a.i a.within c.if-within.false (sym c.stands.ensures ∙ c.if-stands.false)))

@@ -4,8 +4,7 @@ use native.Mathlib.Omega.{arith}
 use Rattle.line_reader.proofs.Noting.{note_none}
 use Rattle.line_reader.proofs.note.Goals as goal
 
-pub returns-then-w-lt1 : goal.returns-then-w-lt1
-returns-then-w-lt1 c =
-    let a = c in
-    note_none a.args.m (record { named = a.args.m.named; stray = a.args.m.stray; nones = c.capped.result }) a.args.groups.now _
-    a.args.x a.args.g a.requires.1 (omega arith) refl refl c.capped.ensures refl
+pub returns-then-w-eq0 : goal.returns-then-w-eq0
+returns-then-w-eq0 c =
+    let a = c.args in
+    note_none a.m _ a.groups.now _ a.x a.g c.requires.1 (omega arith) refl refl c.min.ensures refl

@@ -4,8 +4,8 @@ use lib.ListN.{length}
 use Rattle.line_reader.proofs.Reading.{Going}
 use Rattle.line_reader.proofs.read_groups.Given as goal
 
-abbrev pub invariant-loop-i : goal.invariant-loop-i
-invariant-loop-i l = Going l.text l.from l.i l.within l.g l.m l.groups
+abbrev pub invariant-loop-turn : goal.invariant-loop-turn
+invariant-loop-turn l = Going l.text l.from l.i l.within l.g l.marks l.groups
 
-abbrev pub decreases-loop-i : goal.decreases-loop-i
-decreases-loop-i l = length l.text - l.i
+abbrev pub decreases-loop-turn : goal.decreases-loop-turn
+decreases-loop-turn l = length l.text - l.i

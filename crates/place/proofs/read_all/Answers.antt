@@ -16,8 +16,8 @@ head at k n before part l m =
 pub loop-done-preserved : goal.loop-done-preserved
 loop-done-preserved g c =
     let here = c.loop-done in
-    let joined = head here.done (length here.buf - here.done) c.in-Ok.n here.buf c.read.new.buf (omega arith) c.in-Ok.ensures.bound.0 in
+    let joined = head here.done (length here.buf - here.done) c.in_ok-n.n here.buf c.read.new.buf (omega arith) c.in_ok-n.ensures.bound.0 in
     record {
       in_bounds = search rules;
-      given = rw joined (Consumes-trans _ _ _ _ _ here.invariant.given c.in-Ok.ensures.bytes.0);
+      given = rw joined (Consumes-trans _ _ _ _ _ here.invariant.given c.in_ok-n.ensures.bytes.0);
     }

@@ -1,45 +1,40 @@
 -- Each case of the answer puts its lines.
 use native.Mathlib.Omega.{arith}
 use Rattle.api.specs.Text.{text_of}
-use Rattle.putting.proofs.Laws.{put_then, put_whole}
-use Rattle.printing.proofs.Lengths.{text_length}
+use Rattle.putting.proofs.Laws.{put_then}
+use Rattle.printing.proofs.Lengths.{text_whole}
 use Rattle.printing.proofs.put_answer.Goals as goal
 
-pub returns-in-Placed-clause-put : goal.returns-in-Placed-clause-put
+pub returns-in-Ok-Placed-clause-put : goal.returns-in-Ok-Placed-clause-put
 unfolding text_of
-returns-in-Placed-clause-put c = rw c.in-Placed.is (put_then (omega arith) c.put_places-end.ensures c.put_visits.ensures)
+returns-in-Ok-Placed-clause-put c =
+    let case = c.in-Ok-Placed in
+    rw (case.is, rw case.is at case.field-0-is) (put_then (omega arith) c.put_places-end.ensures c.put_visits.ensures.put)
 
-pub returns-in-Placed-clause-whole : goal.returns-in-Placed-clause-whole
-returns-in-Placed-clause-whole c =
-    let a = c.args in
-    λ room. put_whole (returns-in-Placed-clause-put c) (omega (
-      arith,
-      text_length a.answer a.n a.places.now a.visits.now c.requires (rw c.in-Placed.is (omega arith))
-          (λ j. omega (arith, c.type_inv.places j)) (λ j. omega (arith, c.type_inv.visits j)) (omega arith) (omega arith),
-    ))
+pub returns-in-Ok-Placed-clause-whole : goal.returns-in-Ok-Placed-clause-whole
+returns-in-Ok-Placed-clause-whole c =
+    let case = c.in-Ok-Placed in
+    text_whole c.args.answer _ _ _ c.requires (rw (case.is, rw case.is at case.field-0-is) c.put_visits.ensures.b_in_bounds)
+    (λ j. omega (arith, c.type_inv.places j)) (omega arith) (returns-in-Ok-Placed-clause-put c)
 
-pub returns-in-Next-clause-put : goal.returns-in-Next-clause-put
+pub returns-in-Ok-Next-clause-put : goal.returns-in-Ok-Next-clause-put
 unfolding text_of
-returns-in-Next-clause-put c = rw c.in-Next.is (put_then (omega arith) c.put_line2-end.ensures.put c.put_visits-in-Next.ensures)
+returns-in-Ok-Next-clause-put c =
+    let case = c.in-Ok-Next in
+    rw (case.is, rw case.is at case.field-0-is) (put_then (omega arith) c.put_line-end.ensures.put c.put_visits-in-Ok-Next.ensures.put)
 
-pub returns-in-Next-clause-whole : goal.returns-in-Next-clause-whole
-returns-in-Next-clause-whole c =
-    let a = c.args in
-    λ room. put_whole (returns-in-Next-clause-put c) (omega (
-      arith,
-      text_length a.answer a.n a.places.now a.visits.now c.requires (rw c.in-Next.is (c.put_line2-end.ensures.b_in_bounds, omega arith))
-          (λ j. omega (arith, c.type_inv.places j)) (λ j. omega (arith, c.type_inv.visits j)) (omega arith) (omega arith),
-    ))
+pub returns-in-Ok-Next-clause-whole : goal.returns-in-Ok-Next-clause-whole
+returns-in-Ok-Next-clause-whole c =
+    let case = c.in-Ok-Next in
+    text_whole c.args.answer _ _ _ c.requires
+    (rw (case.is, rw case.is at case.field-0-is) (c.put_line-end.ensures.b_in_bounds, c.put_visits-in-Ok-Next.ensures.b_in_bounds))
+    (λ j. omega (arith, c.type_inv.places j)) (omega arith) (returns-in-Ok-Next-clause-put c)
 
-pub returns-in-Refused-clause-put : goal.returns-in-Refused-clause-put
+pub returns-in-Err-clause-put : goal.returns-in-Err-clause-put
 unfolding text_of
-returns-in-Refused-clause-put c = rw c.in-Refused.is c.put_line2.ensures.put
+returns-in-Err-clause-put c = rw c.in-Err.is (rw c.from.ensures at c.put_line.ensures.put)
 
-pub returns-in-Refused-clause-whole : goal.returns-in-Refused-clause-whole
-returns-in-Refused-clause-whole c =
-    let a = c.args in
-    λ room. put_whole (returns-in-Refused-clause-put c) (omega (
-      arith,
-      text_length a.answer a.n a.places.now a.visits.now c.requires (rw c.in-Refused.is c.put_line2.ensures.b_in_bounds)
-          (λ j. omega (arith, c.type_inv.places j)) (λ j. omega (arith, c.type_inv.visits j)) (omega arith) (omega arith),
-    ))
+pub returns-in-Err-clause-whole : goal.returns-in-Err-clause-whole
+returns-in-Err-clause-whole c =
+    text_whole c.args.answer _ _ _ c.requires (rw c.in-Err.is (rw c.from.ensures at c.put_line.ensures.b_in_bounds))
+    (λ j. omega (arith, c.type_inv.places j)) (omega arith) (returns-in-Err-clause-put c)

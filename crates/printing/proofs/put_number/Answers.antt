@@ -3,7 +3,4 @@ use Rattle.putting.proofs.Laws.{put_then}
 use Rattle.printing.proofs.put_number.Goals as goal
 
 pub returns : goal.returns
-returns c =
-    let after_space = c in
-    let start = after_space in
-    put_then start.requires after_space.put_byte-end.ensures c.put_decimal.ensures
+returns c = put_then c.requires c.put_byte-end.ensures c.put_decimal.ensures

@@ -1,4 +1,4 @@
--- `records::row_at` meets its contract. Each field by what its reader ensures.
+-- `records::row_at` meets its contract. Each field by its reader.
 use Rattle.format.specs.Layout.{row_at}
 use Rattle.records.proofs.row_at.Goals as goal
 

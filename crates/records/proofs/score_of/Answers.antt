@@ -1,10 +1,8 @@
--- `records::score_of` meets its contract. The lower half is itself, the upper half 65536 less.
-use native.Mathlib.Omega.{arith}
-use Rattle.base.proofs.Signed.{low_half, high_half}
+-- `records::score_of` meets its contract. Sixteen bits read as a signed number (`signed_16`).
+use mir.Syntax.{w16}
+use mir.ValLaws.{of_z-to_z}
+use Rattle.base.proofs.Signed.{signed_16}
 use Rattle.records.proofs.score_of.Goals as goal
 
-pub returns-then-v-lt32768 : goal.returns-then-v-lt32768
-returns-then-v-lt32768 c = low_half c.args.v (omega arith)
-
-pub returns-else-v-lt32768 : goal.returns-else-v-lt32768
-returns-else-v-lt32768 c = high_half c.args.v (omega arith) (omega arith)
+pub returns : goal.returns
+returns c = rw (c.cast_signed.ensures, of_z-to_z w16 c.args.v c.ranges.v) (signed_16 c.args.v c.ranges.v.fits)

@@ -1,8 +1,8 @@
--- `records::u16_at` meets its contract. Both bytes by what `wide` ensures.
+-- `records::u16_at` meets its contract. Both bytes by what `from` gives.
 use native.Mathlib.Numerals.{add-one}
 use Rattle.base.specs.Words.{word}
 use Rattle.records.proofs.u16_at.Goals as goal
 
 pub returns : goal.returns
 unfolding word
-returns c = rw (c.wide.ensures.0, c.wide-2.ensures.0, add-one)
+returns c = rw (c.from.ensures, c.from-2.ensures, add-one)

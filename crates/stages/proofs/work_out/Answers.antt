@@ -1,30 +1,33 @@
 -- `stages::work_out` meets its contract. By whether the rounds have settled.
-use mathlib.Core.Path.{sym, ◌∙◌}
+use mathlib.Core.Path.{sym, ◌∙◌, ap}
+use mathlib.Core.List.{◌++◌}
+use lib.ListN.{drop}
+use Rattle.std.specs.Prelude.{Err}
 use Rattle.stages.proofs.Working.{worked, unworked}
 use Rattle.stages.proofs.work_out.Goals as goal
 
-pub returns-then-settle-clause-value : goal.returns-then-settle-clause-value
-returns-then-settle-clause-value c =
-    let start = c in
-    let a = start.args in
-    let w = worked a.case.now start.requires.case_value.0 a.students _ a.stages.now (sym start.requires.ready.students) start.requires.case_value.1
-    (rw c.if-settle.true at c.settle.ensures) in w.0
+pub returns-in_default-clause-value : goal.returns-in_default-clause-value
+returns-in_default-clause-value c =
+    let a = c.args in
+    let i = a.input.now in
+    ap Err c.at.ensures
+    ∙ (unworked i.table.case.now c.requires.0 i.students a.stages.now (sym i.ready.students) c.requires.1 c.in_default.ensures).0
 
-pub returns-then-settle-clause-stages_after : goal.returns-then-settle-clause-stages_after
-returns-then-settle-clause-stages_after c =
-    let start = c in
-    let a = start.args in
-    let w = worked a.case.now start.requires.case_value.0 a.students _ a.stages.now (sym start.requires.ready.students) start.requires.case_value.1
-    (rw c.if-settle.true at c.settle.ensures) in c.put_stages.ensures ∙ w.1
+pub returns-in_default-clause-stages_after : goal.returns-in_default-clause-stages_after
+returns-in_default-clause-stages_after c =
+    let a = c.args in
+    let i = a.input.now in
+    (unworked i.table.case.now c.requires.0 i.students a.stages.now (sym i.ready.students) c.requires.1 c.in_default.ensures).1
 
 pub returns-clause-value : goal.returns-clause-value
 returns-clause-value c =
-    let start = c in
-    let a = start.args in (unworked a.case.now start.requires.case_value.0 a.students _ a.stages.now (sym start.requires.ready.students) start.requires.case_value.1
-    (rw c.if-settle.false at c.settle.ensures)).0
+    let a = c.args in
+    let i = a.input.now in
+    (worked i.table.case.now c.requires.0 i.students c.in-Some.own a.stages.now (sym i.ready.students) c.requires.1 c.in-Some.ensures).0
 
 pub returns-clause-stages_after : goal.returns-clause-stages_after
 returns-clause-stages_after c =
-    let start = c in
-    let a = start.args in (unworked a.case.now start.requires.case_value.0 a.students _ a.stages.now (sym start.requires.ready.students) start.requires.case_value.1
-    (rw c.if-settle.false at c.settle.ensures)).1
+    let a = c.args in
+    let i = a.input.now in
+    ap (λ l. l ++ drop i.students a.stages.now) c.copy_from_slice.ensures.after
+    ∙ (worked i.table.case.now c.requires.0 i.students c.in-Some.own a.stages.now (sym i.ready.students) c.requires.1 c.in-Some.ensures).1

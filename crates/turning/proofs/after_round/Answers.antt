@@ -1,9 +1,9 @@
--- `turning::after_round` meets its contract. By the test that led there.
+-- `turning::after_round` meets its contract. By whether an interview is missing.
 use Rattle.turning.proofs.Turns.{round_over, round_stopped}
 use Rattle.turning.proofs.after_round.Goals as goal
 
-pub returns-then-round-eq0 : goal.returns-then-round-eq0
-returns-then-round-eq0 c = λ M B o e. let a = c.args in round_over M B a.run a.round o e c.if-round-eq0.true
+pub returns-in-None : goal.returns-in-None
+returns-in-None c = λ M B o e. round_over M B c.args.run c.args.round o e c.in-None.is
 
-pub returns : goal.returns
-returns c = λ M B o e. let a = c.args in round_stopped M B a.run a.round o e c.if-round-eq0.false
+pub returns-in-Some : goal.returns-in-Some
+returns-in-Some c = λ M B o e. round_stopped M B c.args.run c.args.round o e c.in-Some.workshop c.in-Some.is

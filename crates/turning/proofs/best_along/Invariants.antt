@@ -1,11 +1,10 @@
--- `turning::best_along` meets its contract. The invariant is `Along`; the measure is the set of the pairs that are left, as a number.
+-- `turning::best_along` meets its contract. The invariant is `Along`.
+use mathlib.Core.Path.{◌≡◌}
 use Rattle.format.specs.Engine.{results_in}
 use Rattle.turning.proofs.Along.{Along}
 use Rattle.turning.proofs.best_along.Given as goal
 
-abbrev pub invariant-loop-mine : goal.invariant-loop-mine
-invariant-loop-mine l =
-    Along l.case (results_in l.book) l.s l.initial.pair l.start l.set l.mine l.pair l.best l.top
-
-abbrev pub decreases-loop-mine : goal.decreases-loop-mine
-decreases-loop-mine l = l.mine
+abbrev pub invariant-loop-pair : goal.invariant-loop-pair
+invariant-loop-pair l =
+    (l.pair-iterator.end ≡ l.initial.pair-iterator.end)
+    × Along l.input.table.case.now (results_in l.input.book.now) l.s l.initial.pair-iterator.start l.start l.set l.mine l.pair-iterator.start l.best l.top

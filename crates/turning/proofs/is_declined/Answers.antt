@@ -1,25 +1,21 @@
--- `turning::is_declined` meets its contract. By the test of the tier; the score that is passed on is bits, and `to_z-of_z` reads it back.
+-- `turning::is_declined` meets its contract. By the test of the tier.
 use mathlib.Core.Path.{◌≡◌, sym, ◌∙◌}
-use mir.Syntax.{w16}
-use mir.ValLaws.{to_z-of_z}
 use lib.Dec.{ltb}
 use borrow.Author.Tests.{eq-eqb, ne_eqb}
+use Rattle.std.proofs.Common.{rules}
 use Rattle.base.specs.Words.{biased}
 use Rattle.lgs.specs.Rule.{declined}
 use Rattle.format.specs.Layout.{outside_score, results_of}
 use Rattle.turning.proofs.is_declined.Goals as goal
 
-pub returns-then-workshop_tier-workshop_outside : goal.returns-then-workshop_tier-workshop_outside
+pub returns-then-tier-workshop_outside : goal.returns-then-tier-workshop_outside
 unfolding declined results_of
-returns-then-workshop_tier-workshop_outside c = λ s p q.
-    let x = c.workshop_score in
-    let f = to_z-of_z w16 x.result (record { sfits = x.type_inv }) in
-    let e : c.negative.result ≡ ltb (biased x.result) outside_score = c.negative.ensures ∙ rw f in
-    let t = sym p ∙ sym c.workshop_tier.ensures ∙ c.if-workshop_tier-workshop_outside.true
-    ∙ c.workshop_outside.ensures in
-    rw (e, x.ensures, sym q.workshop_score, eq-eqb _ _ t)
+returns-then-tier-workshop_outside c = λ book s p q.
+    let n : c.negative.result ≡ ltb (biased c.args.entry.workshop_score) outside_score = search rules in
+    rw (n, sym q.mark, eq-eqb _ _ (sym p ∙ c.if-tier-workshop_outside.true ∙ c.workshop_outside.ensures))
 
-pub returns-else-workshop_tier-workshop_outside : goal.returns-else-workshop_tier-workshop_outside
+pub returns-else-tier-workshop_outside : goal.returns-else-tier-workshop_outside
 unfolding declined
-returns-else-workshop_tier-workshop_outside c = λ s p q.
-    sym (rw (ne_eqb _ _ (λ t. c.if-workshop_tier-workshop_outside.false (c.workshop_tier.ensures ∙ p ∙ t ∙ sym c.workshop_outside.ensures))))
+returns-else-tier-workshop_outside c = λ book s p q.
+    ne_eqb _ _ c.if-tier-workshop_outside.false
+    ∙ sym (rw (ne_eqb _ _ (λ t. c.if-tier-workshop_outside.false (p ∙ t ∙ sym c.workshop_outside.ensures))))

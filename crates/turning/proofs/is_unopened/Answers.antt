@@ -7,12 +7,11 @@ use Rattle.turning.proofs.is_unopened.Goals as goal
 
 pub returns-then-is_declined : goal.returns-then-is_declined
 unfolding unopened
-returns-then-is_declined c = λ s p q.
-    let a = c.args in
-    sym (or_right ((results_in a.book.now).never s a.w) _ (sym (c.is_declined.ensures s p q) ∙ c.if-is_declined.true))
+returns-then-is_declined c = λ book s p q.
+    c.if-is_declined.true ∙ sym (or_right ((results_in book).never s c.args.w) _ (sym (c.is_declined.ensures book s p q) ∙ c.if-is_declined.true))
 
-pub returns : goal.returns
+pub returns-else-is_declined : goal.returns-else-is_declined
 unfolding unopened
-returns c = λ s p q.
-    let d = sym (c.is_declined.ensures s p q) ∙ c.if-is_declined.false in
+returns-else-is_declined c = λ book s p q.
+    let d = sym (c.is_declined.ensures book s p q) ∙ c.if-is_declined.false in
     rw d (c.ended_in_never.ensures ∙ (sym q.never ∙ sym (or_none _)))

@@ -1,10 +1,9 @@
--- `turning::list_tier` meets its contract. The invariant is `Listing`: which of her first k pairs have been listed.
-use Prim.Native.Nat.{◌-◌}
+-- `turning::list_tier` meets its contract. The invariant is `Listing`: which of her pairs so far have been listed.
+use mathlib.Core.Path.{◌≡◌}
 use Rattle.turning.proofs.Listing.{Listing}
 use Rattle.turning.proofs.list_tier.Given as goal
 
-abbrev pub invariant-loop-k : goal.invariant-loop-k
-invariant-loop-k l = Listing l.case l.s l.tier l.first l.initial.pairs l.pairs l.n l.k
-
-abbrev pub decreases-loop-k : goal.decreases-loop-k
-decreases-loop-k l = l.many - l.k
+abbrev pub invariant-loop-pair : goal.invariant-loop-pair
+invariant-loop-pair l =
+    (l.pair-iterator.end ≡ l.initial.pair-iterator.end)
+    × Listing l.input.table.case.now l.s l.tier l.initial.pair-iterator.start l.initial.pairs l.pairs l.n l.pair-iterator.start

@@ -5,4 +5,4 @@ use Rattle.turning.proofs.opened.Goals as goal
 
 pub returns : goal.returns
 unfolding with_member
-returns c = λ s p q. sym (rw (sym (c.is_unopened.ensures s p q) ∙ c.if-is_unopened.false, c.with_bit.ensures.value))
+returns c = λ book s p q. sym (rw (sym (c.is_unopened.ensures book s p q) ∙ c.if-is_unopened.false, c.with_bit.ensures.value))

@@ -1,55 +1,60 @@
 -- `case_tests::order::out_of_order` meets its contract. The test by counts, of the two records that were read.
 use Prim.Native.Nat.{◌-◌}
-use mathlib.Core.Path.{◌≡◌, ◌∙◌, sym, ap}
-use lib.Dec.{eqb}
-use borrow.Author.Tests.{eqb-true}
-use Rattle.base.proofs.Tests.{and_left, and_right}
+use mathlib.Core.Path.{◌≡◌, ◌∙◌, ap}
+use Rattle.std.proofs.Common.{rules, arith}
 use Rattle.format.specs.Layout.{row_at}
 use Rattle.records.specs.Records.{row_of}
-use Rattle.case_tests.proofs.Counting.{order_test_lem}
+use Rattle.case_tests.proofs.Counting.{student_order, workshop_order, pair_order}
 use Rattle.case_tests.proofs.order.out_of_order.Goals as goal
+use Rattle.case_tests.proofs.order.out_of_order.Goals.{After-row_at-p}
 
-pub returns-then-r-p : goal.returns-then-r-p
-returns-then-r-p c =
-    let start = c in
-    let read = c in
-    let asked = c in
-    let last = c in
-    let a = start.args in
-    let prev : row_at a.case.now (a.i - 1) ≡ row_of
-    last.row_at-p.result = ap
-    (row_at a.case.now) (sym c.before-2.ensures) ∙ sym last.row_at-p.ensures in
-    let k : read.row_at-r.result.kind ≡ 3 = eqb-true _ _ (and_left
-    (eqb read.row_at-r.result.kind 3) (eqb last.row_at-p.result.kind 3) c.if-r-p.true) in
-    let j : last.row_at-p.result.kind ≡ 3 =
-    eqb-true _ _ (and_right (eqb c.row_at-r.result.kind 3)
-    (eqb last.row_at-p.result.kind 3)
-    c.if-r-p.true) in
-    rw (
-      order_test_lem a.case.now a.i a.students a.workshops
-          c.requires.counted c.requires.i_bound c.requires.i_value,
-      ← c.row_at-r.ensures,
-      prev,
-      k,
-      j,
-    )
+before : (d : After-row_at-p) → row_of d.row_at-p.result ≡ row_at d.args.case.now (d.args.i - 1)
+before d = d.row_at-p.ensures ∙ ap (row_at d.args.case.now) d.saturating_sub.ensures
 
-pub returns : goal.returns
-returns c =
-    let start = c in
-    let read = c in
-    let asked = c in
-    let last = c in
+pub returns-then-p-gt1 : goal.returns-then-p-gt1
+returns-then-p-gt1 c =
     let a = c.args in
-    let prev : row_at a.case.now (a.i - 1) ≡ row_of
-    c.row_at-p.result = ap (row_at a.case.now)
-    (sym c.before-2.ensures) ∙ sym
-    c.row_at-p.ensures in
-    rw (
-      order_test_lem a.case.now a.i a.students a.workshops
-          c.requires.counted
-          c.requires.i_bound
-          c.requires.i_value,
-      ← c.row_at-r.ensures,
-      prev,
-    )
+    let q = c.requires in
+    rw (student_order a.case.now a.i a.before.students a.before.workshops q.counted q.i_bound q.i_value _ _ c.row_at-r.ensures
+    (before (goal.at.returns-then-p-gt1 c).After-row_at-p) c.in-1.is)
+    (search rules)
+
+pub returns-else-p-gt1 : goal.returns-else-p-gt1
+returns-else-p-gt1 c =
+    let a = c.args in
+    let q = c.requires in
+    rw (student_order a.case.now a.i a.before.students a.before.workshops q.counted q.i_bound q.i_value _ _ c.row_at-r.ensures
+    (before (goal.at.returns-else-p-gt1 c).After-row_at-p) c.in-1.is)
+    (search rules)
+
+pub returns-then-p-gt2 : goal.returns-then-p-gt2
+returns-then-p-gt2 c =
+    let a = c.args in
+    let q = c.requires in
+    rw (workshop_order a.case.now a.i a.before.students a.before.workshops q.counted q.i_bound q.i_value _ _ c.row_at-r.ensures
+    (before (goal.at.returns-then-p-gt2 c).After-row_at-p) c.in-2.is)
+    (search rules)
+
+pub returns-else-p-gt2 : goal.returns-else-p-gt2
+returns-else-p-gt2 c =
+    let a = c.args in
+    let q = c.requires in
+    rw (workshop_order a.case.now a.i a.before.students a.before.workshops q.counted q.i_bound q.i_value _ _ c.row_at-r.ensures
+    (before (goal.at.returns-else-p-gt2 c).After-row_at-p) c.in-2.is)
+    (search rules)
+
+pub returns-then-not-rises : goal.returns-then-not-rises
+returns-then-not-rises c =
+    let a = c.args in
+    let q = c.requires in
+    rw (pair_order a.case.now a.i a.before.students a.before.workshops q.counted q.i_bound q.i_value _ _ c.row_at-r.ensures
+    (before (goal.at.returns-then-not-rises c).After-row_at-p) (λ e. omega arith) (λ e. omega arith))
+    (search rules)
+
+pub returns-else-not-rises : goal.returns-else-not-rises
+returns-else-not-rises c =
+    let a = c.args in
+    let q = c.requires in
+    rw (pair_order a.case.now a.i a.before.students a.before.workshops q.counted q.i_bound q.i_value _ _ c.row_at-r.ensures
+    (before (goal.at.returns-else-not-rises c).After-row_at-p) (λ e. omega arith) (λ e. omega arith))
+    (search rules)

@@ -1,28 +1,22 @@
--- `case_tests::scans::bad_range` meets its contract. The same expression on both sides, of the record that was read; no quota is below 0.
-use mathlib.Core.Path.{◌∙◌, sym}
-use native.Mathlib.Omega.{arith}
-use borrow.Author.Tests.{le-ltb}
-use Rattle.format.specs.Refusals.{bad_range, bad_student, bad_workshop, bad_tiers}
-use Rattle.format.proofs.Positions.{row_at_lem}
+-- `case_tests::scans::bad_range` meets its contract. The record passes the first range of its kind: the second decides.
+use mathlib.Core.Path.{sym, ap, ◌∙◌}
+use Rattle.std.proofs.Common.{rules, arith}
+use Rattle.std.proofs.lemmas.Grind.{common_steps}
+use Rattle.format.specs.Layout.{Row}
+use Rattle.case_tests.proofs.Ranging.{student, workshop, tiers}
 use Rattle.case_tests.proofs.scans.bad_range.Goals as goal
 
-pub returns-then-r-eq3 : goal.returns-then-r-eq3
-unfolding bad_range bad_student bad_workshop bad_tiers
-returns-then-r-eq3 c =
-    let a = c.args in
-    rw (
-      row_at_lem a.case.now a.i c.requires ∙ sym
-          c.row_at-r.ensures,
-      c.if-r-eq3.true,
-    )
+pub returns-else-not-contains : goal.returns-else-not-contains
+returns-else-not-contains c =
+    let k = ap (λ (r : Row). r.kind) (sym c.row_at-r.ensures) ∙ c.in-1.is in
+    rw (student c.args.case.now c.args.i c.requires k, ← c.row_at-r.ensures) (search rules)
 
-pub returns : goal.returns
-unfolding bad_range bad_student bad_workshop bad_tiers
-returns c =
-    let a = c.args in
-    rw (
-      row_at_lem a.case.now a.i
-          c.requires ∙ sym c.row_at-r.ensures,
-      le-ltb
-          c.row_at-r.result.second 0 (omega arith),
-    )
+pub returns-else-r-gt512 : goal.returns-else-r-gt512
+returns-else-r-gt512 c =
+    let k = ap (λ (r : Row). r.kind) (sym c.row_at-r.ensures) ∙ c.in-2.is in
+    rw (workshop c.args.case.now c.args.i c.requires k, ← c.row_at-r.ensures) (grind (arith, common_steps))
+
+pub returns-else-not-contains-2 : goal.returns-else-not-contains-2
+returns-else-not-contains-2 c =
+    let k = ap (λ (r : Row). r.kind) (sym c.row_at-r.ensures) ∙ c.in-3.is in
+    rw (tiers c.args.case.now c.args.i c.requires k, ← c.row_at-r.ensures) (search rules)

@@ -6,9 +6,6 @@ use Rattle.line_writer.proofs.groups.put_group.Goals as goal
 
 pub returns : goal.returns
 returns c =
-    let after_items = c in
-    let after_brace = after_items in
-    let start = after_brace in
-    let opened = put_then start.requires after_brace.put_if-end.ensures after_items.put_items-end.ensures in
-    let whole = put_then start.requires opened c.put_if.ensures in
-    rw (← braced (items_of start.args.outside start.args.set)) (rw after_brace.size_of-braces.ensures at whole)
+    let opened = put_then c.requires c.put_if-end.ensures c.put_items-end.ensures in
+    let whole = put_then c.requires opened c.put_if.ensures in
+    rw (← braced (items_of c.args.group.outside c.args.group.set)) (rw c.size-braces.ensures at whole)

@@ -1,5 +1,5 @@
 -- `line_writer::groups::put_groups` meets its contract. The invariant: the groups of the tiers before t are put.
-use Prim.Native.Nat.{◌+◌, ◌≤◌, ◌-◌}
+use Prim.Native.Nat.{◌-◌}
 use mathlib.Core.List.{map}
 use Rattle.putting.proofs.UpTo.{PutUpTo}
 use Rattle.wish_lines.specs.Lines.{joined, group_text}
@@ -8,8 +8,5 @@ use Rattle.line_writer.proofs.groups.put_groups.Given as goal
 
 abbrev pub invariant-loop-t : goal.invariant-loop-t
 invariant-loop-t l =
-    (1 ≤ l.t) × (l.t ≤ l.last + 1)
-    × PutUpTo (joined (map group_text (groups_of l.sets l.outside 65 1))) (left l.comma (map group_text (groups_of l.sets l.outside (66 - l.t) l.t))) l.at l.initial.text l.text l.end
-
-abbrev pub decreases-loop-t : goal.decreases-loop-t
-decreases-loop-t l = l.last + 1 - l.t
+    PutUpTo (joined (map group_text (groups_of l.sets l.outside 65 1)))
+    (left l.comma (map group_text (groups_of l.sets l.outside (66 - l.t) l.t))) l.at l.initial.text l.text l.end

@@ -5,7 +5,5 @@ use Rattle.line_writer.proofs.groups.put_items.Goals as goal
 
 pub returns : goal.returns
 returns c =
-    let after_first = c in
-    let start = after_first in
-    let whole = put_then start.requires after_first.put_if-end.ensures c.put_members.ensures in
-    rw (← items_start start.args.outside start.args.set) whole
+    let whole = put_then c.requires c.put_if-end.ensures c.put_members.ensures in
+    rw (← items_start c.args.group.outside c.args.group.set) whole

@@ -1,13 +1,13 @@
--- `line_writer::sets::gather` meets its contract. The invariant: the workshops of the first k of her records are in the sets (`Gathering`), none above `last`.
-use Prim.Native.Nat.{◌≤◌, ◌-◌}
-use Rattle.tables.specs.Table.{Stretch}
+-- `line_writer::sets::gather` meets its contract. The invariant: the workshops of her records so far are in the sets, none above `last`.
+use Prim.Native.Nat.{◌≤◌}
 use Rattle.line_writer.specs.Groups.{EmptyAbove}
-use Rattle.line_writer.proofs.Gathering.{Gathering}
+use Rattle.line_writer.proofs.Gathering.{GatheringTo}
 use Rattle.line_writer.proofs.sets.gather.Given as goal
 
-abbrev pub invariant-loop-k : goal.invariant-loop-k
-invariant-loop-k l =
-    (l.k ≤ l.many) × Stretch l.case l.s l.first l.many × Gathering l.case l.first l.k l.sets × (l.last ≤ 65) × EmptyAbove l.last l.sets
-
-abbrev pub decreases-loop-k : goal.decreases-loop-k
-decreases-loop-k l = l.many - l.k
+abbrev pub invariant-loop-pair : goal.invariant-loop-pair
+invariant-loop-pair l =
+    record {
+      gathering : GatheringTo l.table.case.now l.s l.pair-iterator.start l.pair-iterator.end l.sets;
+      small : l.last ≤ 65;
+      above : EmptyAbove l.last l.sets;
+    }

@@ -1,36 +1,28 @@
--- `wishes::copying::put_student` meets its contract. The invariant: the student's record and the first k of her pairs' are written.
-use Prim.Native.Nat.{ℕ, ◌+◌}
-use mathlib.Core.Path.{refl, ◌∙◌, ap}
+-- `wishes::copying::put_student` meets its contract. The invariant: the student's record and those of her pairs so far are written.
+use mathlib.Core.Path.{ap, ◌∙◌}
 use native.Mathlib.Omega.{arith}
-use lib.ListN.{length, get_or}
+use lib.ListN.{get_or}
+use Rattle.format.specs.Layout.{row_at}
 use Rattle.wishes.specs.Records.{with_third_at}
-use Rattle.wishes.proofs.Records.{pairs_none, pairs_on, third_long}
+use Rattle.wishes.proofs.Records.{pairs_start, next_paired, pairs_next}
 use Rattle.wishes.proofs.copying.put_student.Goals as goal
 
-pub loop-k-init : goal.loop-k-init
-loop-k-init c =
-    let a = c.args in
-    let own = c.pairs_of-own in (
-      own.ensures,
-      λ i l. (c.requires.tabled.named a.s _ (own.ensures.paired i l)).1.1,
-      omega arith,
-      pairs_none a.case.now (λ x. get_or a.groups.now x 0) own.result.first _,
-      refl,
-    )
+pub loop-pair-init : goal.loop-pair-init
+loop-pair-init c =
+    let own = c.pairs_of-pair-items.ensures in
+    rw c.into_iter-pair-iterator.ensures.into_iter_gives (pairs_start _ _ _ _ _ _ own.stretch own.order)
 
-pub loop-k-preserved : goal.loop-k-preserved
-loop-k-preserved c =
-    let a = c.args in
-    let here = c.loop-k in
-    let own = c.pairs_of-own.result in
-    let group : ℕ → ℕ = λ x. get_or a.groups.now x 0 in
-    let put = c.put_third-in-loop-k.ensures in (
-      here.invariant.0,
-      here.invariant.1,
-      omega (arith, c.loop-k-test.true),
-      put
-          ∙ (ap (with_third_at here.copy (own.first + here.k)) c.wide-in-loop-k.ensures
-          ∙ (ap (λ w. with_third_at here.copy (own.first + here.k) (group w)) c.second_at-w.ensures
-          ∙ pairs_on a.case.now group own.first here.k _ here.copy here.invariant.3)),
-      ap length put ∙ (third_long here.copy _ _ ∙ here.invariant.4),
-    )
+pub bounds-groups-w : goal.bounds-groups-w
+bounds-groups-w c =
+    let steps = c.in-Some.ensures.steps in
+    let row = c.row_at.ensures ∙ ap (row_at c.args.table.now.case.now) steps.1.1 in
+    let paired = next_paired _ _ _ _ _ _ _ c.loop-pair.invariant (omega (arith, steps)) in
+    omega (arith, c.from-w.ensures ∙ ap (λ r. r.second) row, (c.args.table.now.tabled.named _ _ paired).1, c.requires.groups_len.0)
+
+pub loop-pair-preserved : goal.loop-pair-preserved
+loop-pair-preserved c =
+    let steps = c.in-Some.ensures.steps in
+    let row = c.row_at.ensures ∙ ap (row_at c.args.table.now.case.now) steps.1.1 in
+    let group = ap (λ w. get_or c.args.groups.now w 0) (c.from-w.ensures ∙ ap (λ r. r.second) row) in
+    let put = c.put_third-in-loop-pair.ensures ∙ ap (λ i. with_third_at c.loop-pair.copy i c.from-in-loop-pair.result) steps.1.1 in
+    pairs_next _ _ _ _ _ _ _ c.loop-pair.invariant (omega (arith, steps)) _ _ _ _ steps.1.2 steps.0 (c.from-in-loop-pair.ensures ∙ group) put
