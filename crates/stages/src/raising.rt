@@ -1,5 +1,5 @@
 // One workshop: what it asks of the students who matter to it, and those raised to that. `own` has each student's stage so far.
-ghost use Rattle.std.specs.Prelude.{◌≡◌, ℕ, ◌≤◌, ◌<◌, length, get_or};
+ghost use Rattle.std.specs.Prelude.{◌≡◌, ℕ, ◌≤◌, ◌<◌, length, get_or, replicate};
 ghost use Rattle.base.specs.Lists.{count};
 ghost use Rattle.lgs.specs.Stages.{stage_of};
 ghost use Rattle.format.specs.Engine.{market_in};
@@ -7,23 +7,22 @@ ghost use Rattle.stages.specs.Raising.{tier_for, stands_for, Enough, Capped, Not
 
 use super::input::Input;
 
-// The tier of each student, the largest stage in each tier, and how many tiers there are, and students in none.
-struct Notes {
-    tiers: [u16; 512],
-    tops: [u16; 514],
-    kinds: usize,
-}
-
-// What workshop w has of each student.
-fn note_tops(input: &Input<'_>, w: usize, own: &[u16]) -> Notes
+// What workshop w has of each student, in lists of zeros: her tier, and the largest stage in each tier. How many tiers there are, and students in none. The
+// lists are the caller's: handed back they would be on the stack twice (docs/BUFFERS.md).
+fn note_tops(
+    input: &Input<'_>,
+    w: usize,
+    own: &[u16],
+    tiers: &mut [u16; 512],
+    tops: &mut [u16; 514],
+) -> usize
     requires le_w { (1 ≤ w) × (w ≤ input.now.workshops) }
     requires fit { Fit (market_in input.now.table.case.now) own.now }
-    ensures value { result.kinds ≡ count (stands_for (tier_for (market_in input.now.table.case.now) w)) input.now.students }
-    ensures noted { Noted (tier_for (market_in input.now.table.case.now) w) (stage_of own.now) input.now.students result.tiers result.tops }
+    requires blank { (tiers.old ≡ replicate 512 0) × (tops.old ≡ replicate 514 0) }
+    ensures value { result ≡ count (stands_for (tier_for (market_in input.now.table.case.now) w)) input.now.students }
+    ensures noted { Noted (tier_for (market_in input.now.table.case.now) w) (stage_of own.now) input.now.students tiers.new tops.new }
 {
     let reach = input.reach_of(w);
-    let mut tiers = [0u16; 512];
-    let mut tops = [0u16; 514];
     let mut kinds = 0;
     for s in 0..input.students {
         let tier = input.tier_of(w, reach, s + 1);
@@ -34,7 +33,7 @@ fn note_tops(input: &Input<'_>, w: usize, own: &[u16]) -> Notes
         tiers[s] = tier;
         tops[at] = tops[at].max(own[s]);
     }
-    Notes { tiers, tops, kinds }
+    kinds
 }
 
 // Each tier that has students gets a later stage than those before it. The largest.
@@ -84,11 +83,9 @@ pub fn raise(input: &Input<'_>, w: usize, own: &mut [u16; 512]) -> Upshot
     ensures raised { Raised (market_in input.now.table.case.now) w input.now.students own.old own.new result.moved result.top }
     ensures enough { Enough (market_in input.now.table.case.now) result.kinds }
 {
-    let Notes {
-        tiers,
-        mut tops,
-        kinds,
-    } = note_tops(input, w, &own[..]);
+    let mut tiers = [0u16; 512];
+    let mut tops = [0u16; 514];
+    let kinds = note_tops(input, w, &own[..], &mut tiers, &mut tops);
     let top = climb(&mut tops);
     let moved = lift(input, &tiers, &tops, &mut *own);
     Upshot { moved, top, kinds }

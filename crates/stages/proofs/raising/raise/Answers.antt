@@ -34,6 +34,6 @@ returns-clause-enough c =
     let i = a.input.now in
     let M = market_in i.table.case.now in
     let noted = c.note_tops-kinds in
-    let kinds : noted.result.kinds ≡ count (stands_for (tier_for M a.w)) M.students =
+    let kinds : noted.result ≡ count (stands_for (tier_for M a.w)) M.students =
     noted.ensures.value ∙ ap (count (stands_for (tier_for M a.w))) (sym i.ready.students) in
     rw kinds (kinds_enough M (ready_wf i) a.w)
