@@ -1,7 +1,23 @@
--- `putting::put_decimal` meets its contract: the digits that the kit's `decimal` gives are those of the definition.
-use mathlib.Core.Path.{◌∙◌}
-use Rattle.putting.proofs.Decimal.{kit_digits}
+-- `putting::put_decimal` meets its contract: one or two digits, or those that the kit's `decimal` gives, are those of the definition.
+use Prim.Native.Nat.{◌/◌, ◌%◌}
+use mathlib.Core.Path.{◌≡◌, ◌∙◌}
+use native.Mathlib.Omega.{arith}
+use Rattle.putting.proofs.Decimal.{kit_digits, decimal_small, decimal_more}
+use Rattle.putting.proofs.Laws.{put_then}
 use Rattle.putting.proofs.put_decimal.Goals as goal
+
+pub returns-then-n-lt10 : goal.returns-then-n-lt10
+returns-then-n-lt10 c =
+    let n = c.args.n in
+    let e : n % 10 ≡ n = omega arith in
+    rw (decimal_small n (omega arith), e) c.put_digit.ensures
+
+pub returns-then-n-lt100 : goal.returns-then-n-lt100
+returns-then-n-lt100 c =
+    let n = c.args.n in
+    let e : n / 10 % 10 ≡ n / 10 = omega arith in
+    rw (decimal_more n (omega arith), decimal_small (n / 10) (omega arith), e)
+    (put_then c.requires c.put_digit-end.ensures c.put_digit-then-n-lt100.ensures)
 
 pub returns : goal.returns
 returns c =
