@@ -32,5 +32,5 @@ AllNoted M ls groups = (k x : ℕ) → k < M.students → Option? M (suc k) x �
 
 -- a text that is not refused is read, and its groups are noted; one that is refused is refused so
 abbrev pub Judged : Market → List ℕ → Result (Unit {0}) Refusal → List ℕ → Type 0
-Judged M text (Ok none) groups = (ls : List Line) × (read_lines M text ≡ read ls) × AllNoted M ls groups
+Judged M text (Ok done) groups = (ls : List Line) × (read_lines M text ≡ read ls) × AllNoted M ls groups
 Judged M text (Err r) groups = read_lines M text ≡ refused (number_of r.cause) r.place

@@ -19,7 +19,9 @@ use Rattle.stages.proofs.raising.note_tops.Goals.{then-tier-eq0-via-then-tier-eq
 
 pub loop-s-init : goal.loop-s-init
 unfolding count
-loop-s-init c = (refl, rw (c.requires.blank.0, c.requires.blank.1) (noting_none (tier_for (market_in c.args.input.now.table.case.now) c.args.w) (stage_of c.args.own.now)))
+loop-s-init c =
+    let a = c.args in
+    (refl, rw (c.requires.blank.0, c.requires.blank.1) (noting_none (tier_for (market_in a.input.now.table.case.now) a.w) (stage_of a.own.now)))
 
 pub overflow_add-kinds : goal.overflow_add-kinds
 overflow_add-kinds c =
