@@ -1,7 +1,8 @@
 #!/usr/bin/env python3
 """What the library and the program rest on, by the checker's reports, after tools/build. The report of a static library or of a program lists the C functions
 that its whole graph declares, marks those whose assumed contract the check reached, and counts these (axioms=N) where there are any: the library reaches none.
-The same reading of the program's report must find those that docs/PROMISES.md names, or it would find none anywhere. Last line 'N passed, M failed'.
+The same reading of the program's report must find those that docs/PROMISES.md names, or it would find none anywhere. No crate of the library lists a library of
+the kit. Last line 'N passed, M failed'.
 
 axioms.py [LIBRARY_REPORT [PROGRAM_REPORT]]
 """
@@ -53,6 +54,12 @@ def rests_on(path):
     return named
 
 
+def listed(path):
+    """Each crate's dependencies as crates.txt lists them, those of the kit too."""
+    lines = [line.split(":", 1) for line in open(path, encoding="utf-8") if ":" in line and not line.startswith("#")]
+    return {name.split()[0]: set(deps.split()) for name, deps in lines}
+
+
 def below(name, crates):
     found = set()
     for dep in crates[name][0]:
@@ -68,6 +75,9 @@ def main():
     check("the library rests on no assumed contract", rests_on(library) == [], rests_on(library))
     loaded, expected = read(library)[1] - KIT, below("exports", crates)
     check("the library is made of the crates below exports, and of nothing else", loaded == expected, f"{sorted(loaded ^ expected)}")
+    lists = listed(os.path.join(ROOT, "crates.txt"))
+    kit = set().union(*(lists[crate] for crate in expected | {"exports"})) - set(lists)
+    check("the library calls no library of the kit but the standard one", not kit, f"{sorted(kit)}")
     known = sorted(f"{crate}::{name}" for crate, names in PROGRAM_RESTS_ON.items() for name in names.split())
     check("the program rests on the assumed contracts that docs/PROMISES.md names", rests_on(program) == known, rests_on(program))
     print(f"{tally['passed']} passed, {tally['failed']} failed")

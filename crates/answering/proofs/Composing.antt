@@ -238,12 +238,16 @@ module _ (case book places visits seats index : List ℕ) (states : List Student
     pub cleaned : Clean case book index₁ table₁ k.students k.workshops
     cleaned = rw (passed.1, passed.2) (tested.clean passed.0)
 
-    pub runnable : length seats₁ ≡ length seats → length index₁ ≡ length index → Runnable case book index₁ places visits seats₁ (length states)
-    runnable es ei =
-        record {
-          valid = rw (es, ei) (refusal_none case book lengths passed.0);
-          free = tested.free ∙ ap (λ (j : ℕ). replicate {A = ℕ} j 0) (sym es);
-        }
+    -- what the test leaves is what a run asks: the input is clean, and it can be run
+    pub runnable : length seats₁ ≡ length seats → length index₁ ≡ length index
+        → Clean case book index₁ table₁ k.students k.workshops × Runnable case book index₁ places visits seats₁ (length states)
+    runnable es ei = (
+      cleaned,
+      record {
+        valid = rw (es, ei) (refusal_none case book lengths passed.0);
+        free = tested.free ∙ ap (λ (j : ℕ). replicate {A = ℕ} j 0) (sym es);
+      },
+    )
 
     -- and the run's answer is the call's
     pub answered_ran : (a : Answer) (places₃ visits₃ seats₃ index₃ : List ℕ) → length seats₁ ≡ length seats

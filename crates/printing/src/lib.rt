@@ -8,7 +8,17 @@ ghost use Rattle.putting.specs.Put.{Put};
 ghost use Rattle.printing.specs.Text.{spaced, TextFits};
 
 use api::{Answer, Refusal};
-use putting::{put_byte, put_bytes, put_decimal};
+use putting::{put_byte, put_bytes};
+
+// A number in decimal digits, which the kit's `io` gives.
+fn put_decimal(out: &mut [u8], at: usize, n: usize) -> usize
+    requires { at ≤ length out.old }
+    ensures { Put (decimal n) at out.old out.new result }
+{
+    let mut digits = [0u8; 20];
+    let k = io::decimal(n as u64, &mut digits);
+    put_bytes(out, at, &digits[..k])
+}
 
 // A space and a number.
 fn put_number(out: &mut [u8], at: usize, n: usize) -> usize

@@ -78,7 +78,7 @@ module _ (case book places visits seats index : List ℕ) (c : Result Counts Ref
 
     module _ (es : length seats₁ ≡ length seats) where
       pub ready : length index₁ ≡ length index → Runnable case book index₁ places visits seats₁ 512
-      ready ei = runnable case book places visits seats index alone c seats₁ index₁ table₁ tested n e es ei
+      ready ei = (runnable case book places visits seats index alone c seats₁ index₁ table₁ tested n e es ei).1
 
       module _ (a : Answer) (places₃ visits₃ seats₃ : List ℕ) (ran : Ran case book places visits seats₁ a places₃ visits₃ seats₃) where
         whole : Answered case book places visits seats index alone (Ok a) places₃ visits₃ seats₃ (replicate (length index) 0)

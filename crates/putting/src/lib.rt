@@ -36,7 +36,19 @@ fn put_digit(out: &mut [u8], at: usize, d: usize) -> usize
     put_byte(out, at, b'0' + d as u8)
 }
 
-// A number in decimal digits. One or two digits are put by themselves: wish lines are made of them, and are written in two thirds of the time.
+// The digits of a number, one after the other.
+fn put_digits(out: &mut [u8], at: usize, n: usize) -> usize
+    requires { at ≤ length out.old }
+    ensures { Put (decimal n) at out.old out.new result }
+{
+    if n < 10 {
+        return put_digit(out, at, n);
+    }
+    let end = put_digits(&mut *out, at, n / 10);
+    put_digit(out, end, n % 10)
+}
+
+// A number in decimal digits. Those of one or two, of which wish lines are made, are put without `put_digits`: that is faster.
 pub fn put_decimal(out: &mut [u8], at: usize, n: usize) -> usize
     requires { at ≤ length out.old }
     ensures { Put (decimal n) at out.old out.new result }
@@ -48,7 +60,5 @@ pub fn put_decimal(out: &mut [u8], at: usize, n: usize) -> usize
         let end = put_digit(&mut *out, at, n / 10);
         return put_digit(out, end, n % 10);
     }
-    let mut digits = [0u8; 20];
-    let k = io::decimal(n as u64, &mut digits);
-    put_bytes(out, at, &digits[..k])
+    put_digits(out, at, n)
 }

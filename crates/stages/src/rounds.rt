@@ -1,5 +1,5 @@
 // The workshops in turn, round after round, until nobody is raised. `own` has each student's stage so far.
-ghost use Rattle.std.specs.Prelude.{◌≡◌, ◌≤◌, MatchOption};
+ghost use Rattle.std.specs.Prelude.{◌≡◌, ◌≤◌, MatchOption, replicate};
 ghost use Rattle.lgs.specs.Stages.{NoStages};
 ghost use Rattle.format.specs.Engine.{market_in};
 ghost use Rattle.stages.specs.Rounds.{starting, turn_of, Going, Stepped, Rounded, Settled};
@@ -61,11 +61,11 @@ fn round(input: &Input<'_>, own: &mut [u16; 512], last: Progress, back: bool) ->
     Some(p)
 }
 
-// Rounds until nobody is raised. None where no stages agree.
-pub fn settle(input: &Input<'_>) -> Option<[u16; 512]>
-    ensures { MatchOption result (NoStages (market_in input.now.table.case.now)) (λ own. Settled (market_in input.now.table.case.now) own) }
+// Rounds until nobody is raised, from stage 1 for everybody. None where no stages agree. `own` is lent: an array handed back would be on the stack twice.
+pub fn settle(input: &Input<'_>, own: &mut [u16; 512]) -> Option<()>
+    requires { own.old ≡ replicate 512 1 }
+    ensures { MatchOption result (NoStages (market_in input.now.table.case.now)) (λ done. Settled (market_in input.now.table.case.now) own.new) }
 {
-    let mut own = [1u16; 512];
     let mut p = Progress {
         resting: 0,
         moving: true,
@@ -74,8 +74,8 @@ pub fn settle(input: &Input<'_>) -> Option<[u16; 512]>
     let mut back = false;
     // No range counts the rounds: they end when nobody is raised.
     while p.moving {
-        p = round(input, &mut own, p, back)?;
+        p = round(input, &mut *own, p, back)?;
         back = !back;
     }
-    Some(own)
+    Some(())
 }

@@ -280,8 +280,11 @@ fn list_tier(input: &Input<'_>, s: usize, tier: u16, pairs: &mut [u32]) -> usize
     ensures { (m : ℕ) → ((w : ℕ) → (market_of input.now).paired s w ≡ true → w ≤ m)
         → TierListed input.now.table.case.now s tier m result pairs.new }
 {
+    let own = input.table.pairs_of(s);
     let mut n = 0;
-    for pair in input.table.pairs_of(s) {
+    // Counted from 0, so that the compiler takes two records at a time.
+    for k in 0..own.end - own.start {
+        let pair = own.start + k;
         pairs[n] = pair as u32;
         n += usize::from(lookup::student_tier(input.table.case, pair) == tier);
     }

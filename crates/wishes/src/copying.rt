@@ -1,9 +1,20 @@
 // A copy of a case, in lent bytes, with a student's groups put into it.
 ghost use Rattle.std.specs.Prelude.{◌≡◌, ◌+◌, ◌-◌, ◌*◌, ◌≤◌, ◌<◌, length};
+ghost use Rattle.format.specs.Buffers.{with_head};
 ghost use Rattle.format.specs.Layout.{row_count};
 ghost use Rattle.wishes.specs.Records.{with_third_at, StudentPut};
 
 use tables::Table;
+
+// The bytes of the case, at the head of the copy. Byte by byte: `copy_from_slice` would ask a host's C library for `memmove` too.
+pub fn copy_bytes(case: &[u8], copy: &mut [u8])
+    requires { length case.now ≤ length copy.old }
+    ensures { copy.new ≡ with_head case.now copy.old }
+{
+    for i in 0..case.len() {
+        copy[i] = case[i];
+    }
+}
 
 // Record i of the copy with this third field.
 fn put_third(copy: &mut [u8], i: usize, x: u16)

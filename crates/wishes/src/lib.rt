@@ -68,7 +68,7 @@ fn put_wishes(input: &Input<'_>, groups: &[u8], copy: &mut [u8])
     ensures { (ls : List Line) → AllNoted (market_in input.now.table.case.now) ls groups.now
         → copy.new ≡ with_head (wished ls input.now.table.case.now) copy.old }
 {
-    copy[..input.table.case.len()].copy_from_slice(input.table.case);
+    copying::copy_bytes(input.table.case, &mut *copy);
     for (k, own) in groups[..65 * input.students].chunks_exact(65).enumerate() {
         copying::put_student(&input.table, k + 1, own, &mut *copy);
     }

@@ -3,7 +3,7 @@ use Rattle.std.proofs.Common.{◌∙◌, ap, subst, ℕ, length, replicate}
 use Rattle.std.proofs.lemmas.Result.{err_from_is_err_and}
 use Rattle.api.specs.Answered.{zero_state, lent, room_of}
 use Rattle.answering.specs.Call.{TestedInput}
-use Rattle.answering.proofs.Composing.{answered_refused, cleaned, runnable, answered_ran}
+use Rattle.answering.proofs.Composing.{answered_refused, runnable, answered_ran}
 use Rattle.tables.proofs.Laws.{blank}
 use Rattle.engine.proofs.place.Goals as goal
 use Rattle.engine.proofs.place.Goals.{After-test}
@@ -33,8 +33,9 @@ returns-in_err-counts c =
 pub new-input-requires : goal.new-input-requires
 new-input-requires c =
     let a = c.args in
-    cleaned a.case.now a.book.now a.places.now a.visits.now a.seats.now a.index.now a.states.now _ _ _ _
-    (tested (goal.at.new-input-requires c).After-test) c.in_ok-counts.counts c.in_ok-counts.was
+    let t = c.test in
+    (runnable a.case.now a.book.now a.places.now a.visits.now a.seats.now a.index.now a.states.now _ _ _ _
+    (tested (goal.at.new-input-requires c).After-test) c.in_ok-counts.counts c.in_ok-counts.was t.auto.seats t.auto.index).0
 
 pub run-answer-requires-clause-runnable : goal.run-answer-requires-clause-runnable
 run-answer-requires-clause-runnable c =
@@ -43,7 +44,7 @@ run-answer-requires-clause-runnable c =
     let i = c.new-input.ensures in
     rw (i.case_kept, i.book_kept, i.index_kept, c.fill.auto.self)
     (runnable a.case.now a.book.now a.places.now a.visits.now a.seats.now a.index.now a.states.now _ _ _ _
-    (tested (goal.at.run-answer-requires-clause-runnable c).After-test) c.in_ok-counts.counts c.in_ok-counts.was t.auto.seats t.auto.index)
+    (tested (goal.at.run-answer-requires-clause-runnable c).After-test) c.in_ok-counts.counts c.in_ok-counts.was t.auto.seats t.auto.index).1
 
 pub returns : goal.returns
 returns c =

@@ -1,8 +1,8 @@
--- `putting::put_decimal` meets its contract: one or two digits, or those that the kit's `decimal` gives, are those of the definition.
+-- `putting::put_decimal` meets its contract: one digit, or two, are those of the definition.
 use Prim.Native.Nat.{◌/◌, ◌%◌}
-use mathlib.Core.Path.{◌≡◌, ◌∙◌}
+use mathlib.Core.Path.{◌≡◌}
 use native.Mathlib.Omega.{arith}
-use Rattle.putting.proofs.Decimal.{kit_digits, decimal_small, decimal_more}
+use Rattle.putting.proofs.Decimal.{decimal_small, decimal_more}
 use Rattle.putting.proofs.Laws.{put_then}
 use Rattle.putting.proofs.put_decimal.Goals as goal
 
@@ -18,8 +18,3 @@ returns-then-n-lt100 c =
     let e : n / 10 % 10 ≡ n / 10 = omega arith in
     rw (decimal_more n (omega arith), decimal_small (n / 10) (omega arith), e)
     (put_then c.requires c.put_digit-end.ensures c.put_digit-then-n-lt100.ensures)
-
-pub returns : goal.returns
-returns c =
-    let made = c.decimal-k in
-    rw (made.ensures.digits ∙ kit_digits made.result c.args.n made.ensures.len) at c.put_bytes.ensures

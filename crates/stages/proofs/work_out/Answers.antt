@@ -23,11 +23,11 @@ pub returns-clause-value : goal.returns-clause-value
 returns-clause-value c =
     let a = c.args in
     let i = a.input.now in
-    (worked i.table.case.now c.requires.0 i.students c.in-Some.own a.stages.now (sym i.ready.students) c.requires.1 c.in-Some.ensures).0
+    (worked i.table.case.now c.requires.0 i.students c.settle.new.own a.stages.now (sym i.ready.students) c.requires.1 c.in-Some.ensures).0
 
 pub returns-clause-stages_after : goal.returns-clause-stages_after
 returns-clause-stages_after c =
     let a = c.args in
     let i = a.input.now in
     ap (λ l. l ++ drop i.students a.stages.now) c.copy_from_slice.ensures.after
-    ∙ (worked i.table.case.now c.requires.0 i.students c.in-Some.own a.stages.now (sym i.ready.students) c.requires.1 c.in-Some.ensures).1
+    ∙ (worked i.table.case.now c.requires.0 i.students c.settle.new.own a.stages.now (sym i.ready.students) c.requires.1 c.in-Some.ensures).1

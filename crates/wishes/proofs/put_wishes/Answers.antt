@@ -1,7 +1,6 @@
 -- `wishes::put_wishes` meets its contract. The invariant: the records of the students so far have their groups, and the groups of the others are left.
 use Prim.Native.Nat.{ℕ, suc, ◌+◌, ◌*◌, ◌<◌}
 use mathlib.Core.Path.{◌≡◌, refl, sym, ap, ◌∙◌, subst}
-use mathlib.Core.List.{◌++◌}
 use native.Mathlib.Omega.{arith}
 use lib.ListN.{length, get_or, take, drop}
 use lib.Seq.{length-take-le}
@@ -17,12 +16,7 @@ use Rattle.wishes.proofs.Working.{few, passed, parts_within}
 use Rattle.wishes.proofs.Judging.{narrow, next_part, no_part, head_over}
 use Rattle.wishes.proofs.Records.{Filled, filled_none, filled_all, student_shown, wished_long, head_bytes}
 use Rattle.wishes.proofs.put_wishes.Goals as goal
-use Rattle.wishes.proofs.put_wishes.Goals.{In-Some, After-copy_from_slice}
-
--- the copy begins with the case
-copied : (c : After-copy_from_slice)
-    → c.copy_from_slice.new.self ++ drop (length c.args.input.now.table.case.now) c.args.copy.now ≡ with_head c.args.input.now.table.case.now c.args.copy.now
-copied c = ap (λ l. l ++ drop (length c.args.input.now.table.case.now) c.args.copy.now) c.copy_from_slice.ensures.after
+use Rattle.wishes.proofs.put_wishes.Goals.{In-Some}
 
 -- the next line's groups, and those left
 own : (c : In-Some) → (let students = c.args.input.now.students in
@@ -49,7 +43,7 @@ slice_bounds-chunks_exact-end c =
 pub loop-k-init : goal.loop-k-init
 loop-k-init c =
     let a = c.args in
-    let head = copied (goal.at.loop-k-init c).After-copy_from_slice in
+    let head = c.copy_bytes.ensures in
     let bytes : Bytes a.input.now.table.case.now = head_bytes _ a.copy.now (λ k. omega (arith, rw head at c.type_inv.copy k)) in
     let chunks = c.chunks_exact.ensures in
     let numbered = c.enumerate-k-items.ensures in
@@ -82,7 +76,7 @@ loop-k-preserved c =
     let n = enumerate_count c.loop-k.k-iterator in
     let own = own (goal.at.loop-k-preserved c).In-Some in
     let put = c.put_student in
-    let old = c.copy_from_slice.new.self ++ drop (length a.input.now.table.case.now) a.copy.now in
+    let old = c.copy_bytes.new.copy in
     let less : n < (market_in a.input.now.table.case.now).students = omega (arith, own.0, c.args.input.now.clean.1) in
     let student : c.in-Some.k + 1 ≡ suc n = omega (arith, steps.1) in
     let more : suc n ≡ enumerate_count c.next.new.self = omega (arith, steps.2) in
@@ -106,9 +100,9 @@ returns c =
     let a = c.args in
     let here = c.loop-k.invariant in
     let case = a.input.now.table.case.now in
-    let old = c.copy_from_slice.new.self ++ drop (length case) a.copy.now in
+    let old = c.copy_bytes.new.copy in
     let clean = passed case c.args.input.now.clean.0 in
-    let head = copied (goal.at.returns c).After-copy_from_slice in
+    let head = c.copy_bytes.ensures in
     let long = parts_within case c.args.input.now.clean.0 a.input.now.students c.args.input.now.clean.1 in
     let few = ap length (sym here.rest) in
     let done : enumerate_count c.loop-k.k-iterator ≡ (market_in case).students =

@@ -8,7 +8,7 @@ use Rattle.stages.proofs.rounds.settle.Goals as goal
 pub loop-p-init : goal.loop-p-init
 loop-p-init c =
     let i = c.args.input.now in
-    settling_none (market_in i.table.case.now) (ready_wf i) i.students i.ready.students i.ready.some_students i.ready.many_students
+    rw c.requires (settling_none (market_in i.table.case.now) (ready_wf i) i.students i.ready.students i.ready.some_students i.ready.many_students)
 
 pub loop-p-smaller : goal.loop-p-smaller
 loop-p-smaller c =
