@@ -54,12 +54,6 @@ def rests_on(path):
     return named
 
 
-def listed(path):
-    """Each crate's dependencies as crates.txt lists them, those of the kit too."""
-    lines = [line.split(":", 1) for line in open(path, encoding="utf-8") if ":" in line and not line.startswith("#")]
-    return {name.split()[0]: set(deps.split()) for name, deps in lines}
-
-
 def below(name, crates):
     found = set()
     for dep in crates[name][0]:
@@ -71,12 +65,12 @@ def main():
     library, program = (sys.argv[1:] + [None, None])[:2]
     library = library or os.path.join(ROOT, "target", "lib", "liblgs.report")
     program = program or os.path.join(ROOT, "target", "lib", "place.report")
-    crates = read_crates(os.path.join(ROOT, "crates.txt"))
+    listed = os.path.join(ROOT, "crates.txt")
+    crates = read_crates(listed)
     check("the library rests on no assumed contract", rests_on(library) == [], rests_on(library))
     loaded, expected = read(library)[1] - KIT, below("exports", crates)
     check("the library is made of the crates below exports, and of nothing else", loaded == expected, f"{sorted(loaded ^ expected)}")
-    lists = listed(os.path.join(ROOT, "crates.txt"))
-    kit = set().union(*(lists[crate] for crate in expected | {"exports"})) - set(lists)
+    kit = {dep for crate in expected | {"exports"} for dep in read_crates(listed, kit=True)[crate][0]} - set(crates)
     check("the library calls no library of the kit but the standard one", not kit, f"{sorted(kit)}")
     known = sorted(f"{crate}::{name}" for crate, names in PROGRAM_RESTS_ON.items() for name in names.split())
     check("the program rests on the assumed contracts that docs/PROMISES.md names", rests_on(program) == known, rests_on(program))

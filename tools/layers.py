@@ -14,8 +14,8 @@ BEGIN = "<!-- drawing: tools/layers.py --write -->\n"
 END = "<!-- end of the drawing -->\n"
 
 
-def read_crates(path):
-    """Each crate's name with its dependencies, those of the kit left out, and the comment above its line."""
+def read_crates(path, kit=False):
+    """Each crate's name with its dependencies, those of the kit only if they are asked for, and the comment above its line."""
     lines, note, crates = open(path, encoding="utf-8").read().splitlines(), "", {}
     for line in lines:
         if line.startswith("#"):
@@ -24,7 +24,7 @@ def read_crates(path):
             name, deps = line.split(":", 1)
             crates[name.split()[0]] = (deps.split(), note)
             note = ""
-    return {name: ([d for d in deps if d in crates], note) for name, (deps, note) in crates.items()}
+    return {name: ([d for d in deps if kit or d in crates], note) for name, (deps, note) in crates.items()}
 
 
 def needless(name, crates):

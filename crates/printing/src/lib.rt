@@ -10,7 +10,7 @@ ghost use Rattle.printing.specs.Text.{spaced, TextFits};
 use api::{Answer, Refusal};
 use putting::{put_byte, put_bytes};
 
-// A number in decimal digits, which the kit's `io` gives.
+// A number in decimal digits, which the kit's `io` gives. (`putting` puts those of the library, which calls no library of the kit but the standard one.)
 fn put_decimal(out: &mut [u8], at: usize, n: usize) -> usize
     requires { at ≤ length out.old }
     ensures { Put (decimal n) at out.old out.new result }

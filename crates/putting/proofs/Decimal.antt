@@ -1,6 +1,6 @@
 -- The digits of a number: those of its tenth, and then the last one.
 use Prim.Native.Nat.{ℕ, zero, suc, ◌+◌, ◌/◌, ◌%◌, ◌≤◌, ◌<◌}
-use mathlib.Core.Path.{◌≡◌, sym, ap}
+use mathlib.Core.Path.{◌≡◌, refl, sym, ap, ◌∙◌}
 use mathlib.Core.List.{List, [], ◌∷◌, ◌++◌}
 use mathlib.Core.Logic.{⊎_elim}
 use native.Mathlib.Omega.{arith}
@@ -24,9 +24,12 @@ digits_same (suc k) (suc j) n a b =
     rw (le-ltb n 10 l) (ap (λ (d : List ℕ). d ++ ((48 + n % 10) ∷ [])) (digits_same k j (n / 10) (omega arith) (omega arith))))
     (less? n 10)
 
-pub decimal_small : (n : ℕ) → n < 10 → decimal n ≡ (48 + n % 10) ∷ []
+pub decimal_digit : (n : ℕ) → n < 10 → decimal n ≡ (48 + n) ∷ []
 unfolding decimal digits_within
-decimal_small n l = rw (lt-ltb n 10 l) (ap (λ (d : ℕ). (48 + d) ∷ []) (sym (mod-eq_of_lt l)))
+decimal_digit n l = rw (lt-ltb n 10 l) refl
+
+pub decimal_small : (n : ℕ) → n < 10 → decimal n ≡ (48 + n % 10) ∷ []
+decimal_small n l = decimal_digit n l ∙ ap (λ (d : ℕ). (48 + d) ∷ []) (sym (mod-eq_of_lt l))
 
 pub decimal_more : (n : ℕ) → 10 ≤ n → decimal n ≡ decimal (n / 10) ++ ((48 + n % 10) ∷ [])
 unfolding decimal digits_within

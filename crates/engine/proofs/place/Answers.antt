@@ -2,11 +2,12 @@
 use Rattle.std.proofs.Common.{◌∙◌, ap, subst, ℕ, length, replicate}
 use Rattle.std.proofs.lemmas.Result.{err_from_is_err_and}
 use Rattle.api.specs.Answered.{zero_state, lent, room_of}
-use Rattle.answering.specs.Call.{TestedInput}
+use Rattle.lookup.specs.Clean.{Clean}
+use Rattle.answering.specs.Call.{TestedInput, Runnable}
 use Rattle.answering.proofs.Composing.{answered_refused, runnable, answered_ran}
 use Rattle.tables.proofs.Laws.{blank}
 use Rattle.engine.proofs.place.Goals as goal
-use Rattle.engine.proofs.place.Goals.{After-test}
+use Rattle.engine.proofs.place.Goals.{After-test, In_ok-counts}
 
 -- what the test says, in the room that was lent
 tested : (c : After-test) → (let a = c.args in let t = c.test in
@@ -30,21 +31,23 @@ returns-in_err-counts c =
     (answered_refused a.case.now a.book.now a.places.now a.visits.now a.seats.now a.index.now a.states.now _ _ _ _
     (tested (goal.at.returns-in_err-counts c).After-test) _ c.in_err-counts.was)
 
-pub new-input-requires : goal.new-input-requires
-new-input-requires c =
+-- where it refuses nothing, what it leaves is what a run asks
+asked : (c : In_ok-counts) → (let a = c.args in let t = c.test in let n = c.in_ok-counts.counts in
+    Clean a.case.now a.book.now t.new.index t.new.table n.students n.workshops
+    × Runnable a.case.now a.book.now t.new.index a.places.now a.visits.now t.new.seats (length a.states.now))
+asked c =
     let a = c.args in
     let t = c.test in
-    (runnable a.case.now a.book.now a.places.now a.visits.now a.seats.now a.index.now a.states.now _ _ _ _
-    (tested (goal.at.new-input-requires c).After-test) c.in_ok-counts.counts c.in_ok-counts.was t.auto.seats t.auto.index).0
+    runnable a.case.now a.book.now a.places.now a.visits.now a.seats.now a.index.now a.states.now _ _ _ _
+    (tested (goal.at.In_ok-counts c).After-test) c.in_ok-counts.counts c.in_ok-counts.was t.auto.seats t.auto.index
+
+pub new-input-requires : goal.new-input-requires
+new-input-requires c = (asked (goal.at.new-input-requires c).In_ok-counts).0
 
 pub run-answer-requires-clause-runnable : goal.run-answer-requires-clause-runnable
 run-answer-requires-clause-runnable c =
-    let a = c.args in
-    let t = c.test in
     let i = c.new-input.ensures in
-    rw (i.case_kept, i.book_kept, i.index_kept, c.fill.auto.self)
-    (runnable a.case.now a.book.now a.places.now a.visits.now a.seats.now a.index.now a.states.now _ _ _ _
-    (tested (goal.at.run-answer-requires-clause-runnable c).After-test) c.in_ok-counts.counts c.in_ok-counts.was t.auto.seats t.auto.index).1
+    rw (i.case_kept, i.book_kept, i.index_kept, c.fill.auto.self) (asked (goal.at.run-answer-requires-clause-runnable c).In_ok-counts).1
 
 pub returns : goal.returns
 returns c =
